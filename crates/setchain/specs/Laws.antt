@@ -1,0 +1,10 @@
+-- The lemmas behind the theorems, by subject.
+pub mod Sums
+pub mod Certificate
+pub mod Fractions
+pub mod Fill
+pub mod Order
+pub mod Step
+pub mod Cells
+pub mod Value
+pub mod Exact

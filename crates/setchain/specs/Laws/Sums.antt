@@ -1,0 +1,105 @@
+-- Laws of bounded sums.
+use Prim.Native.Nat.{ℕ, zero, suc, min, _+_, _*_, _≤_, _<_}
+use mathlib.Core.Path.{_≡_, refl, ap, sym, _∙_}
+use mathlib.Core.Logic.{_⊎_, inl, inr, ⊎-elim}
+use mathlib.Core.Bool.{Bool, true, false}
+use lib.Dec.{eqb}
+use borrow.Author.Tests.{eq-eqb, ne-eqb}
+use native.Mathlib.Decide.{ℕ-discrete}
+use native.Mathlib.Omega.{arith}
+use native.Mathlib.Nat.{eq-or-lt-of-le, le-of-suc-le-suc, not-suc-le-zero, le-step, le-refl}
+use Rattle.setchain.specs.Sums.{sumTo, onlyIf, dot}
+
+-- the tests of onlyIf
+pub onlyIf-true : (b : Bool) (x : ℕ) → b ≡ true → onlyIf b x ≡ x
+unfolding onlyIf
+onlyIf-true b x e = rw e
+
+pub onlyIf-false : (b : Bool) (x : ℕ) → b ≡ false → onlyIf b x ≡ 0
+unfolding onlyIf
+onlyIf-false b x e = rw e
+
+pub onlyIf-le : (b : Bool) (x : ℕ) → onlyIf b x ≤ x
+unfolding onlyIf
+onlyIf-le true x = le-refl x
+onlyIf-le false x = omega arith
+
+pub onlyIf-mono : (b : Bool) (x y : ℕ) → x ≤ y → onlyIf b x ≤ onlyIf b y
+unfolding onlyIf
+onlyIf-mono true x y h = h
+onlyIf-mono false x y h = le-refl 0
+
+-- equality is tested the same from either side
+pub eqb-flip : (a b : ℕ) → eqb a b ≡ eqb b a
+eqb-flip a b = by (ℕ-discrete a b)
+  where
+    by : Dec (a ≡ b) → eqb a b ≡ eqb b a
+    by (yes e) = eq-eqb a b e ∙ sym (eq-eqb b a (sym e))
+    by (no d) = ne-eqb a b d ∙ sym (ne-eqb b a (λ e. d (sym e)))
+
+-- what holds below suc n, read below n and at n
+pub below-pred : (P : ℕ → Type 0) (n : ℕ) → ((j : ℕ) → j < suc n → P j) → (j : ℕ) → j < n → P j
+below-pred P n h j l = h j (le-step l)
+
+pub sumTo-eq : (n : ℕ) (f g : ℕ → ℕ) → ((j : ℕ) → j < n → f j ≡ g j) → sumTo n f ≡ sumTo n g
+unfolding sumTo
+sumTo-eq zero f g h = refl
+sumTo-eq (suc n) f g h = omega (arith, sumTo-eq n f g (below-pred _ n h), h n (le-refl (suc n)))
+
+pub sumTo-le : (n : ℕ) (f g : ℕ → ℕ) → ((j : ℕ) → j < n → f j ≤ g j) → sumTo n f ≤ sumTo n g
+unfolding sumTo
+sumTo-le zero f g h = omega arith
+sumTo-le (suc n) f g h = omega (arith, sumTo-le n f g (below-pred _ n h), h n (le-refl (suc n)))
+
+pub sumTo-zero : (n : ℕ) → sumTo n (λ j. 0) ≡ 0
+unfolding sumTo
+sumTo-zero zero = refl
+sumTo-zero (suc n) = omega (arith, sumTo-zero n)
+
+pub sumTo-add : (n : ℕ) (f g : ℕ → ℕ) → sumTo n (λ j. f j + g j) ≡ sumTo n f + sumTo n g
+unfolding sumTo
+sumTo-add zero f g = refl
+sumTo-add (suc n) f g = omega (arith, sumTo-add n f g)
+
+pub sumTo-scale : (n : ℕ) (f : ℕ → ℕ) (c : ℕ) → sumTo n (λ j. f j * c) ≡ sumTo n f * c
+unfolding sumTo
+sumTo-scale zero f c = omega arith
+sumTo-scale (suc n) f c = omega (arith, sumTo-scale n f c)
+
+-- the exchange of two sums
+pub sumTo-swap : (n m : ℕ) (f : ℕ → ℕ → ℕ) → sumTo n (λ i. sumTo m (λ j. f i j)) ≡ sumTo m (λ j. sumTo n (λ i. f i j))
+unfolding sumTo
+sumTo-swap zero m f = sym (sumTo-zero m)
+sumTo-swap (suc n) m f =
+    omega (arith, sumTo-swap n m f, sumTo-add m (λ j. sumTo n (λ i. f i j)) (λ j. f n j))
+
+-- one term is at most the sum
+pub term-le : (n : ℕ) (f : ℕ → ℕ) (j : ℕ) → j < n → f j ≤ sumTo n f
+unfolding sumTo
+term-le zero f j h = absurd (not-suc-le-zero h)
+term-le (suc n) f j h =
+    ⊎-elim (λ e. rw e (omega arith)) (λ l. omega (arith, term-le n f j l)) (eq-or-lt-of-le (le-of-suc-le-suc h))
+
+-- a sum in which one index alone counts
+pub sumTo-none : (n : ℕ) (f : ℕ → ℕ) (p : ℕ) → n ≤ p → sumTo n (λ j. onlyIf (eqb j p) (f j)) ≡ 0
+unfolding sumTo
+sumTo-none zero f p h = refl
+sumTo-none (suc n) f p h =
+    omega (arith, sumTo-none n f p (omega arith), onlyIf-false (eqb n p) (f n) (ne-eqb n p (λ e. omega arith)))
+
+pub sumTo-point : (n : ℕ) (f : ℕ → ℕ) (p : ℕ) → p < n → sumTo n (λ j. onlyIf (eqb j p) (f j)) ≡ f p
+unfolding sumTo
+sumTo-point zero f p h = absurd (not-suc-le-zero h)
+sumTo-point (suc n) f p h =
+    ⊎-elim
+    (λ e. rw e (omega (arith, sumTo-none n f n (le-refl n), onlyIf-true (eqb n n) (f n) (eq-eqb n n refl))))
+    (λ l.
+        omega
+        (arith, sumTo-point n f p l, onlyIf-false (eqb n p) (f n) (ne-eqb n p (λ e. omega arith))))
+    (eq-or-lt-of-le (le-of-suc-le-suc h))
+
+-- the smaller of c and a sum is at most the sum of what is smaller at each index
+pub min-sum-le : (n c : ℕ) (f : ℕ → ℕ) → min c (sumTo n f) ≤ sumTo n (λ j. min c (f j))
+unfolding sumTo
+min-sum-le zero c f = omega arith
+min-sum-le (suc n) c f = omega (arith, min-sum-le n c f)

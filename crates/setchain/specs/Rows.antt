@@ -1,0 +1,45 @@
+-- Interval rows, and the stochastic rows inside them (document 01, "Interval rows"). States are numbered from 0: class 1 is state 0.
+use Prim.Native.Nat.{ℕ, _*_, _≤_, _<_}
+use mathlib.Core.Path.{_≡_}
+use Rattle.setchain.specs.Sums.{sumTo}
+
+-- ONE, a billion parts: the whole of a share (document 01, "Units and the scheme")
+abbrev pub ONE : ℕ
+ONE = 1000000000
+
+-- the lower and the upper entry, in parts, from one state to each state
+pub record IntervalRow : Type 0 where
+  pub lower : ℕ → ℕ
+  pub upper : ℕ → ℕ
+
+-- a row over n states that some stochastic row can lie inside: entries in order, at most ONE, and sums that enclose ONE
+pub record SoundRow (n : ℕ) (r : IntervalRow) : Type 0 where
+  pub ordered : (j : ℕ) → j < n → r .lower j ≤ r .upper j
+  pub capped : (j : ℕ) → j < n → r .upper j ≤ ONE
+  pub lowers : sumTo n (r .lower) ≤ ONE
+  pub uppers : ONE ≤ sumTo n (r .upper)
+
+-- whole numbers `entry` over M, here `over`: each entry counts as its whole number divided by M
+pub record Row : Type 0 where
+  pub over : ℕ
+  pub entry : ℕ → ℕ
+
+-- "A stochastic row over M (any whole number from 1) is s whole numbers that sum to M. It lies inside when lower × M ≤ entry × ONE ≤ upper × M at every class."
+pub record Inside (n : ℕ) (r : IntervalRow) (q : Row) : Type 0 where
+  pub positive : 1 ≤ q .over
+  pub sums : sumTo n (q .entry) ≡ q .over
+  pub above : (j : ℕ) → j < n → r .lower j * q .over ≤ q .entry j * ONE
+  pub below : (j : ℕ) → j < n → q .entry j * ONE ≤ r .upper j * q .over
+
+-- a row of whole parts: a stochastic row over ONE
+abbrev pub ofParts : (ℕ → ℕ) → Row
+ofParts p = record { over = ONE; entry = p }
+
+-- a set-chain: how many states, and the interval row of each
+pub record SetChain : Type 0 where
+  pub states : ℕ
+  pub row : ℕ → IntervalRow
+
+-- every row of the chain is sound
+abbrev pub SoundChain : SetChain → Type 0
+SoundChain c = (i : ℕ) → i < c .states → SoundRow (c .states) (c .row i)
