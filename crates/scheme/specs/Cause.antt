@@ -1,0 +1,70 @@
+-- The first cause that applies to a scheme, tests in number order (document 01, "When a call is declined").
+use Prim.Native.Nat.{ℕ, suc}
+use mathlib.Core.Bool.{Bool, cond, _||_}
+use lib.Dec.{eqb, ltb}
+use Rattle.setchain.specs.Sums.{sumTo}
+use Rattle.setchain.specs.Rows.{ONE}
+use Rattle.scheme.specs.declared.Scheme.{Scheme}
+use Rattle.scheme.specs.Tables.{anyBelow}
+use Rattle.scheme.specs.Access.{cellCount, ruleAt, lowerAt, upperAt, premiumAt}
+
+-- x is not one of 1 to max
+abbrev pub outside : ℕ → ℕ → Bool
+outside max x = eqb x 0 || ltb max x
+
+-- cause 3: s or m out of range
+unfoldable pub sizeOut : Scheme → Bool
+sizeOut s = outside 32 (s .classes) || outside 8 (s .columns)
+
+-- cause 5: start 0 or above s
+unfoldable pub startOut : Scheme → Bool
+startOut s = outside (s .classes) (s .start)
+
+-- cause 6: horizon above 100
+unfoldable pub horizonOut : Scheme → Bool
+horizonOut s = ltb 100 (s .horizon)
+
+-- cause 7: a rule outside 1 to s
+unfoldable pub ruleOut : Scheme → Bool
+ruleOut s = anyBelow (s .classes) (λ i. anyBelow (cellCount s) (λ k. outside (s .classes) (ruleAt s i k)))
+
+-- cause 8: band lower above upper, or upper above ONE
+unfoldable pub bandOut : Scheme → Bool
+bandOut s =
+    anyBelow (s .classes) (λ i. anyBelow (cellCount s) (λ k. ltb (upperAt s i k) (lowerAt s i k) || ltb ONE (upperAt s i k)))
+
+-- cause 9: lowers sum above ONE, or uppers below
+unfoldable pub sumOut : Scheme → Bool
+sumOut s =
+    anyBelow (s .classes) (λ i. ltb ONE (sumTo (cellCount s) (lowerAt s i)) || ltb (sumTo (cellCount s) (upperAt s i)) ONE)
+
+-- cause 10: a premium above 10,000,000
+unfoldable pub premiumOut : Scheme → Bool
+premiumOut s = anyBelow (s .classes) (λ i. ltb 10000000 (premiumAt s i))
+
+-- the first of the causes 3 and 5 to 10 that applies, or 0; `moneyOut` is the test of cause 10
+unfoldable pub causeWhere : Scheme → Bool → ℕ
+causeWhere s moneyOut =
+    cond (sizeOut s) 3
+    (cond (startOut s) 5
+    (cond (horizonOut s) 6
+    (cond (ruleOut s) 7
+    (cond (bandOut s) 8
+    (cond (sumOut s) 9
+    (cond moneyOut 10 0))))))
+
+-- the first cause that applies to the scheme by itself, or 0
+abbrev pub causeOf : Scheme → ℕ
+causeOf s = causeWhere s (premiumOut s)
+
+-- the first of two causes, tests in number order: 0 is none
+abbrev pub orElse : ℕ → ℕ → ℕ
+orElse first second = cond (eqb first 0) second first
+
+-- cause 11: queried class 0 or above s
+abbrev pub classCause : Scheme → ℕ → ℕ
+classCause s class = cond (outside (s .classes) class) 11 0
+
+-- cause 12: queried year above the horizon
+abbrev pub yearCause : Scheme → ℕ → ℕ
+yearCause s year = cond (ltb (s .horizon) year) 12 0

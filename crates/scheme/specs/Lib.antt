@@ -1,0 +1,5 @@
+pub mod Tables
+pub mod Access
+pub mod Accepted
+pub mod Cause
+pub mod Rows
