@@ -28,10 +28,13 @@ horizonOut s = ltb 100 (s .horizon)
 unfoldable pub ruleOut : Scheme → Bool
 ruleOut s = anyBelow (s .classes) (λ i. anyBelow (cellCount s) (λ k. outside (s .classes) (ruleAt s i k)))
 
--- cause 8: band lower above upper, or upper above ONE
+-- band lower above upper, or upper above ONE
+abbrev pub bandTest : ℕ → ℕ → Bool
+bandTest lower upper = ltb upper lower || ltb ONE upper
+
+-- cause 8: of some class and column
 unfoldable pub bandOut : Scheme → Bool
-bandOut s =
-    anyBelow (s .classes) (λ i. anyBelow (cellCount s) (λ k. ltb (upperAt s i k) (lowerAt s i k) || ltb ONE (upperAt s i k)))
+bandOut s = anyBelow (s .classes) (λ i. anyBelow (cellCount s) (λ k. bandTest (lowerAt s i k) (upperAt s i k)))
 
 -- cause 9: lowers sum above ONE, or uppers below
 unfoldable pub sumOut : Scheme → Bool

@@ -2,6 +2,30 @@
 ghost use mathlib.Core.Path.{_≡_};
 ghost use Rattle.scheme.specs.Cause.{causeOf};
 
+mod tests;
+
+// ONE, a billion parts: the whole of a share.
+pub const ONE: u64 = 1_000_000_000;
+
+// The refusal numbers of document 01, "When a call is declined", that a scheme, a class or a year can bring.
+pub const SIZE_OUT: u8 = 3;
+
+pub const START_OUT: u8 = 5;
+
+pub const HORIZON_OUT: u8 = 6;
+
+pub const RULE_OUT: u8 = 7;
+
+pub const BAND_OUT: u8 = 8;
+
+pub const SUM_OUT: u8 = 9;
+
+pub const MONEY_OUT: u8 = 10;
+
+pub const CLASS_OUT: u8 = 11;
+
+pub const YEAR_OUT: u8 = 12;
+
 // A bonus-malus scheme. What is stored beyond `classes` or `columns` is ignored.
 pub struct Scheme {
     // s, the number of classes
@@ -20,4 +44,31 @@ pub struct Scheme {
     pub uppers: [u32; 8],
     // the premium of class i at i - 1, in cents
     pub premiums: [u32; 32],
+}
+
+// The first cause that applies to the scheme, tests in number order, or 0.
+pub fn cause(scheme: Scheme) -> u8
+    ensures { λ r. ⌜ r ≡ causeOf scheme ⌝ }
+{
+    let classes = scheme.classes;
+    let columns = scheme.columns;
+    let form = tests::form_cause(classes, columns, scheme.start, scheme.horizon);
+    if form != 0 {
+        return form;
+    }
+    let rules = scheme.rules;
+    if tests::rule_out(&rules, classes, columns) {
+        return RULE_OUT;
+    }
+    let lowers = scheme.lowers;
+    let uppers = scheme.uppers;
+    let bands = tests::band_cause(&lowers, &uppers, columns);
+    if bands != 0 {
+        return bands;
+    }
+    let premiums = scheme.premiums;
+    if tests::premium_out(&premiums, classes) {
+        return MONEY_OUT;
+    }
+    0
 }

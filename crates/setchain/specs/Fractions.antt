@@ -4,7 +4,6 @@ use Prim.Native.Nat.{ℕ, zero, suc, _+_, _*_, _≤_}
 infixl 60 _⊕_
 infixl 70 _⊗_
 infix 40 _≼_
-
 -- numerator and denominator
 pub record Fraction : Type 0 where
   pub num : ℕ

@@ -41,32 +41,32 @@ module _ (c : SetChain) (sound : SoundChain c) where
     contained t ps picks i l =
         subst (λ u. Between (lowYears c payoff gain u i) (highYears c payoff gain u i) (exact ps i)) (picks .years)
         (record {
-          least = at-least ps (picks .inside) i l (lowYears c payoff gain (length ps) i) (value-least c sound payoff gain ps (picks .inside) i l)
-          ; most = at-most ps (picks .inside) i l (highYears c payoff gain (length ps) i) (value-most c sound payoff gain ps (picks .inside) i l)
+          least = at-least ps (picks .inside) i l (lowYears c payoff gain (length ps) i) (value-least c sound payoff gain ps (picks .inside) i l);
+          most = at-most ps (picks .inside) i l (highYears c payoff gain (length ps) i) (value-most c sound payoff gain ps (picks .inside) i l);
         })
 
     pub promised : (t : ℕ) → Promise c t (lowYears c payoff gain t) (highYears c payoff gain t) exact
     promised t =
         record {
-          contains = contained t
-          ; lowClose =
-            record {
-              picks = lowPicks c sound payoff gain t
-              ; made = lowPicks-for c sound payoff gain t
-              ; near = λ i l.
-                near-low t (lowYears c payoff gain t i) (exact (lowPicks c sound payoff gain t) i)
-                (contained t (lowPicks c sound payoff gain t) (lowPicks-for c sound payoff gain t) i l .least)
-                (at-most (lowPicks c sound payoff gain t) (lowPicks-for c sound payoff gain t .inside) i l (lowYears c payoff gain t i + t) (value-low-near c sound payoff gain t i l))
-            }
-          ; highClose =
-            record {
-              picks = highPicks c sound payoff gain t
-              ; made = highPicks-for c sound payoff gain t
-              ; near = λ i l.
-                near-high t (highYears c payoff gain t i) (exact (highPicks c sound payoff gain t) i)
-                (contained t (highPicks c sound payoff gain t) (highPicks-for c sound payoff gain t) i l .most)
-                (at-least (highPicks c sound payoff gain t) (highPicks-for c sound payoff gain t .inside) i l (highYears c payoff gain t i - t) (value-high-near c sound payoff gain t i l))
-            }
+          contains = contained t;
+          lowClose =
+              record {
+                picks = lowPicks c sound payoff gain t;
+                made = lowPicks-for c sound payoff gain t;
+                near = λ i l.
+                    near-low t (lowYears c payoff gain t i) (exact (lowPicks c sound payoff gain t) i)
+                    (contained t (lowPicks c sound payoff gain t) (lowPicks-for c sound payoff gain t) i l .least)
+                    (at-most (lowPicks c sound payoff gain t) (lowPicks-for c sound payoff gain t .inside) i l (lowYears c payoff gain t i + t) (value-low-near c sound payoff gain t i l));
+              };
+          highClose =
+              record {
+                picks = highPicks c sound payoff gain t;
+                made = highPicks-for c sound payoff gain t;
+                near = λ i l.
+                    near-high t (highYears c payoff gain t i) (exact (highPicks c sound payoff gain t) i)
+                    (contained t (highPicks c sound payoff gain t) (highPicks-for c sound payoff gain t) i l .most)
+                    (at-least (highPicks c sound payoff gain t) (highPicks-for c sound payoff gain t .inside) i l (highYears c payoff gain t i - t) (value-high-near c sound payoff gain t i l));
+              };
         }
 
   -- the share of state j after t years

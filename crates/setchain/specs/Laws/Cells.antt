@@ -36,8 +36,8 @@ module _ (n : ℕ) (c : Cells) (sound : SoundCells n c) where
   pub cells-sound : SoundRow n (rowOf c)
   cells-sound =
       record {
-        ordered = λ j l. omega (arith, into-le j, into-all j, sound .lowers)
-        ; capped = λ j l. omega arith
-        ; lowers = omega (arith, sum-of-sums (c .lower), sound .lowers)
-        ; uppers = omega (arith, min-sum-le n ONE (sumInto c (c .upper)), sum-of-sums (c .upper), sound .uppers)
+        ordered = λ j l. omega (arith, into-le j, into-all j, sound .lowers);
+        capped = λ j l. omega arith;
+        lowers = omega (arith, sum-of-sums (c .lower), sound .lowers);
+        uppers = omega (arith, min-sum-le n ONE (sumInto c (c .upper)), sum-of-sums (c .upper), sound .uppers);
       }

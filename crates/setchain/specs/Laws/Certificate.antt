@@ -22,10 +22,13 @@ exchange x y f θ below above = by (decLt f θ) (decLt θ f)
   where
     from-below : (d : ℕ) → f + d ≡ θ → y ≤ x → x * f + y * θ ≤ y * f + x * θ
     from-below d e h = rw (← e) (exchange-below x y f d h)
+
     from-above : (d : ℕ) → θ + d ≡ f → x ≤ y → x * f + y * θ ≤ y * f + x * θ
     from-above d e h = rw (← e) (exchange-above x y θ d h)
+
     equal : f ≡ θ → x * f + y * θ ≤ y * f + x * θ
     equal e = rw e (omega arith)
+
     by : Dec (f < θ) → Dec (θ < f) → x * f + y * θ ≤ y * f + x * θ
     by (yes l) d = let w = le-dest {n = f} {m = θ} (omega arith) in from-below (w .0) (w .1) (below l)
     by (no l) (yes g) = let w = le-dest {n = θ} {m = f} (omega arith) in from-above (w .0) (w .1) (above g)
@@ -35,14 +38,15 @@ exchange x y f θ below above = by (decLt f θ) (decLt θ f)
 pub sum-exchange : (n : ℕ) (x y f : ℕ → ℕ) (θ : ℕ) → ((j : ℕ) → j < n → f j < θ → y j ≤ x j) → ((j : ℕ) → j < n → θ < f j → x j ≤ y j)
     → sumTo n x ≡ sumTo n y → dot n x f ≤ dot n y f
 sum-exchange n x y f θ below above e =
-    omega
-    (arith,
-    sumTo-le n (λ j. x j * f j + y j * θ) (λ j. y j * f j + x j * θ) (λ j l. exchange (x j) (y j) (f j) θ (below j l) (above j l)),
-    sumTo-add n (λ j. x j * f j) (λ j. y j * θ),
-    sumTo-add n (λ j. y j * f j) (λ j. x j * θ),
-    sumTo-scale n x θ,
-    sumTo-scale n y θ,
-    ap (λ s. s * θ) e)
+    omega (
+      arith,
+      sumTo-le n (λ j. x j * f j + y j * θ) (λ j. y j * f j + x j * θ) (λ j l. exchange (x j) (y j) (f j) θ (below j l) (above j l)),
+      sumTo-add n (λ j. x j * f j) (λ j. y j * θ),
+      sumTo-add n (λ j. y j * f j) (λ j. x j * θ),
+      sumTo-scale n x θ,
+      sumTo-scale n y θ,
+      ap (λ s. s * θ) e,
+    )
 
 -- a dot product whose parts all carry one factor
 pub dot-scale : (n : ℕ) (x f : ℕ → ℕ) (c : ℕ) → dot n (λ j. x j * c) f ≡ dot n x f * c

@@ -53,28 +53,31 @@ module _ (w : ℕ → ℕ) (before : ℕ → ℕ → Bool) (strict : Strict befo
   ahead-step : (n a b : ℕ) → a < n → before a b ≡ true → ahead n w before a + w a ≤ ahead n w before b
   unfolding ahead
   ahead-step n a b l h =
-      omega
-      (arith,
-      sumTo-add n (λ k. onlyIf (before k a) (w k)) (λ k. onlyIf (eqb k a) (w k)),
-      sumTo-point n w a l,
-      sumTo-le n (λ k. onlyIf (before k a) (w k) + onlyIf (eqb k a) (w k)) (λ k. onlyIf (before k b) (w k))
-      (λ k m. at k (tested (before k a)) (ℕ-discrete k a)))
+      omega (
+        arith,
+        sumTo-add n (λ k. onlyIf (before k a) (w k)) (λ k. onlyIf (eqb k a) (w k)),
+        sumTo-point n w a l,
+        sumTo-le n (λ k. onlyIf (before k a) (w k) + onlyIf (eqb k a) (w k)) (λ k. onlyIf (before k b) (w k))
+            (λ k m. at k (tested (before k a)) (ℕ-discrete k a)),
+      )
     where
       at : (k : ℕ) → (before k a ≡ true) ⊎ (before k a ≡ false) → Dec (k ≡ a)
           → onlyIf (before k a) (w k) + onlyIf (eqb k a) (w k) ≤ onlyIf (before k b) (w k)
       at k (inl e) (yes i) = absurd (true≢false (sym e ∙ ap (λ x. before x a) i ∙ strict .itself a))
       at k (inl e) (no d) =
-          omega
-          (arith,
-          onlyIf-true (before k a) (w k) e,
-          onlyIf-false (eqb k a) (w k) (ne-eqb k a d),
-          onlyIf-true (before k b) (w k) (strict .onward k a b e h))
+          omega (
+            arith,
+            onlyIf-true (before k a) (w k) e,
+            onlyIf-false (eqb k a) (w k) (ne-eqb k a d),
+            onlyIf-true (before k b) (w k) (strict .onward k a b e h),
+          )
       at k (inr e) (yes i) =
-          omega
-          (arith,
-          onlyIf-false (before k a) (w k) e,
-          onlyIf-true (eqb k a) (w k) (eq-eqb k a i),
-          onlyIf-true (before k b) (w k) (ap (λ x. before x b) i ∙ h))
+          omega (
+            arith,
+            onlyIf-false (before k a) (w k) e,
+            onlyIf-true (eqb k a) (w k) (eq-eqb k a i),
+            onlyIf-true (before k b) (w k) (ap (λ x. before x b) i ∙ h),
+          )
       at k (inr e) (no d) =
           omega (arith, onlyIf-false (before k a) (w k) e, onlyIf-false (eqb k a) (w k) (ne-eqb k a d))
 
@@ -97,13 +100,14 @@ module _ (w : ℕ → ℕ) (before : ℕ → ℕ → Bool) (strict : Strict befo
     where
       earlier : before n (p .at) ≡ true → Pivot (suc n) w before s
       earlier e = absurd (omega (arith, ahead-le n n (p .at) e, p .least))
+
       later : before n (p .at) ≡ false → Pivot (suc n) w before s
       later e =
           record {
-            at = p .at
-            ; place = le-step (p .place)
-            ; least = omega (arith, ahead-without n (p .at) e, p .least)
-            ; most = omega (arith, ahead-without n (p .at) e, p .most)
+            at = p .at;
+            place = le-step (p .place);
+            least = omega (arith, ahead-without n (p .at) e, p .least);
+            most = omega (arith, ahead-without n (p .at) e, p .most);
           }
 
   pivot-late : (n s : ℕ) → Pivot n w before (s - w n) → ahead n w before n + w n < s → Pivot (suc n) w before s
@@ -112,18 +116,20 @@ module _ (w : ℕ → ℕ) (before : ℕ → ℕ → Bool) (strict : Strict befo
       earlier : before n (p .at) ≡ true → Pivot (suc n) w before s
       earlier e =
           record {
-            at = p .at
-            ; place = le-step (p .place)
-            ; least = omega (arith, ahead-with n (p .at) e, p .least)
-            ; most = omega (arith, ahead-with n (p .at) e, p .most)
+            at = p .at;
+            place = le-step (p .place);
+            least = omega (arith, ahead-with n (p .at) e, p .least);
+            most = omega (arith, ahead-with n (p .at) e, p .most);
           }
+
       later : before n (p .at) ≡ false → Pivot (suc n) w before s
       later e =
           absurd
-          (omega
-          (arith,
-          p .most,
-          ahead-step n (p .at) n (p .place) (strict .either (p .at) n (λ i. omega (arith, p .place)) ∙ ap not e)))
+          (omega (
+            arith,
+            p .most,
+            ahead-step n (p .at) n (p .place) (strict .either (p .at) n (λ i. omega (arith, p .place)) ∙ ap not e),
+          ))
 
   -- with n states and one more, by where the parts run out
   pivot-more : (n s : ℕ) → ((s′ : ℕ) → s′ ≤ sumTo n w → 0 < n → Pivot n w before s′) → s ≤ sumTo n w + w n → Pivot (suc n) w before s
@@ -136,10 +142,10 @@ module _ (w : ℕ → ℕ) (before : ℕ → ℕ → Bool) (strict : Strict befo
       by (no l) (yes g) = pivot-late n s (ih (s - w n) (omega arith) (positive-count n w (omega arith))) g
       by (no l) (no g) =
           record {
-            at = n
-            ; place = le-refl (suc n)
-            ; least = omega (arith, ahead-without n n (strict .itself n))
-            ; most = omega (arith, ahead-without n n (strict .itself n))
+            at = n;
+            place = le-refl (suc n);
+            least = omega (arith, ahead-without n n (strict .itself n));
+            most = omega (arith, ahead-without n n (strict .itself n));
           }
 
   pub pivot : (n s : ℕ) → s ≤ sumTo n w → 0 < n → Pivot n w before s
@@ -168,32 +174,36 @@ module _ (w : ℕ → ℕ) (before : ℕ → ℕ → Bool) (strict : Strict befo
     pub given-all : sumTo n (given n s) ≡ s
     unfolding ahead
     given-all =
-        omega
-        (arith,
-        sumTo-eq n (given n s) (λ k. onlyIf (before k (p .at)) (w k) + onlyIf (eqb k (p .at)) (given n s k))
-        (λ k l. at k l (tested (before k (p .at))) (ℕ-discrete k (p .at))),
-        sumTo-add n (λ k. onlyIf (before k (p .at)) (w k)) (λ k. onlyIf (eqb k (p .at)) (given n s k)),
-        sumTo-point n (given n s) (p .at) (p .place),
-        given-pivot,
-        p .least)
+        omega (
+          arith,
+          sumTo-eq n (given n s) (λ k. onlyIf (before k (p .at)) (w k) + onlyIf (eqb k (p .at)) (given n s k))
+              (λ k l. at k l (tested (before k (p .at))) (ℕ-discrete k (p .at))),
+          sumTo-add n (λ k. onlyIf (before k (p .at)) (w k)) (λ k. onlyIf (eqb k (p .at)) (given n s k)),
+          sumTo-point n (given n s) (p .at) (p .place),
+          given-pivot,
+          p .least,
+        )
       where
         at : (k : ℕ) → k < n → (before k (p .at) ≡ true) ⊎ (before k (p .at) ≡ false) → Dec (k ≡ p .at)
             → given n s k ≡ onlyIf (before k (p .at)) (w k) + onlyIf (eqb k (p .at)) (given n s k)
         at k l (inl e) (yes i) = absurd (true≢false (sym e ∙ ap (λ x. before x (p .at)) i ∙ strict .itself (p .at)))
         at k l (inl e) (no d) =
-            omega
-            (arith,
-            given-before k l e,
-            onlyIf-true (before k (p .at)) (w k) e,
-            onlyIf-false (eqb k (p .at)) (given n s k) (ne-eqb k (p .at) d))
+            omega (
+              arith,
+              given-before k l e,
+              onlyIf-true (before k (p .at)) (w k) e,
+              onlyIf-false (eqb k (p .at)) (given n s k) (ne-eqb k (p .at) d),
+            )
         at k l (inr e) (yes i) =
-            omega
-            (arith,
-            onlyIf-false (before k (p .at)) (w k) e,
-            onlyIf-true (eqb k (p .at)) (given n s k) (eq-eqb k (p .at) i))
+            omega (
+              arith,
+              onlyIf-false (before k (p .at)) (w k) e,
+              onlyIf-true (eqb k (p .at)) (given n s k) (eq-eqb k (p .at) i),
+            )
         at k l (inr e) (no d) =
-            omega
-            (arith,
-            given-after k (strict .either (p .at) k (λ i. d (sym i)) ∙ ap not e),
-            onlyIf-false (before k (p .at)) (w k) e,
-            onlyIf-false (eqb k (p .at)) (given n s k) (ne-eqb k (p .at) d))
+            omega (
+              arith,
+              given-after k (strict .either (p .at) k (λ i. d (sym i)) ∙ ap not e),
+              onlyIf-false (before k (p .at)) (w k) e,
+              onlyIf-false (eqb k (p .at)) (given n s k) (ne-eqb k (p .at) d),
+            )

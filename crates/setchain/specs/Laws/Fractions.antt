@@ -8,7 +8,6 @@ use Rattle.setchain.specs.Fractions.{Fraction, whole, _⊕_, _⊗_, _≼
 use Rattle.setchain.specs.Laws.Sums.{below-pred}
 
 infix 40 _≈_
-
 -- the same value
 abbrev pub _≈_ : Fraction → Fraction → Type 0
 x ≈ y = x .num * y .den ≡ y .num * x .den

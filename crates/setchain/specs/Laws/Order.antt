@@ -62,6 +62,7 @@ rising-strict f = record { itself = λ j. rising-tie f j j refl ∙ le-ltb j j (
         by (less l) = rising-less f k j l ∙ sym (ap not (rising-more f j k l))
         by (same e) = rising-tie f k j e ∙ ltb-flip k j d ∙ sym (ap not (rising-tie f j k (sym e)))
         by (more g) = rising-more f k j g ∙ sym (ap not (rising-less f j k g))
+
     further : (i k j : ℕ) → rising f i k ≡ true → rising f k j ≡ true → rising f i j ≡ true
     further i k j h g = by (rising-means f i k h) (rising-means f k j g)
       where
@@ -75,7 +76,7 @@ rising-strict f = record { itself = λ j. rising-tie f j j refl ∙ le-ltb j j (
 pub falling-strict : (f : ℕ → ℕ) → Strict (falling f)
 falling-strict f =
     record {
-      itself = rising-strict f .itself
-      ; either = λ k j d. rising-strict f .either j k (λ e. d (sym e))
-      ; onward = λ i k j h g. rising-strict f .onward j k i g h
+      itself = rising-strict f .itself;
+      either = λ k j d. rising-strict f .either j k (λ e. d (sym e));
+      onward = λ i k j h g. rising-strict f .onward j k i g h;
     }

@@ -30,26 +30,27 @@ high-rounding x = omega arith
 module _ (n : ℕ) (r : IntervalRow) (sound : SoundRow n r) where
   spare-le : spare n r ≤ sumTo n (room r)
   spare-le =
-      omega
-      (arith,
-      sound .uppers,
-      sumTo-add n (r .lower) (room r),
-      sumTo-le n (r .upper) (λ j. r .lower j + room r j) (λ j l. omega arith))
+      omega (
+        arith,
+        sound .uppers,
+        sumTo-add n (r .lower) (room r),
+        sumTo-le n (r .upper) (λ j. r .lower j + room r j) (λ j l. omega arith),
+      )
 
   filled : (before : ℕ → ℕ → Bool) → Strict before → Filled n r before
   unfolding fillRow roomBefore given ahead
   filled before strict =
       record {
         parts =
-          record {
-            positive = omega arith
-            ; sums = omega (arith, sumTo-add n (r .lower) (given (room r) before strict n (spare n r)), given-all (room r) before strict n (spare n r) p, sound .lowers)
-            ; above = λ j l. omega arith
-            ; below = λ j l. omega (arith, sound .ordered j l)
-          }
-        ; pivotAt = p .at
-        ; full = λ j l e. omega (arith, given-before (room r) before strict n (spare n r) p j l e, sound .ordered j l)
-        ; bare = λ j l e. omega (arith, given-after (room r) before strict n (spare n r) p j e)
+            record {
+              positive = omega arith;
+              sums = omega (arith, sumTo-add n (r .lower) (given (room r) before strict n (spare n r)), given-all (room r) before strict n (spare n r) p, sound .lowers);
+              above = λ j l. omega arith;
+              below = λ j l. omega (arith, sound .ordered j l);
+            };
+        pivotAt = p .at;
+        full = λ j l e. omega (arith, given-before (room r) before strict n (spare n r) p j l e, sound .ordered j l);
+        bare = λ j l e. omega (arith, given-after (room r) before strict n (spare n r) p j e);
       }
     where
       p : Pivot n (room r) before (spare n r)
@@ -63,9 +64,9 @@ module _ (n : ℕ) (r : IntervalRow) (sound : SoundRow n r) where
     low-certificate =
         let w : Filled n r (rising f) = filled (rising f) (rising-strict f) in
         record {
-          threshold = f (w .pivotAt)
-          ; filled = λ j l h. w .full j l (rising-less f j (w .pivotAt) h)
-          ; bare = λ j l h. w .bare j l (rising-less f (w .pivotAt) j h)
+          threshold = f (w .pivotAt);
+          filled = λ j l h. w .full j l (rising-less f j (w .pivotAt) h);
+          bare = λ j l h. w .bare j l (rising-less f (w .pivotAt) j h);
         }
 
     pub high-parts : Parts n r (highRow n r f)
@@ -75,19 +76,20 @@ module _ (n : ℕ) (r : IntervalRow) (sound : SoundRow n r) where
     high-certificate =
         let w : Filled n r (falling f) = filled (falling f) (falling-strict f) in
         record {
-          threshold = f (w .pivotAt)
-          ; filled = λ j l h. w .full j l (rising-less f (w .pivotAt) j h)
-          ; bare = λ j l h. w .bare j l (rising-less f j (w .pivotAt) h)
+          threshold = f (w .pivotAt);
+          filled = λ j l h. w .full j l (rising-less f (w .pivotAt) j h);
+          bare = λ j l h. w .bare j l (rising-less f j (w .pivotAt) h);
         }
 
     -- the low figure bounds the rows inside over every M, and loses less than 1 in rounding
     pub low-step-least : (q : Row) → Inside n r q → lowStep n r f * q .over ≤ dot n (q .entry) f
     unfolding lowStep
     low-step-least q inside =
-        omega
-        (arith,
-        low-certified n r f (lowRow n r f) low-parts low-certificate q inside,
-        mul-le-mul-right (q .over) (low-rounding (dot n (lowRow n r f) f)))
+        omega (
+          arith,
+          low-certified n r f (lowRow n r f) low-parts low-certificate q inside,
+          mul-le-mul-right (q .over) (low-rounding (dot n (lowRow n r f) f)),
+        )
 
     pub low-step-near : dot n (lowRow n r f) f ≤ (lowStep n r f + 1) * ONE
     unfolding lowStep
@@ -96,10 +98,11 @@ module _ (n : ℕ) (r : IntervalRow) (sound : SoundRow n r) where
     pub high-step-greatest : (q : Row) → Inside n r q → dot n (q .entry) f ≤ highStep n r f * q .over
     unfolding highStep
     high-step-greatest q inside =
-        omega
-        (arith,
-        high-certified n r f (highRow n r f) high-parts high-certificate q inside,
-        mul-le-mul-right (q .over) (high-rounding (dot n (highRow n r f) f)))
+        omega (
+          arith,
+          high-certified n r f (highRow n r f) high-parts high-certificate q inside,
+          mul-le-mul-right (q .over) (high-rounding (dot n (highRow n r f) f)),
+        )
 
     pub high-step-near : highStep n r f * ONE ≤ dot n (highRow n r f) f + ONE
     unfolding highStep
@@ -110,20 +113,20 @@ module _ (n : ℕ) (r : IntervalRow) (sound : SoundRow n r) where
     unfolding lowStep
     low-figure =
         record {
-          parts = lowRow n r f
-          ; inside = low-parts
-          ; least = λ p inside. omega (arith, low-certified n r f (lowRow n r f) low-parts low-certificate (ofParts p) inside)
-          ; rounded = refl
+          parts = lowRow n r f;
+          inside = low-parts;
+          least = λ p inside. omega (arith, low-certified n r f (lowRow n r f) low-parts low-certificate (ofParts p) inside);
+          rounded = refl;
         }
 
     pub high-figure : HighFigure n r f (highStep n r f)
     unfolding highStep
     high-figure =
         record {
-          parts = highRow n r f
-          ; inside = high-parts
-          ; greatest = λ p inside. omega (arith, high-certified n r f (highRow n r f) high-parts high-certificate (ofParts p) inside)
-          ; rounded = refl
+          parts = highRow n r f;
+          inside = high-parts;
+          greatest = λ p inside. omega (arith, high-certified n r f (highRow n r f) high-parts high-certificate (ofParts p) inside);
+          rounded = refl;
         }
 
     -- and of no other number
@@ -145,10 +148,10 @@ module _ (n : ℕ) (r : IntervalRow) (sound : SoundRow n r) where
         sym
         (low-figure-only (dot n p f / ONE)
         (record {
-          parts = p
-          ; inside = inside
-          ; least = λ q h. omega (arith, low-certified n r f p inside cert (ofParts q) h)
-          ; rounded = refl
+          parts = p;
+          inside = inside;
+          least = λ q h. omega (arith, low-certified n r f p inside cert (ofParts q) h);
+          rounded = refl;
         }))
 
     pub high-reached : (p : ℕ → ℕ) → Parts n r p → HighCertificate n r f p → highStep n r f ≡ (dot n p f + (ONE - 1)) / ONE
@@ -156,20 +159,21 @@ module _ (n : ℕ) (r : IntervalRow) (sound : SoundRow n r) where
         sym
         (high-figure-only ((dot n p f + (ONE - 1)) / ONE)
         (record {
-          parts = p
-          ; inside = inside
-          ; greatest = λ q h. omega (arith, high-certified n r f p inside cert (ofParts q) h)
-          ; rounded = refl
+          parts = p;
+          inside = inside;
+          greatest = λ q h. omega (arith, high-certified n r f p inside cert (ofParts q) h);
+          rounded = refl;
         }))
 
     -- a figure is at most the largest payoff
     parts-at-most : (p : ℕ → ℕ) (b : ℕ) → Parts n r p → ((j : ℕ) → j < n → f j ≤ b) → dot n p f ≤ b * ONE
     parts-at-most p b inside h =
-        omega
-        (arith,
-        sumTo-le n (λ j. p j * f j) (λ j. p j * b) (λ j l. mul-le-mul-left (p j) (h j l)),
-        sumTo-scale n p b,
-        ap (λ s. s * b) (inside .sums))
+        omega (
+          arith,
+          sumTo-le n (λ j. p j * f j) (λ j. p j * b) (λ j l. mul-le-mul-left (p j) (h j l)),
+          sumTo-scale n p b,
+          ap (λ s. s * b) (inside .sums),
+        )
 
     pub low-step-at-most : (b : ℕ) → ((j : ℕ) → j < n → f j ≤ b) → lowStep n r f ≤ b
     unfolding lowStep
@@ -193,9 +197,9 @@ module _ (n : ℕ) (r : IntervalRow) (sound : SoundRow n r) where
         moved : LowCertificate n r g (lowRow n r f)
         moved =
             record {
-              threshold = low-certificate f .threshold
-              ; filled = λ j l h. low-certificate f .filled j l (omega (arith, agree j l))
-              ; bare = λ j l h. low-certificate f .bare j l (omega (arith, agree j l))
+              threshold = low-certificate f .threshold;
+              filled = λ j l h. low-certificate f .filled j l (omega (arith, agree j l));
+              bare = λ j l h. low-certificate f .bare j l (omega (arith, agree j l));
             }
 
     pub high-step-same : highStep n r f ≡ highStep n r g
@@ -207,7 +211,7 @@ module _ (n : ℕ) (r : IntervalRow) (sound : SoundRow n r) where
         moved : HighCertificate n r g (highRow n r f)
         moved =
             record {
-              threshold = high-certificate f .threshold
-              ; filled = λ j l h. high-certificate f .filled j l (omega (arith, agree j l))
-              ; bare = λ j l h. high-certificate f .bare j l (omega (arith, agree j l))
+              threshold = high-certificate f .threshold;
+              filled = λ j l h. high-certificate f .filled j l (omega (arith, agree j l));
+              bare = λ j l h. high-certificate f .bare j l (omega (arith, agree j l));
             }

@@ -7,6 +7,7 @@ use lib.Dec.{eqb}
 use borrow.Author.Tests.{eq-eqb, ne-eqb}
 use native.Mathlib.Decide.{ℕ-discrete}
 use native.Mathlib.Omega.{arith}
+use native.Mathlib.Numerals.{add-one}
 use native.Mathlib.Nat.{eq-or-lt-of-le, le-of-suc-le-suc, not-suc-le-zero, le-step, le-refl}
 use Rattle.setchain.specs.Sums.{sumTo, onlyIf, dot}
 
@@ -73,6 +74,18 @@ sumTo-swap zero m f = sym (sumTo-zero m)
 sumTo-swap (suc n) m f =
     omega (arith, sumTo-swap n m f, sumTo-add m (λ j. sumTo n (λ i. f i j)) (λ j. f n j))
 
+-- a loop's running total: where it begins, and one turn more
+pub total-start : (f : ℕ → ℕ) → 0 ≡ sumTo 0 f
+unfolding sumTo
+total-start f = refl
+
+pub total-more : (n x y : ℕ) (f : ℕ → ℕ) → x ≡ sumTo n f → y ≡ f n → x + y ≡ sumTo (n + 1) f
+unfolding sumTo
+total-more n x y f e g = rw add-one (omega arith)
+
+pub total-end : (k n x : ℕ) (f : ℕ → ℕ) → k ≡ n → x ≡ sumTo k f → x ≡ sumTo n f
+total-end k n x f e h = h ∙ ap (λ m. sumTo m f) e
+
 -- one term is at most the sum
 pub term-le : (n : ℕ) (f : ℕ → ℕ) (j : ℕ) → j < n → f j ≤ sumTo n f
 unfolding sumTo
@@ -94,8 +107,8 @@ sumTo-point (suc n) f p h =
     ⊎-elim
     (λ e. rw e (omega (arith, sumTo-none n f n (le-refl n), onlyIf-true (eqb n n) (f n) (eq-eqb n n refl))))
     (λ l.
-        omega
-        (arith, sumTo-point n f p l, onlyIf-false (eqb n p) (f n) (ne-eqb n p (λ e. omega arith))))
+    omega
+    (arith, sumTo-point n f p l, onlyIf-false (eqb n p) (f n) (ne-eqb n p (λ e. omega arith))))
     (eq-or-lt-of-le (le-of-suc-le-suc h))
 
 -- the smaller of c and a sum is at most the sum of what is smaller at each index

@@ -75,10 +75,11 @@ dot-add n p f t =
 
 dot-sub : (n : ℕ) (p f : ℕ → ℕ) (t : ℕ) → dot n p f ≤ dot n p (λ k. f k - t) + sumTo n p * t
 dot-sub n p f t =
-    omega
-    (arith,
-    dot-add n p (λ k. f k - t) t,
-    sumTo-le n (λ k. p k * f k) (λ k. p k * (f k - t + t)) (λ k l. mul-le-mul-left (p k) (omega arith)))
+    omega (
+      arith,
+      dot-add n p (λ k. f k - t) t,
+      sumTo-le n (λ k. p k * f k) (λ k. p k * (f k - t + t)) (λ k l. mul-le-mul-left (p k) (omega arith)),
+    )
 
 module _ (c : SetChain) (sound : SoundChain c) (payoff gain : ℕ → ℕ) where
   pub proper-value : (ps : List Matrix) → InsideEach c ps → (i : ℕ) → i < c .states → Proper (value (c .states) payoff gain ps i)
@@ -119,8 +120,8 @@ module _ (c : SetChain) (sound : SoundChain c) (payoff gain : ℕ → ℕ) where
   lowPicks-for zero = record { years = refl; inside = none }
   lowPicks-for (suc t) =
       record {
-        years = ap suc (lowPicks-for t .years)
-        ; inside = also (λ i l. low-parts (c .states) (c .row i) (sound i l) (lowYears c payoff gain t)) (lowPicks-for t .inside)
+        years = ap suc (lowPicks-for t .years);
+        inside = also (λ i l. low-parts (c .states) (c .row i) (sound i l) (lowYears c payoff gain t)) (lowPicks-for t .inside);
       }
 
   pub highPicks : ℕ → List Matrix
@@ -132,8 +133,8 @@ module _ (c : SetChain) (sound : SoundChain c) (payoff gain : ℕ → ℕ) where
   highPicks-for zero = record { years = refl; inside = none }
   highPicks-for (suc t) =
       record {
-        years = ap suc (highPicks-for t .years)
-        ; inside = also (λ i l. high-parts (c .states) (c .row i) (sound i l) (highYears c payoff gain t)) (highPicks-for t .inside)
+        years = ap suc (highPicks-for t .years);
+        inside = also (λ i l. high-parts (c .states) (c .row i) (sound i l) (highYears c payoff gain t)) (highPicks-for t .inside);
       }
 
   -- closeness, by induction on the years: a year's rounding loses less than 1
@@ -142,11 +143,12 @@ module _ (c : SetChain) (sound : SoundChain c) (payoff gain : ℕ → ℕ) where
       ≤ (lowStep (c .states) (c .row i) (lowYears c payoff gain t) + suc t) * ONE
   low-loss t i l =
       let row : ℕ → ℕ = lowRow (c .states) (c .row i) (lowYears c payoff gain t) in
-      omega
-      (arith,
-      dot-add (c .states) row (lowYears c payoff gain t) t,
-      ap (λ s. s * t) (low-parts (c .states) (c .row i) (sound i l) (lowYears c payoff gain t) .sums),
-      low-step-near (c .states) (c .row i) (sound i l) (lowYears c payoff gain t))
+      omega (
+        arith,
+        dot-add (c .states) row (lowYears c payoff gain t) t,
+        ap (λ s. s * t) (low-parts (c .states) (c .row i) (sound i l) (lowYears c payoff gain t) .sums),
+        low-step-near (c .states) (c .row i) (sound i l) (lowYears c payoff gain t),
+      )
 
   pub value-low-near : (t i : ℕ) → i < c .states
       → value (c .states) payoff gain (lowPicks t) i ≼ whole (lowYears c payoff gain t i + t)
@@ -168,11 +170,12 @@ module _ (c : SetChain) (sound : SoundChain c) (payoff gain : ℕ → ℕ) where
       ≤ dot (c .states) (highRow (c .states) (c .row i) (highYears c payoff gain t)) (λ k. highYears c payoff gain t k - t)
   high-loss t i l =
       let row : ℕ → ℕ = highRow (c .states) (c .row i) (highYears c payoff gain t) in
-      omega
-      (arith,
-      dot-sub (c .states) row (highYears c payoff gain t) t,
-      ap (λ s. s * t) (high-parts (c .states) (c .row i) (sound i l) (highYears c payoff gain t) .sums),
-      high-step-near (c .states) (c .row i) (sound i l) (highYears c payoff gain t))
+      omega (
+        arith,
+        dot-sub (c .states) row (highYears c payoff gain t) t,
+        ap (λ s. s * t) (high-parts (c .states) (c .row i) (sound i l) (highYears c payoff gain t) .sums),
+        high-step-near (c .states) (c .row i) (sound i l) (highYears c payoff gain t),
+      )
 
   pub value-high-near : (t i : ℕ) → i < c .states
       → whole (highYears c payoff gain t i - t) ≼ value (c .states) payoff gain (highPicks t) i

@@ -1,0 +1,99 @@
+-- Laws of the first cause: what each test tells, and how the stages of the code make the whole.
+use Prim.Native.Nat.{ℕ, suc, _≤_, _<_}
+use mathlib.Core.Path.{_≡_, refl, ap₂, sym, _∙_}
+use mathlib.Core.Bool.{Bool, true, false, cond, _||_}
+use lib.Dec.{eqb, ltb}
+use native.Mathlib.Omega.{arith}
+use borrow.Author.Tests.{ltb-false, eqb-false, ne-eqb, le-ltb}
+use Rattle.scheme.specs.declared.Scheme.{Scheme}
+use Rattle.scheme.specs.Access.{cellCount, lowerAt, upperAt}
+use Rattle.scheme.specs.Cause.{outside, sizeOut, startOut, horizonOut, ruleOut, bandOut, sumOut, causeWhere}
+use Rattle.scheme.specs.Accepted.{SizeFits}
+use Rattle.scheme.specs.Stages.{formCause, bandCause}
+use Rattle.scheme.specs.Laws.Tables.{or-false-left, or-false-right, any-same}
+
+-- a number that passed the test is one of 1 to max
+pub outside-false : (max x : ℕ) → outside max x ≡ false → (1 ≤ x) × (x ≤ max)
+outside-false max x e =
+    let zero-not : (x ≡ 0 → ⊥) = eqb-false x 0 (or-false-left (eqb x 0) (ltb max x) e) in
+    (omega arith, ltb-false max x (or-false-right (eqb x 0) (ltb max x) e))
+
+pub inside-outside : (max x : ℕ) → 1 ≤ x → x ≤ max → outside max x ≡ false
+inside-outside max x h k = simp (ne-eqb x 0 (λ e. omega arith), le-ltb max x k)
+
+-- over the tests' outcomes: a stage's number that is not 0 is the whole's, and 0 leads on to the rest
+form-hit : (a b c : Bool) (rest n : ℕ) → n ≡ cond a 3 (cond b 5 (cond c 6 0)) → (n ≡ 0 → ⊥) → n ≡ cond a 3 (cond b 5 (cond c 6 rest))
+form-hit true b c rest n e h = e
+form-hit false true c rest n e h = e
+form-hit false false true rest n e h = e
+form-hit false false false rest n e h = absurd (h e)
+
+form-on : (a b c : Bool) (rest n : ℕ) → n ≡ cond a 3 (cond b 5 (cond c 6 0)) → n ≡ 0 → cond a 3 (cond b 5 (cond c 6 rest)) ≡ rest
+form-on true b c rest n e h = absurd (omega arith)
+form-on false true c rest n e h = absurd (omega arith)
+form-on false false true rest n e h = absurd (omega arith)
+form-on false false false rest n e h = refl
+
+bands-hit : (a b : Bool) (rest n : ℕ) → n ≡ cond a 8 (cond b 9 0) → (n ≡ 0 → ⊥) → n ≡ cond a 8 (cond b 9 rest)
+bands-hit true b rest n e h = e
+bands-hit false true rest n e h = e
+bands-hit false false rest n e h = absurd (h e)
+
+bands-on : (a b : Bool) (rest n : ℕ) → n ≡ cond a 8 (cond b 9 0) → n ≡ 0 → cond a 8 (cond b 9 rest) ≡ rest
+bands-on true b rest n e h = absurd (omega arith)
+bands-on false true rest n e h = absurd (omega arith)
+bands-on false false rest n e h = refl
+
+pub cond-true : (b : Bool) (x y : ℕ) → b ≡ true → cond b x y ≡ x
+cond-true b x y e = rw e
+
+pub cond-false : (b : Bool) (x y : ℕ) → b ≡ false → cond b x y ≡ y
+cond-false b x y e = rw e
+
+form-size : (a b c : Bool) (n : ℕ) → n ≡ cond a 3 (cond b 5 (cond c 6 0)) → n ≡ 0 → a ≡ false
+form-size true b c n e h = absurd (omega arith)
+form-size false b c n e h = refl
+
+-- a scheme whose form has no cause is of a size that fits
+pub size-fits : (s : Scheme) (n : ℕ) → n ≡ formCause (s .classes) (s .columns) (s .start) (s .horizon) → n ≡ 0 → SizeFits s
+size-fits s n e h =
+    let size : ((outside 32 (s .classes) || outside 8 (s .columns)) ≡ false) =
+    form-size (outside 32 (s .classes) || outside 8 (s .columns)) (outside (s .classes) (s .start)) (ltb 100 (s .horizon)) n e h in
+    let l : (1 ≤ s .classes) × (s .classes ≤ 32) = outside-false 32 (s .classes) (or-false-left (outside 32 (s .classes)) (outside 8 (s .columns)) size) in
+    let r : (1 ≤ s .columns) × (s .columns ≤ 8) = outside-false 8 (s .columns) (or-false-right (outside 32 (s .classes)) (outside 8 (s .columns)) size) in
+    record { someClass = l .0; classes = l .1; someColumn = r .0; columns = r .1 }
+
+-- the stages of the code, for a scheme
+module _ (s : Scheme) (moneyOut : Bool) where
+  afterForm : ℕ
+  afterForm = cond (ruleOut s) 7 (cond (bandOut s) 8 (cond (sumOut s) 9 (cond moneyOut 10 0)))
+
+  pub cause-form : (n : ℕ) → n ≡ formCause (s .classes) (s .columns) (s .start) (s .horizon) → (n ≡ 0 → ⊥) → n ≡ causeWhere s moneyOut
+  unfolding causeWhere sizeOut startOut horizonOut afterForm
+  cause-form n e h = form-hit (sizeOut s) (startOut s) (horizonOut s) afterForm n e h
+
+  module _ (number : ℕ) (is : number ≡ formCause (s .classes) (s .columns) (s .start) (s .horizon)) (none : number ≡ 0) where
+    after-form : causeWhere s moneyOut ≡ afterForm
+    unfolding causeWhere sizeOut startOut horizonOut afterForm
+    after-form = form-on (sizeOut s) (startOut s) (horizonOut s) afterForm number is none
+
+    same-bands : bandCause (cellCount s) (lowerAt s 0) (upperAt s 0) ≡ cond (bandOut s) 8 (cond (sumOut s) 9 0)
+    unfolding bandOut sumOut
+    same-bands =
+        let some = size-fits s number is none .someClass in
+        ap₂ (λ x y. cond x 8 (cond y 9 0)) (sym (any-same (s .classes) _ some)) (sym (any-same (s .classes) _ some))
+
+    pub cause-rule : ruleOut s ≡ true → 7 ≡ causeWhere s moneyOut
+    unfolding afterForm
+    cause-rule h = sym (after-form ∙ cond-true (ruleOut s) 7 _ h)
+
+    module _ (rulesIn : ruleOut s ≡ false) where
+      after-rules : causeWhere s moneyOut ≡ cond (bandOut s) 8 (cond (sumOut s) 9 (cond moneyOut 10 0))
+      unfolding afterForm
+      after-rules = after-form ∙ cond-false (ruleOut s) 7 _ rulesIn
+
+      pub cause-bands : (n : ℕ) → n ≡ bandCause (cellCount s) (lowerAt s 0) (upperAt s 0) → (n ≡ 0 → ⊥) → n ≡ causeWhere s moneyOut
+      cause-bands n e h = bands-hit (bandOut s) (sumOut s) (cond moneyOut 10 0) n (e ∙ same-bands) h ∙ sym after-rules
+
+      pub cause-money : (n : ℕ) → n ≡ bandCause (cellCount s) (lowerAt s 0) (upperAt s 0) → n ≡ 0 → cond moneyOut 10 0 ≡ causeWhere s moneyOut
+      cause-money n e h = sym (after-rules ∙ bands-on (bandOut s) (sumOut s) (cond moneyOut 10 0) n (e ∙ same-bands) h)

@@ -1,0 +1,59 @@
+-- Laws of a test over all indices below a count.
+use Prim.Native.Nat.{ℕ, zero, suc, _+_, _≤_, _<_}
+use mathlib.Core.Path.{_≡_, refl, ap, sym, _∙_}
+use mathlib.Core.Logic.{⊎-elim}
+use mathlib.Core.Bool.{Bool, true, false, _||_, or-true, or-false}
+use native.Mathlib.Omega.{arith}
+use native.Mathlib.Numerals.{add-one}
+use native.Mathlib.Nat.{le-refl, le-step, eq-or-lt-of-le, le-of-suc-le-suc, not-suc-le-zero}
+use Rattle.scheme.specs.Tables.{anyBelow}
+
+pub or-false-left : (a b : Bool) → (a || b) ≡ false → a ≡ false
+or-false-left true b e = e
+or-false-left false b e = refl
+
+pub or-false-right : (a b : Bool) → (a || b) ≡ false → b ≡ false
+or-false-right true true e = e
+or-false-right true false e = refl
+or-false-right false b e = e
+
+pub any-none : (test : ℕ → Bool) → anyBelow 0 test ≡ false
+unfolding anyBelow
+any-none test = refl
+
+-- it fails below n and at n
+pub any-more : (n : ℕ) (test : ℕ → Bool) → anyBelow n test ≡ false → test n ≡ false → anyBelow (n + 1) test ≡ false
+unfolding anyBelow
+any-more n test e h = rw add-one (ap (λ b. b || test n) e ∙ h)
+
+-- all of them have been tried
+pub any-end : (k n : ℕ) (test : ℕ → Bool) → k ≡ n → anyBelow k test ≡ false → false ≡ anyBelow n test
+any-end k n test e h = sym (ap (λ x. anyBelow x test) (sym e) ∙ h)
+
+-- it passes at k
+pub any-hit : (n k : ℕ) (test : ℕ → Bool) → k < n → test k ≡ true → anyBelow n test ≡ true
+unfolding anyBelow
+any-hit zero k test l h = absurd (not-suc-le-zero l)
+any-hit (suc n) k test l h =
+    ⊎-elim (λ e. ap (λ b. anyBelow n test || b) (ap test (sym e) ∙ h) ∙ or-true (anyBelow n test))
+    (λ g. ap (λ b. b || test n) (any-hit n k test g h))
+    (eq-or-lt-of-le (le-of-suc-le-suc l))
+
+-- it passes nowhere
+pub any-clear : (n : ℕ) (test : ℕ → Bool) → ((k : ℕ) → k < n → test k ≡ false) → anyBelow n test ≡ false
+unfolding anyBelow
+any-clear zero test h = refl
+any-clear (suc n) test h = ap (λ b. b || test n) (any-clear n test (λ k l. h k (le-step l))) ∙ h n (le-refl (suc n))
+
+pub any-false : (n : ℕ) (test : ℕ → Bool) → anyBelow n test ≡ false → (k : ℕ) → k < n → test k ≡ false
+unfolding anyBelow
+any-false zero test e k l = absurd (not-suc-le-zero l)
+any-false (suc n) test e k l =
+    ⊎-elim (λ i. ap test i ∙ or-false-right (anyBelow n test) (test n) e)
+    (λ g. any-false n test (or-false-left (anyBelow n test) (test n) e) k g)
+    (eq-or-lt-of-le (le-of-suc-le-suc l))
+
+-- a test that does not look at the index
+pub any-same : (n : ℕ) (b : Bool) → 0 < n → anyBelow n (λ k. b) ≡ b
+any-same n true l = any-hit n 0 (λ k. true) l refl
+any-same n false l = any-clear n (λ k. false) (λ k g. refl)
