@@ -1,3 +1,9 @@
 -- The laws that proofs use in place of the definitions' text.
 pub mod Tables
 pub mod Cause
+pub mod Judged
+pub mod Sound
+pub mod Tab
+pub mod Rows
+pub mod Clear
+pub mod Entries

@@ -1,7 +1,10 @@
 // The scheme of document 01, its acceptance, and its interval rows.
 ghost use mathlib.Core.Path.{_≡_};
 ghost use Rattle.scheme.specs.Cause.{causeOf};
+ghost use Rattle.scheme.specs.Rows.{rowAnswer};
 
+pub mod gathering;
+mod rows;
 mod tests;
 
 // ONE, a billion parts: the whole of a share.
@@ -71,4 +74,28 @@ pub fn cause(scheme: Scheme) -> u8
         return MONEY_OUT;
     }
     0
+}
+
+// The answer of the row operation: a refusal number or 0, and the lower and upper entries.
+pub struct RowAnswer {
+    pub number: u8,
+    pub lower: [u64; 32],
+    pub upper: [u64; 32],
+}
+
+// The interval row of a class.
+pub fn row(scheme: Scheme, class: u64) -> RowAnswer
+    ensures { λ r. ⌜ r ≡ rowAnswer scheme class ⌝ }
+{
+    let number = cause(scheme);
+    if number != 0 {
+        return rows::refused(number);
+    }
+    if rows::class_out(scheme.classes, class) {
+        return rows::refused(CLASS_OUT);
+    }
+    let rules = scheme.rules;
+    let lowers = scheme.lowers;
+    let uppers = scheme.uppers;
+    rows::answered(rules, lowers, uppers, scheme.columns, scheme.classes, class)
 }

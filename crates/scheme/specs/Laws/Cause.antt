@@ -1,13 +1,13 @@
 -- Laws of the first cause: what each test tells, and how the stages of the code make the whole.
 use Prim.Native.Nat.{ℕ, suc, _≤_, _<_}
-use mathlib.Core.Path.{_≡_, refl, ap₂, sym, _∙_}
+use mathlib.Core.Path.{_≡_, refl, ap, ap₂, sym, _∙_}
 use mathlib.Core.Bool.{Bool, true, false, cond, _||_}
 use lib.Dec.{eqb, ltb}
 use native.Mathlib.Omega.{arith}
-use borrow.Author.Tests.{ltb-false, eqb-false, ne-eqb, le-ltb}
+use borrow.Author.Tests.{ltb-false, eqb-false, eq-eqb, ne-eqb, le-ltb}
 use Rattle.scheme.specs.declared.Scheme.{Scheme}
 use Rattle.scheme.specs.Access.{cellCount, lowerAt, upperAt}
-use Rattle.scheme.specs.Cause.{outside, sizeOut, startOut, horizonOut, ruleOut, bandOut, sumOut, causeWhere}
+use Rattle.scheme.specs.Cause.{outside, sizeOut, startOut, horizonOut, ruleOut, bandOut, sumOut, causeWhere, orElse}
 use Rattle.scheme.specs.Accepted.{SizeFits}
 use Rattle.scheme.specs.Stages.{formCause, bandCause}
 use Rattle.scheme.specs.Laws.Tables.{or-false-left, or-false-right, any-same}
@@ -20,6 +20,20 @@ outside-false max x e =
 
 pub inside-outside : (max x : ℕ) → 1 ≤ x → x ≤ max → outside max x ≡ false
 inside-outside max x h k = simp (ne-eqb x 0 (λ e. omega arith), le-ltb max x k)
+
+-- the first of two causes
+pub first-cause : (a b : ℕ) → (a ≡ 0 → ⊥) → orElse a b ≡ a
+first-cause a b h = simp (ne-eqb a 0 h)
+
+pub second-cause : (a b : ℕ) → a ≡ 0 → orElse a b ≡ b
+second-cause a b e = simp (eq-eqb a 0 e)
+
+-- an answer by its cause
+pub declined {ℓ} : {A : Type ℓ} (n : ℕ) (x y : A) → (n ≡ 0 → ⊥) → cond (eqb n 0) x y ≡ y
+declined n x y h = ap (λ b. cond b x y) (ne-eqb n 0 h)
+
+pub answered {ℓ} : {A : Type ℓ} (n : ℕ) (x y : A) → n ≡ 0 → cond (eqb n 0) x y ≡ x
+answered n x y e = ap (λ b. cond b x y) (eq-eqb n 0 e)
 
 -- over the tests' outcomes: a stage's number that is not 0 is the whole's, and 0 leads on to the rest
 form-hit : (a b c : Bool) (rest n : ℕ) → n ≡ cond a 3 (cond b 5 (cond c 6 0)) → (n ≡ 0 → ⊥) → n ≡ cond a 3 (cond b 5 (cond c 6 rest))

@@ -2,7 +2,7 @@
 use Prim.Native.Nat.{ℕ, zero, suc, _+_, _≤_, _<_}
 use mathlib.Core.Path.{_≡_, refl, ap, sym, _∙_}
 use mathlib.Core.Logic.{⊎-elim}
-use mathlib.Core.Bool.{Bool, true, false, _||_, or-true, or-false}
+use mathlib.Core.Bool.{Bool, true, false, _||_, or-true}
 use native.Mathlib.Omega.{arith}
 use native.Mathlib.Numerals.{add-one}
 use native.Mathlib.Nat.{le-refl, le-step, eq-or-lt-of-le, le-of-suc-le-suc, not-suc-le-zero}
@@ -16,6 +16,9 @@ pub or-false-right : (a b : Bool) → (a || b) ≡ false → b ≡ false
 or-false-right true true e = e
 or-false-right true false e = refl
 or-false-right false b e = e
+
+pub or-false : {a b : Bool} → a ≡ false → b ≡ false → (a || b) ≡ false
+or-false {a} {b} p q = ap (λ x. x || b) p ∙ q
 
 pub any-none : (test : ℕ → Bool) → anyBelow 0 test ≡ false
 unfolding anyBelow

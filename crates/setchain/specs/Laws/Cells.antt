@@ -28,7 +28,7 @@ module _ (n : ℕ) (c : Cells) (sound : SoundCells n c) where
       sumTo-le (c .count) (λ k. onlyIf (eqb (c .target k) j) (c .lower k)) (λ k. onlyIf (eqb (c .target k) j) (c .upper k))
       (λ k l. onlyIf-mono (eqb (c .target k) j) (c .lower k) (c .upper k) (sound .ordered k l))
 
-  into-all : (j : ℕ) → sumInto c (c .lower) j ≤ sumTo (c .count) (c .lower)
+  pub into-all : (j : ℕ) → sumInto c (c .lower) j ≤ sumTo (c .count) (c .lower)
   into-all j =
       sumTo-le (c .count) (λ k. onlyIf (eqb (c .target k) j) (c .lower k)) (c .lower)
       (λ k l. onlyIf-le (eqb (c .target k) j) (c .lower k))

@@ -25,6 +25,11 @@ unfolding onlyIf
 onlyIf-le true x = le-refl x
 onlyIf-le false x = omega arith
 
+pub onlyIf-zero : (b : Bool) → onlyIf b 0 ≡ 0
+unfolding onlyIf
+onlyIf-zero true = refl
+onlyIf-zero false = refl
+
 pub onlyIf-mono : (b : Bool) (x y : ℕ) → x ≤ y → onlyIf b x ≤ onlyIf b y
 unfolding onlyIf
 onlyIf-mono true x y h = h
@@ -92,6 +97,15 @@ unfolding sumTo
 term-le zero f j h = absurd (not-suc-le-zero h)
 term-le (suc n) f j h =
     ⊎-elim (λ e. rw e (omega arith)) (λ l. omega (arith, term-le n f j l)) (eq-or-lt-of-le (le-of-suc-le-suc h))
+
+-- terms that are 0 may be left out at the end
+pub sumTo-longer : (n m : ℕ) (f : ℕ → ℕ) → n ≤ m → ((j : ℕ) → n ≤ j → j < m → f j ≡ 0) → sumTo m f ≡ sumTo n f
+unfolding sumTo
+sumTo-longer n zero f l h = let e : 0 ≡ n = omega arith in ap (λ k. sumTo k f) e
+sumTo-longer n (suc m) f l h =
+    ⊎-elim (λ e. rw e refl)
+    (λ g. omega (arith, sumTo-longer n m f (omega arith) (λ j a b. h j a (le-step b)), h m (omega arith) (le-refl (suc m))))
+    (eq-or-lt-of-le l)
 
 -- a sum in which one index alone counts
 pub sumTo-none : (n : ℕ) (f : ℕ → ℕ) (p : ℕ) → n ≤ p → sumTo n (λ j. onlyIf (eqb j p) (f j)) ≡ 0

@@ -1,0 +1,49 @@
+-- `row` meets its contract, by the cases of `Laws.Entries`.
+use mathlib.Core.Path.{sym, _∙_}
+use native.Mathlib.Omega.{arith}
+use Rattle.scheme.specs.Laws.Cause.{outside-false}
+use Rattle.scheme.specs.Laws.Judged.{accepted-cause}
+use Rattle.scheme.specs.Laws.Entries.{row-declined, row-no-class, row-answered}
+use borrow.Author.Needs.{needs}
+use Rattle.scheme.proofs.row.Statement.{statement}
+use Rattle.scheme.proofs.row.Tie as tie
+
+cause-requires : tie.Need-cause-requires
+cause-requires c κs = search needs
+
+refused-requires : tie.Need-refused-requires
+refused-requires c κs = search needs
+
+returns : tie.Need-returns
+returns c = c .refused .ensures ∙ row-declined (c .before .before .before .args .scheme) (c .before .before .before .args .class) _ (c .before .before .cause .ensures) (c .before .if1 .taken)
+
+class-out-requires : tie.Need-class-out-requires
+class-out-requires c κs = search needs
+
+refused-requires-2 : tie.Need-refused-requires-2
+refused-requires-2 c κs = search needs
+
+returns-2 : tie.Need-returns-2
+returns-2 c = c .refused2 .ensures ∙ row-no-class (c .before .before .before .before .before .args .scheme) (c .before .before .before .before .before .args .class) _ (c .before .before .before .before .cause .ensures) (c .before .before .before .if1 .left) (sym (c .before .before .class-out .ensures) ∙ c .before .if2 .taken)
+
+answered-requires : tie.Need-answered-requires
+answered-requires c κs =
+    let ok = accepted-cause (c .before .before .before .before .before .before .before .args .scheme) (sym (c .before .before .before .before .before .before .cause .ensures) ∙ c .before .before .before .before .before .if1 .left) in
+    let range = outside-false (c .before .before .before .before .before .before .before .args .scheme .classes) (c .before .before .before .before .before .before .before .args .class) (sym (c .before .before .before .before .class-out .ensures) ∙ c .before .before .before .if2 .left) in
+    (range .0, range .1, ok .size .classes, ok .size .columns)
+
+returns-3 : tie.Need-returns-3
+returns-3 c = c .answered .ensures ∙ row-answered (c .before .before .before .before .before .before .before .before .args .scheme) (c .before .before .before .before .before .before .before .before .args .class) _ (c .before .before .before .before .before .before .before .cause .ensures) (c .before .before .before .before .before .before .if1 .left) (sym (c .before .before .before .before .before .class-out .ensures) ∙ c .before .before .before .before .if2 .left)
+
+pub row-spec : {M : Type 1} → statement M
+row-spec =
+    tie.close
+    (tie.spec
+    cause-requires
+    refused-requires
+    returns
+    class-out-requires
+    refused-requires-2
+    returns-2
+    answered-requires
+    returns-3)

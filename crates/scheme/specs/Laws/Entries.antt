@@ -1,0 +1,181 @@
+-- The arrays of 32 entries: s of them gathered, 0 beyond; and for an accepted scheme they are its interval rows.
+use Prim.Native.Nat.{ℕ, suc, min, _+_, _-_, _*_, _≤_, _<_}
+use mathlib.Core.Path.{_≡_, refl, ap, ap₂, sym, _∙_, subst}
+use mathlib.Core.Bool.{Bool, true, false, cond}
+use mathlib.Core.List.{List, _++_}
+use lib.Dec.{eqb, ltb}
+use lib.ListN.{length, getD, take, drop, replicate, length-append, length-take, length-drop, length-replicate, getD-replicate, List·getD-append, List·getD-eq-default}
+use lib.Seq.{length-take-le, getD-append-add, getD-drop, getD-take}
+use native.Mathlib.Decide.{decLt}
+use native.Mathlib.Omega.{arith}
+use native.Mathlib.Nat.{le-trans, min-le-left, min-le-right}
+use borrow.Author.Tests.{lt-ltb, le-ltb, eq-eqb, ne-eqb}
+use native.Mathlib.Decide.{ℕ-discrete}
+use Rattle.setchain.specs.Sums.{sumTo, onlyIf}
+use Rattle.setchain.specs.Rows.{ONE}
+use Rattle.setchain.specs.Cells.{sumInto}
+use Rattle.setchain.specs.Laws.Cells.{into-all}
+use Rattle.setchain.specs.Laws.Sums.{onlyIf-true, onlyIf-false, onlyIf-zero, sumTo-eq, sumTo-le, sumTo-longer}
+use Rattle.scheme.specs.declared.Scheme.{Scheme}
+use Rattle.scheme.specs.declared.RowAnswer.{RowAnswer}
+use Rattle.scheme.specs.Tables.{tab}
+use Rattle.scheme.specs.Access.{ruleAt, lowerAt, upperAt}
+use Rattle.scheme.specs.Accepted.{Accepted}
+use Rattle.scheme.specs.Cause.{outside, causeOf, orElse, classCause}
+use Rattle.scheme.specs.Laws.Cause.{outside-false, first-cause, second-cause, declined, answered, cond-true, cond-false}
+use Rattle.scheme.specs.Laws.Judged.{accepted-cause}
+use Rattle.scheme.specs.Rows.{cellsOf, chainOf, gathered, entriesOf, rowCause, rowRefused, rowAt, rowAnswer, rowFrom}
+use Rattle.scheme.specs.Laws.Sound.{accepted-cells}
+use Rattle.scheme.specs.Laws.Tab.{length-tab, getD-tab, as-tab, tab-eq}
+
+-- gathered entries followed by what stood beyond them
+pub entries-joined : (rules ends : List ℕ) (classes : ℕ) (g : List ℕ) → classes ≤ 32
+    → g ≡ tab (length (take classes (replicate {A = ℕ} 32 0))) (gathered rules ends)
+    → g ++ drop classes (replicate 32 0) ≡ entriesOf rules ends classes
+unfolding entriesOf
+entries-joined rules ends classes g h e =
+    as-tab 0 (g ++ zeros) 32 (λ j. onlyIf (ltb j classes) (gathered rules ends j))
+    (length-append g zeros ∙ omega (arith, size, length-drop {A = ℕ} classes (replicate 32 0), length-replicate {A = ℕ} 32 0))
+    (λ j l. at j l (decLt j classes))
+  where
+    zeros : List ℕ
+    zeros = drop classes (replicate 32 0)
+
+    count : length (take classes (replicate {A = ℕ} 32 0)) ≡ classes
+    count = length-take-le {A = ℕ} classes (replicate 32 0) (omega (arith, length-replicate {A = ℕ} 32 0))
+
+    is : g ≡ tab classes (gathered rules ends)
+    is = e ∙ ap (λ n. tab n (gathered rules ends)) count
+
+    size : length g ≡ classes
+    size = ap length is ∙ length-tab classes (gathered rules ends)
+
+    beyond : (j : ℕ) → j < 32 → classes ≤ j → getD (g ++ zeros) j 0 ≡ 0
+    beyond j l k =
+        ap (λ n. getD (g ++ zeros) n 0) (omega (arith, size))
+        ∙ getD-append-add g zeros (j - classes) 0
+        ∙ getD-drop classes (replicate 32 0) (j - classes) 0
+        ∙ getD-replicate 32 (classes + (j - classes)) 0 0 (omega arith)
+
+    at : (j : ℕ) → j < 32 → Dec (j < classes) → getD (g ++ zeros) j 0 ≡ onlyIf (ltb j classes) (gathered rules ends j)
+    at j l (yes k) =
+        List·getD-append g zeros 0 j (omega (arith, size))
+        ∙ ap (λ x. getD x j 0) is
+        ∙ getD-tab classes (gathered rules ends) j 0 k
+        ∙ sym (onlyIf-true (ltb j classes) (gathered rules ends j) (lt-ltb j classes k))
+    at j l (no k) = beyond j l (omega arith) ∙ sym (onlyIf-false (ltb j classes) (gathered rules ends j) (le-ltb j classes (omega arith)))
+
+-- a rule is class j + 1 exactly where its target is state j
+same-test : (rule j : ℕ) → 1 ≤ rule → eqb rule (suc j) ≡ eqb (rule - 1) j
+same-test rule j h = by (ℕ-discrete rule (suc j))
+  where
+    by : Dec (rule ≡ suc j) → eqb rule (suc j) ≡ eqb (rule - 1) j
+    by (yes e) = eq-eqb rule (suc j) e ∙ sym (eq-eqb (rule - 1) j (omega arith))
+    by (no d) = ne-eqb rule (suc j) d ∙ sym (ne-eqb (rule - 1) j (λ e. d (omega arith)))
+
+-- a part of the rules and of the bands' ends, read where they stand
+gathered-part : (rules ends : List ℕ) (columns from j : ℕ)
+    → gathered (take columns (drop from rules)) (take columns ends) j
+    ≡ min ONE (sumTo columns (λ k. onlyIf (eqb (getD rules (from + k) 0) (suc j)) (getD ends k 0)))
+gathered-part rules ends columns from j =
+    ap (min ONE) (same ∙ sym longer)
+  where
+    part : List ℕ
+    part = take columns (drop from rules)
+
+    count : ℕ
+    count = min (length part) (length (take columns ends))
+
+    term : ℕ → ℕ
+    term k = onlyIf (eqb (getD rules (from + k) 0) (suc j)) (getD ends k 0)
+
+    within : count ≤ columns
+    within = le-trans (min-le-right (length part) (length (take columns ends))) (omega (arith, length-take columns ends))
+
+    same : sumTo count (λ k. onlyIf (eqb (getD part k 0) (suc j)) (getD (take columns ends) k 0)) ≡ sumTo count term
+    same =
+        sumTo-eq count (λ k. onlyIf (eqb (getD part k 0) (suc j)) (getD (take columns ends) k 0)) term
+        (λ k l.
+        ap₂ (λ x y. onlyIf (eqb x (suc j)) y)
+        (getD-take columns (drop from rules) k 0 (omega (arith, within)) ∙ getD-drop from rules k 0)
+        (getD-take columns ends k 0 (omega (arith, within))))
+
+    nothing-there : (k : ℕ) → count ≤ k → k < columns → term k ≡ 0
+    nothing-there k l g = by (decLt k (length (take columns ends)))
+      where
+        by : Dec (k < length (take columns ends)) → term k ≡ 0
+        by (yes m) =
+            onlyIf-false (eqb (getD rules (from + k) 0) (suc j)) (getD ends k 0)
+            (ne-eqb (getD rules (from + k) 0) (suc j)
+            (λ e. omega (arith, e, List·getD-eq-default rules 0 {n = from + k} (omega (arith, length-take columns (drop from rules), length-drop from rules)))))
+        by (no m) =
+            ap (λ x. onlyIf (eqb (getD rules (from + k) 0) (suc j)) x)
+            (List·getD-eq-default ends 0 {n = k} (omega (arith, length-take columns ends)))
+            ∙ onlyIf-zero (eqb (getD rules (from + k) 0) (suc j))
+
+    longer : sumTo columns term ≡ sumTo count term
+    longer = sumTo-longer count columns term within nothing-there
+
+-- for an accepted scheme the entries are those of its interval row
+module _ (s : Scheme) (ok : Accepted s) (i : ℕ) (l : i < s .classes) where
+  into : (band : ℕ → ℕ) (j : ℕ) → sumTo (s .columns) (λ k. onlyIf (eqb (ruleAt s i k) (suc j)) (band k)) ≡ sumInto (cellsOf s i) band j
+  into band j =
+      sumTo-eq (s .columns) (λ k. onlyIf (eqb (ruleAt s i k) (suc j)) (band k)) (λ k. onlyIf (eqb (ruleAt s i k - 1) j) (band k))
+      (λ k g. ap (λ b. onlyIf b (band k)) (same-test (ruleAt s i k) j (ok .rules .positive i k l g)))
+
+  lower-is : (j : ℕ) → gathered (take (s .columns) (drop (i * 8) (s .rules))) (take (s .columns) (s .lowers)) j ≡ chainOf s .row i .lower j
+  lower-is j =
+      gathered-part (s .rules) (s .lowers) (s .columns) (i * 8) j
+      ∙ ap (min ONE) (into (lowerAt s i) j)
+      ∙ omega (arith, into-all (s .classes) (cellsOf s i) (accepted-cells s ok i l) j, ok .sums .lowers i l)
+
+  upper-is : (j : ℕ) → gathered (take (s .columns) (drop (i * 8) (s .rules))) (take (s .columns) (s .uppers)) j ≡ chainOf s .row i .upper j
+  upper-is j = gathered-part (s .rules) (s .uppers) (s .columns) (i * 8) j ∙ ap (min ONE) (into (upperAt s i) j)
+
+  pub row-is : rowFrom (s .rules) (s .lowers) (s .uppers) (s .columns) (s .classes) i ≡ rowAt s i
+  unfolding rowAt entriesOf
+  row-is =
+      λ k.
+      record {
+        number = 0;
+        lower = tab-eq 0 32 _ _ (λ j g. ap (onlyIf (ltb j (s .classes))) (lower-is j)) k;
+        upper = tab-eq 0 32 _ _ (λ j g. ap (onlyIf (ltb j (s .classes))) (upper-is j)) k;
+      }
+
+-- the code's parts of the rules run from i * 8 to i * 8 + columns
+pub row-made : (rules lowers uppers : List ℕ) (columns classes i : ℕ) (lower upper : List ℕ)
+    → lower ≡ entriesOf (take (i * 8 + columns - i * 8) (drop (i * 8) rules)) (take columns lowers) classes
+    → upper ≡ entriesOf (take (i * 8 + columns - i * 8) (drop (i * 8) rules)) (take columns uppers) classes
+    → _≡_ {A = RowAnswer} (record { number = 0; lower = lower; upper = upper }) (rowFrom rules lowers uppers columns classes i)
+row-made rules lowers uppers columns classes i lower upper e g =
+    λ k. record { number = 0; lower = (e ∙ ap (part lowers) size) k; upper = (g ∙ ap (part uppers) size) k }
+  where
+    part : List ℕ → ℕ → List ℕ
+    part ends n = entriesOf (take n (drop (i * 8) rules)) (take columns ends) classes
+
+    size : i * 8 + columns - i * 8 ≡ columns
+    size = omega arith
+
+-- the row operation's answer in each of its cases
+module _ (s : Scheme) (class : ℕ) where
+  pub row-declined : (n : ℕ) → n ≡ causeOf s → (n ≡ 0 → ⊥) → rowRefused n ≡ rowAnswer s class
+  row-declined n e h =
+      let whole : rowCause s class ≡ n = ap (λ x. orElse x (classCause s class)) (sym e) ∙ first-cause n (classCause s class) h in
+      sym (declined (rowCause s class) (rowAt s (class - 1)) (rowRefused (rowCause s class)) (λ z. h (sym whole ∙ z)) ∙ ap rowRefused whole)
+
+  module _ (n : ℕ) (e : n ≡ causeOf s) (none : n ≡ 0) where
+    whole-is : rowCause s class ≡ classCause s class
+    whole-is = second-cause (causeOf s) (classCause s class) (sym e ∙ none)
+
+    pub row-no-class : outside (s .classes) class ≡ true → rowRefused 11 ≡ rowAnswer s class
+    row-no-class h =
+        let whole : rowCause s class ≡ 11 = whole-is ∙ cond-true (outside (s .classes) class) 11 0 h in
+        sym (declined (rowCause s class) (rowAt s (class - 1)) (rowRefused (rowCause s class)) (λ z. omega (arith, whole, z)) ∙ ap rowRefused whole)
+
+    pub row-answered : outside (s .classes) class ≡ false
+        → rowFrom (s .rules) (s .lowers) (s .uppers) (s .columns) (s .classes) (class - 1) ≡ rowAnswer s class
+    row-answered h =
+        let whole : rowCause s class ≡ 0 = whole-is ∙ cond-false (outside (s .classes) class) 11 0 h in
+        let range : (1 ≤ class) × (class ≤ s .classes) = outside-false (s .classes) class h in
+        row-is s (accepted-cause s (sym e ∙ none)) (class - 1) (omega arith)
+        ∙ sym (answered (rowCause s class) (rowAt s (class - 1)) (rowRefused (rowCause s class)) whole)

@@ -1,0 +1,32 @@
+-- Laws of lists written by a rule.
+use Prim.Native.Nat.{ℕ, zero, suc, _+_, _-_, _≤_, _<_}
+use mathlib.Core.Path.{_≡_, refl, ap, ap₂, sym, _∙_}
+use mathlib.Core.List.{List, [], _∷_, _++_}
+use lib.Dec.{ltb}
+use lib.ListN.{length, getD, replicate, drop, length-replicate, getD-replicate}
+use lib.Seq.{ext-getD}
+use native.Mathlib.Omega.{arith}
+use native.Mathlib.Nat.{not-suc-le-zero, le-of-suc-le-suc}
+use Rattle.scheme.specs.Tables.{tab}
+
+module _ {ℓ} {A : Type ℓ} where
+  pub length-tab : (n : ℕ) (f : ℕ → A) → length (tab n f) ≡ n
+  unfolding tab
+  length-tab zero f = refl
+  length-tab (suc n) f = ap suc (length-tab n (λ k. f (suc k)))
+
+  pub getD-tab : (n : ℕ) (f : ℕ → A) (i : ℕ) (d : A) → i < n → getD (tab n f) i d ≡ f i
+  unfolding tab
+  getD-tab zero f i d h = absurd (not-suc-le-zero h)
+  getD-tab (suc n) f zero d h = refl
+  getD-tab (suc n) f (suc i) d h = getD-tab n (λ k. f (suc k)) i d (le-of-suc-le-suc h)
+
+  -- a list is the rule that gives its elements
+  pub as-tab : (d : A) (l : List A) (n : ℕ) (f : ℕ → A) → length l ≡ n → ((i : ℕ) → i < n → getD l i d ≡ f i) → l ≡ tab n f
+  as-tab d l n f e h =
+      ext-getD d l (tab n f) (e ∙ sym (length-tab n f))
+      (λ i g. let k : i < n = rw (← e) g in h i k ∙ sym (getD-tab n f i d k))
+
+  -- equal at each place
+  pub tab-eq : (d : A) (n : ℕ) (f g : ℕ → A) → ((i : ℕ) → i < n → f i ≡ g i) → tab n f ≡ tab n g
+  tab-eq d n f g h = as-tab d (tab n f) n g (length-tab n f) (λ i l. getD-tab n f i d l ∙ h i l)

@@ -1,0 +1,61 @@
+// The row operation's parts.
+ghost use mathlib.Core.Path.{_≡_};
+ghost use Prim.Native.Nat.{_-_, _≤_};
+ghost use Rattle.scheme.specs.Cause.{outside};
+ghost use Rattle.scheme.specs.Rows.{entriesOf, rowRefused, rowFrom};
+use crate::RowAnswer;
+use crate::gathering::gather;
+
+// The lower or the upper entries of one class from its rules and their bands' ends, with 0 beyond s.
+pub fn entries(rules: &[u8], ends: &[u32], classes: u8) -> [u64; 32]
+    requires { ⌜ classes ≤ 32 ⌝ }
+    ensures { λ r. ⌜ r ≡ entriesOf (now (rules .entry)) (now (ends .entry)) classes ⌝ }
+{
+    let n = classes as usize;
+    let mut out = [0u64; 32];
+    gather(rules, ends, &mut out[..n]);
+    out
+}
+
+// a class is not one of 1 to s
+pub fn class_out(classes: u8, class: u64) -> bool
+    ensures { λ r. ⌜ r ≡ outside classes class ⌝ }
+{
+    class == 0 || (classes as u64) < class
+}
+
+// a refusal number, with 0 everywhere else
+pub fn refused(number: u8) -> RowAnswer
+    ensures { λ r. ⌜ r ≡ rowRefused number ⌝ }
+{
+    let zeros = [0u64; 32];
+    RowAnswer {
+        number,
+        lower: zeros,
+        upper: zeros,
+    }
+}
+
+// the row of a class of an accepted scheme, from the scheme's parts
+pub fn answered(
+    rules: [u8; 256],
+    lowers: [u32; 8],
+    uppers: [u32; 8],
+    columns: u8,
+    classes: u8,
+    class: u64,
+) -> RowAnswer
+    requires { ⌜ (1 ≤ class) × (class ≤ classes) × (classes ≤ 32) × (columns ≤ 8) ⌝ }
+    ensures { λ r. ⌜ r ≡ rowFrom rules lowers uppers columns classes (class - 1) ⌝ }
+{
+    let m = columns as usize;
+    let from = (class - 1) as usize * 8;
+    let to = from + m;
+    let lower = entries(&rules[from..to], &lowers[..m], classes);
+    let upper = entries(&rules[from..to], &uppers[..m], classes);
+    RowAnswer {
+        number: 0,
+        lower,
+        upper,
+    }
+}
