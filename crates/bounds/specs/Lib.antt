@@ -1,0 +1,6 @@
+-- Read in this order: lists as rows and payoffs, the order of the classes, the fill along it, the figure, the whole step.
+pub mod Lists
+pub mod Order
+pub mod Fill
+pub mod Figure
+pub mod Step

@@ -1,0 +1,25 @@
+-- `ready::ready` meets its contract: without a cause the ready scheme is offered and made, and with one it is not.
+-- Assumes nothing.
+use mathlib.Core.Path.{sym, _∙_}
+use Rattle.ready.specs.Laws.{offered, answer-made, answer-none}
+use borrow.Author.Needs.{needs}
+use Rattle.ready.proofs.ready.Statement.{statement}
+use Rattle.ready.proofs.ready.Tie as tie
+
+cause-requires : tie.Need-cause-requires
+cause-requires c κs = search needs
+
+made-requires : tie.Need-made-requires
+made-requires c κs = offered (c .before .before .args .number) _ (sym (c .before .cause .ensures) ∙ c .if1 .taken) .small
+
+returns : tie.Need-returns
+returns c = rw (c .made .ensures) (sym (answer-made _ _ (sym (c .before .before .cause .ensures) ∙ c .before .if1 .taken)))
+
+none-requires : tie.Need-none-requires
+none-requires c κs = search needs
+
+returns-2 : tie.Need-returns-2
+returns-2 c = rw (c .none .ensures, c .before .before .cause .ensures) (sym (answer-none _ _ (λ e. c .before .if1 .left (c .before .before .cause .ensures ∙ e))))
+
+pub ready-spec : {M : Type 1} → statement M
+ready-spec = tie.close (tie.spec cause-requires made-requires returns none-requires returns-2)
