@@ -4,3 +4,6 @@ pub mod Order
 pub mod Fill
 pub mod Figure
 pub mod Step
+pub mod Answers
+pub mod Promises
+pub mod Laws

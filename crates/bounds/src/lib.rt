@@ -3,3 +3,9 @@ mod figure;
 mod fill;
 mod order;
 mod step;
+
+// What a call for bounds answers: low and high, or the number of the cause for which it is declined.
+pub enum Bounds {
+    Answered { low: u64, high: u64 },
+    Refused(u8),
+}

@@ -1,0 +1,2 @@
+-- The theorems that the contracts cite.
+pub mod Kept
