@@ -11,3 +11,4 @@ pub mod Picks
 pub mod Promise
 pub mod Laws
 pub mod Theorems
+pub mod Examples

@@ -86,3 +86,15 @@ module _ (c : SetChain) (sound : SoundChain c) where
   pub total-promise : (premium : ℕ → ℕ) (t : ℕ) → Promise c t (lowTotal c premium t) (highTotal c premium t) (exactTotal (c .states) premium)
   total-promise premium t =
       promised nothing premium (exactTotal (c .states) premium) (proper-exact-total c premium) (total-value c premium) t
+
+  -- the promises are not empty: picks for any number of years exist, and no exact figure that they bring has the denominator 0
+  pub some-picks : (t : ℕ) → (ps : List Matrix) × PicksFor c t ps
+  some-picks t = (lowPicks c sound nothing nothing t, lowPicks-for c sound nothing nothing t)
+
+  pub exact-proper : (premium : ℕ → ℕ) (j t : ℕ) (ps : List Matrix) → PicksFor c t ps → (i : ℕ) → i < c .states
+      → Proper (shareInParts (c .states) j ps i) × Proper (exactMean (c .states) premium ps i) × Proper (exactTotal (c .states) premium ps i)
+  exact-proper premium j t ps picks i l = (
+    mul-pos (proper-product c ps (picks .inside) i j l) (le-refl 1),
+    proper-exact-mean c premium ps (picks .inside) i l,
+    proper-exact-total c premium ps (picks .inside) i l,
+  )

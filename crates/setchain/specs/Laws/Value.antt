@@ -15,10 +15,14 @@ use Rattle.setchain.specs.Laws.Sums.{sumTo-eq, sumTo-le, sumTo-add, sumT
 use Rattle.setchain.specs.Laws.Fractions.{Proper, _≈_, proper-sum, at-most-trans, mul-at-most, sum-at-most, sum-weighed}
 use Rattle.setchain.specs.Laws.Step.{low-parts, high-parts, low-step-least, low-step-near, high-step-greatest, high-step-near}
 
+-- the mean of v by the entries of a row
+abbrev pub weigh : ℕ → Row → (ℕ → Fraction) → Fraction
+weigh n q v = sumFractions n (λ k. entryOf q k ⊗ v k)
+
 -- what the payoff is worth at the end of the picked years, with each year's gain, seen from state i
 unfoldable pub value : ℕ → (payoff gain : ℕ → ℕ) → List Matrix → ℕ → Fraction
 value n payoff gain [] i = whole (payoff i)
-value n payoff gain (p ∷ ps) i = whole (gain i) ⊕ sumFractions n (λ k. entryOf (p i) k ⊗ value n payoff gain ps k)
+value n payoff gain (p ∷ ps) i = whole (gain i) ⊕ weigh n (p i) (value n payoff gain ps)
 
 -- what is bounded at each state is bounded when a row weighs it
 module _ (n : ℕ) (q : Row) (c : ℕ → ℕ) (v : ℕ → Fraction) (positive : 1 ≤ q .over) (proper : (k : ℕ) → k < n → Proper (v k)) where
@@ -28,7 +32,7 @@ module _ (n : ℕ) (q : Row) (c : ℕ → ℕ) (v : ℕ → Fraction) (positive 
   mean-of : Fraction
   mean-of = record { num = dot n (q .entry) c; den = q .over }
 
-  proper-mean : Proper (sumFractions n (λ k. entryOf q k ⊗ v k))
+  proper-mean : Proper (weigh n q v)
   proper-mean = proper-sum n (λ k. entryOf q k ⊗ v k) (λ k l. mul-pos positive (proper k l))
 
   proper-weighed : Proper (sumFractions n weighed)
@@ -36,21 +40,21 @@ module _ (n : ℕ) (q : Row) (c : ℕ → ℕ) (v : ℕ → Fraction) (positive 
   proper-weighed = proper-sum n weighed (λ k l. mul-pos positive (le-refl 1))
 
   mean-least : ((k : ℕ) → k < n → whole (c k) ≼ v k) → (b : ℕ) → b * q .over ≤ dot n (q .entry) c
-      → whole b ≼ sumFractions n (λ k. entryOf q k ⊗ v k)
+      → whole b ≼ weigh n q v
   unfolding weighed mean-of
   mean-least h b least =
-      at-most-trans (whole b) mean-of (sumFractions n (λ k. entryOf q k ⊗ v k)) positive
+      at-most-trans (whole b) mean-of (weigh n q v) positive
       (omega arith)
-      (at-most-trans mean-of (sumFractions n weighed) (sumFractions n (λ k. entryOf q k ⊗ v k)) proper-weighed
+      (at-most-trans mean-of (sumFractions n weighed) (weigh n q v) proper-weighed
       (le-of-eq (sym (sum-weighed n (q .over) (q .entry) c)))
       (sum-at-most n weighed (λ k. entryOf q k ⊗ v k) (λ k l. mul-at-most (entryOf q k) (whole (c k)) (v k) (h k l))))
 
   mean-most : ((k : ℕ) → k < n → v k ≼ whole (c k)) → (b : ℕ) → dot n (q .entry) c ≤ b * q .over
-      → sumFractions n (λ k. entryOf q k ⊗ v k) ≼ whole b
+      → weigh n q v ≼ whole b
   unfolding weighed mean-of
   mean-most h b most =
-      at-most-trans (sumFractions n (λ k. entryOf q k ⊗ v k)) mean-of (whole b) positive
-      (at-most-trans (sumFractions n (λ k. entryOf q k ⊗ v k)) (sumFractions n weighed) mean-of proper-weighed
+      at-most-trans (weigh n q v) mean-of (whole b) positive
+      (at-most-trans (weigh n q v) (sumFractions n weighed) mean-of proper-weighed
       (sum-at-most n (λ k. entryOf q k ⊗ v k) weighed (λ k l. mul-at-most (entryOf q k) (v k) (whole (c k)) (h k l)))
       (le-of-eq (sum-weighed n (q .over) (q .entry) c)))
       (omega arith)
@@ -82,38 +86,57 @@ dot-sub n p f t =
     )
 
 module _ (c : SetChain) (sound : SoundChain c) (payoff gain : ℕ → ℕ) where
-  pub proper-value : (ps : List Matrix) → InsideEach c ps → (i : ℕ) → i < c .states → Proper (value (c .states) payoff gain ps i)
+  abbrev n : ℕ
+  n = c .states
+
+  abbrev worth : List Matrix → ℕ → Fraction
+  worth = value n payoff gain
+
+  abbrev low : ℕ → ℕ → ℕ
+  low = lowYears c payoff gain
+
+  abbrev high : ℕ → ℕ → ℕ
+  high = highYears c payoff gain
+
+  -- the row that is least, or greatest, for what is left after t years
+  abbrev leastRow : ℕ → Matrix
+  leastRow t i = ofParts (lowRow n (c .row i) (low t))
+
+  abbrev greatestRow : ℕ → Matrix
+  greatestRow t i = ofParts (highRow n (c .row i) (high t))
+
+  pub proper-value : (ps : List Matrix) → InsideEach c ps → (i : ℕ) → i < n → Proper (worth ps i)
   unfolding value
   proper-value [] none i l = le-refl 1
-  proper-value (p ∷ ps) (also h rest) i l = mul-pos (le-refl 1) (proper-mean (c .states) (p i) payoff (value (c .states) payoff gain ps) (h i l .positive) (proper-value ps rest))
+  proper-value (p ∷ ps) (also h rest) i l = mul-pos (le-refl 1) (proper-mean n (p i) payoff (worth ps) (h i l .positive) (proper-value ps rest))
 
   -- containment, by induction on the picks
-  pub value-least : (ps : List Matrix) → InsideEach c ps → (i : ℕ) → i < c .states
-      → whole (lowYears c payoff gain (length ps) i) ≼ value (c .states) payoff gain ps i
+  pub value-least : (ps : List Matrix) → InsideEach c ps → (i : ℕ) → i < n
+      → whole (low (length ps) i) ≼ worth ps i
   unfolding value lowYears
   value-least [] none i l = le-refl (payoff i * 1)
   value-least (p ∷ ps) (also h rest) i l =
-      gain-least (gain i) (lowStep (c .states) (c .row i) (lowYears c payoff gain (length ps))) (sumFractions (c .states) (λ k. entryOf (p i) k ⊗ value (c .states) payoff gain ps k))
-      (mean-least (c .states) (p i) (lowYears c payoff gain (length ps)) (value (c .states) payoff gain ps) (h i l .positive) (proper-value ps rest)
+      gain-least (gain i) (lowStep n (c .row i) (low (length ps))) (weigh n (p i) (worth ps))
+      (mean-least n (p i) (low (length ps)) (worth ps) (h i l .positive) (proper-value ps rest)
       (value-least ps rest)
-      (lowStep (c .states) (c .row i) (lowYears c payoff gain (length ps)))
-      (low-step-least (c .states) (c .row i) (sound i l) (lowYears c payoff gain (length ps)) (p i) (h i l)))
+      (lowStep n (c .row i) (low (length ps)))
+      (low-step-least n (c .row i) (sound i l) (low (length ps)) (p i) (h i l)))
 
-  pub value-most : (ps : List Matrix) → InsideEach c ps → (i : ℕ) → i < c .states
-      → value (c .states) payoff gain ps i ≼ whole (highYears c payoff gain (length ps) i)
+  pub value-most : (ps : List Matrix) → InsideEach c ps → (i : ℕ) → i < n
+      → worth ps i ≼ whole (high (length ps) i)
   unfolding value highYears
   value-most [] none i l = le-refl (payoff i * 1)
   value-most (p ∷ ps) (also h rest) i l =
-      gain-most (gain i) (highStep (c .states) (c .row i) (highYears c payoff gain (length ps))) (sumFractions (c .states) (λ k. entryOf (p i) k ⊗ value (c .states) payoff gain ps k))
-      (mean-most (c .states) (p i) (highYears c payoff gain (length ps)) (value (c .states) payoff gain ps) (h i l .positive) (proper-value ps rest)
+      gain-most (gain i) (highStep n (c .row i) (high (length ps))) (weigh n (p i) (worth ps))
+      (mean-most n (p i) (high (length ps)) (worth ps) (h i l .positive) (proper-value ps rest)
       (value-most ps rest)
-      (highStep (c .states) (c .row i) (highYears c payoff gain (length ps)))
-      (high-step-greatest (c .states) (c .row i) (sound i l) (highYears c payoff gain (length ps)) (p i) (h i l)))
+      (highStep n (c .row i) (high (length ps)))
+      (high-step-greatest n (c .row i) (sound i l) (high (length ps)) (p i) (h i l)))
 
   -- picks that stay near the low figures: each year the row that is least for what is left
   pub lowPicks : ℕ → List Matrix
   lowPicks zero = []
-  lowPicks (suc t) = (λ i. ofParts (lowRow (c .states) (c .row i) (lowYears c payoff gain t))) ∷ lowPicks t
+  lowPicks (suc t) = leastRow t ∷ lowPicks t
 
   pub lowPicks-for : (t : ℕ) → PicksFor c t (lowPicks t)
   unfolding lowPicks
@@ -121,12 +144,12 @@ module _ (c : SetChain) (sound : SoundChain c) (payoff gain : ℕ → ℕ) where
   lowPicks-for (suc t) =
       record {
         years = ap suc (lowPicks-for t .years);
-        inside = also (λ i l. low-parts (c .states) (c .row i) (sound i l) (lowYears c payoff gain t)) (lowPicks-for t .inside);
+        inside = also (λ i l. low-parts n (c .row i) (sound i l) (low t)) (lowPicks-for t .inside);
       }
 
   pub highPicks : ℕ → List Matrix
   highPicks zero = []
-  highPicks (suc t) = (λ i. ofParts (highRow (c .states) (c .row i) (highYears c payoff gain t))) ∷ highPicks t
+  highPicks (suc t) = greatestRow t ∷ highPicks t
 
   pub highPicks-for : (t : ℕ) → PicksFor c t (highPicks t)
   unfolding highPicks
@@ -134,62 +157,62 @@ module _ (c : SetChain) (sound : SoundChain c) (payoff gain : ℕ → ℕ) where
   highPicks-for (suc t) =
       record {
         years = ap suc (highPicks-for t .years);
-        inside = also (λ i l. high-parts (c .states) (c .row i) (sound i l) (highYears c payoff gain t)) (highPicks-for t .inside);
+        inside = also (λ i l. high-parts n (c .row i) (sound i l) (high t)) (highPicks-for t .inside);
       }
 
   -- closeness, by induction on the years: a year's rounding loses less than 1
-  low-loss : (t i : ℕ) → i < c .states
-      → dot (c .states) (lowRow (c .states) (c .row i) (lowYears c payoff gain t)) (λ k. lowYears c payoff gain t k + t)
-      ≤ (lowStep (c .states) (c .row i) (lowYears c payoff gain t) + suc t) * ONE
+  low-loss : (t i : ℕ) → i < n
+      → dot n (lowRow n (c .row i) (low t)) (λ k. low t k + t)
+      ≤ (lowStep n (c .row i) (low t) + suc t) * ONE
   low-loss t i l =
-      let row : ℕ → ℕ = lowRow (c .states) (c .row i) (lowYears c payoff gain t) in
+      let row : ℕ → ℕ = lowRow n (c .row i) (low t) in
       omega (
         arith,
-        dot-add (c .states) row (lowYears c payoff gain t) t,
-        ap (λ s. s * t) (low-parts (c .states) (c .row i) (sound i l) (lowYears c payoff gain t) .sums),
-        low-step-near (c .states) (c .row i) (sound i l) (lowYears c payoff gain t),
+        dot-add n row (low t) t,
+        ap (λ s. s * t) (low-parts n (c .row i) (sound i l) (low t) .sums),
+        low-step-near n (c .row i) (sound i l) (low t),
       )
 
-  pub value-low-near : (t i : ℕ) → i < c .states
-      → value (c .states) payoff gain (lowPicks t) i ≼ whole (lowYears c payoff gain t i + t)
+  pub value-low-near : (t i : ℕ) → i < n
+      → worth (lowPicks t) i ≼ whole (low t i + t)
   unfolding value lowYears lowPicks
   value-low-near zero i l = omega arith
   value-low-near (suc t) i l =
-      subst (λ b. value (c .states) payoff gain (lowPicks (suc t)) i ≼ whole b)
-      (sym (add-assoc (gain i) (lowStep (c .states) (c .row i) (lowYears c payoff gain t)) (suc t)))
-      (gain-most (gain i) (lowStep (c .states) (c .row i) (lowYears c payoff gain t) + suc t)
-      (sumFractions (c .states) (λ k. entryOf (ofParts (lowRow (c .states) (c .row i) (lowYears c payoff gain t))) k ⊗ value (c .states) payoff gain (lowPicks t) k))
-      (mean-most (c .states) (ofParts (lowRow (c .states) (c .row i) (lowYears c payoff gain t))) (λ k. lowYears c payoff gain t k + t)
-      (value (c .states) payoff gain (lowPicks t)) (omega arith) (proper-value (lowPicks t) (lowPicks-for t .inside))
+      subst (λ b. worth (lowPicks (suc t)) i ≼ whole b)
+      (sym (add-assoc (gain i) (lowStep n (c .row i) (low t)) (suc t)))
+      (gain-most (gain i) (lowStep n (c .row i) (low t) + suc t)
+      (weigh n (leastRow t i) (worth (lowPicks t)))
+      (mean-most n (leastRow t i) (λ k. low t k + t)
+      (worth (lowPicks t)) (omega arith) (proper-value (lowPicks t) (lowPicks-for t .inside))
       (value-low-near t)
-      (lowStep (c .states) (c .row i) (lowYears c payoff gain t) + suc t)
+      (lowStep n (c .row i) (low t) + suc t)
       (low-loss t i l)))
 
-  high-loss : (t i : ℕ) → i < c .states
-      → (highStep (c .states) (c .row i) (highYears c payoff gain t) - suc t) * ONE
-      ≤ dot (c .states) (highRow (c .states) (c .row i) (highYears c payoff gain t)) (λ k. highYears c payoff gain t k - t)
+  high-loss : (t i : ℕ) → i < n
+      → (highStep n (c .row i) (high t) - suc t) * ONE
+      ≤ dot n (highRow n (c .row i) (high t)) (λ k. high t k - t)
   high-loss t i l =
-      let row : ℕ → ℕ = highRow (c .states) (c .row i) (highYears c payoff gain t) in
+      let row : ℕ → ℕ = highRow n (c .row i) (high t) in
       omega (
         arith,
-        dot-sub (c .states) row (highYears c payoff gain t) t,
-        ap (λ s. s * t) (high-parts (c .states) (c .row i) (sound i l) (highYears c payoff gain t) .sums),
-        high-step-near (c .states) (c .row i) (sound i l) (highYears c payoff gain t),
+        dot-sub n row (high t) t,
+        ap (λ s. s * t) (high-parts n (c .row i) (sound i l) (high t) .sums),
+        high-step-near n (c .row i) (sound i l) (high t),
       )
 
-  pub value-high-near : (t i : ℕ) → i < c .states
-      → whole (highYears c payoff gain t i - t) ≼ value (c .states) payoff gain (highPicks t) i
+  pub value-high-near : (t i : ℕ) → i < n
+      → whole (high t i - t) ≼ worth (highPicks t) i
   unfolding value highYears highPicks
   value-high-near zero i l = omega arith
   value-high-near (suc t) i l =
-      least-down (gain i + highStep (c .states) (c .row i) (highYears c payoff gain t) - suc t)
-      (gain i + (highStep (c .states) (c .row i) (highYears c payoff gain t) - suc t))
-      (value (c .states) payoff gain (highPicks (suc t)) i)
+      least-down (gain i + highStep n (c .row i) (high t) - suc t)
+      (gain i + (highStep n (c .row i) (high t) - suc t))
+      (worth (highPicks (suc t)) i)
       (omega arith)
-      (gain-least (gain i) (highStep (c .states) (c .row i) (highYears c payoff gain t) - suc t)
-      (sumFractions (c .states) (λ k. entryOf (ofParts (highRow (c .states) (c .row i) (highYears c payoff gain t))) k ⊗ value (c .states) payoff gain (highPicks t) k))
-      (mean-least (c .states) (ofParts (highRow (c .states) (c .row i) (highYears c payoff gain t))) (λ k. highYears c payoff gain t k - t)
-      (value (c .states) payoff gain (highPicks t)) (omega arith) (proper-value (highPicks t) (highPicks-for t .inside))
+      (gain-least (gain i) (highStep n (c .row i) (high t) - suc t)
+      (weigh n (greatestRow t i) (worth (highPicks t)))
+      (mean-least n (greatestRow t i) (λ k. high t k - t)
+      (worth (highPicks t)) (omega arith) (proper-value (highPicks t) (highPicks-for t .inside))
       (value-high-near t)
-      (highStep (c .states) (c .row i) (highYears c payoff gain t) - suc t)
+      (highStep n (c .row i) (high t) - suc t)
       (high-loss t i l)))

@@ -1,0 +1,89 @@
+-- Worked figures, computed: document 01's two examples of the step, Example A's figures on its interval rows, and exact figures of small picks.
+use Prim.Native.Nat.{ℕ, zero, suc, _*_}
+use mathlib.Core.Path.{_≡_, refl}
+use mathlib.Core.List.{List, [], _∷_}
+use lib.ListN.{getD}
+use Rattle.setchain.specs.Sums.{sumTo, onlyIf, dot}
+use Rattle.setchain.specs.Fractions.{Fraction, whole, _⊗_, sumFractions}
+use Rattle.setchain.specs.Rows.{IntervalRow, SetChain}
+use Rattle.setchain.specs.Step.{roomBefore, fillRow, lowStep, highStep}
+use Rattle.setchain.specs.Years.{lowYears, highYears, lowShare, highShare, lowMean, highMean, lowTotal, highTotal}
+use Rattle.setchain.specs.Picks.{Matrix, product, exactMean, exactTotal}
+
+-- a list read by state
+abbrev pub from : List ℕ → ℕ → ℕ
+from l j = getD l j 0
+
+-- "Row lower .1 .2 .3, upper .5 .6 .4 of ONE, payoff 30 10 20"
+abbrev pub uppers : ℕ → ℕ
+uppers = from (500000000 ∷ 600000000 ∷ 400000000 ∷ [])
+
+abbrev pub exampleRow : IntervalRow
+exampleRow = record { lower = from (100000000 ∷ 200000000 ∷ 300000000 ∷ []); upper = uppers }
+
+-- "Lower all 0"
+abbrev pub bareRow : IntervalRow
+bareRow = record { lower = from (0 ∷ 0 ∷ 0 ∷ []); upper = uppers }
+
+abbrev pub payoff : ℕ → ℕ
+payoff = from (30 ∷ 10 ∷ 20 ∷ [])
+
+pub record StepExamples : Type 0 where
+  pub low : lowStep 3 exampleRow payoff ≡ 15
+  pub high : highStep 3 exampleRow payoff ≡ 23
+  pub bareLow : lowStep 3 bareRow payoff ≡ 14
+  pub bareHigh : highStep 3 bareRow payoff ≡ 24
+
+pub step-examples : StepExamples
+unfolding lowStep highStep fillRow roomBefore sumTo onlyIf
+step-examples = record { low = refl; high = refl; bareLow = refl; bareHigh = refl }
+
+-- from state 0: half stays in the first year, and all return to state 0 in the second
+abbrev spread : Matrix
+spread i = record { over = 2; entry = from (1 ∷ 1 ∷ []) }
+
+abbrev gathering : Matrix
+gathering i = record { over = 1; entry = from (1 ∷ 0 ∷ []) }
+
+-- first year leftmost: spread, then gathered, leaves all in state 0; gathered, then spread, leaves half
+pub record OrderExample : Type 0 where
+  pub gathered : product 2 (spread ∷ gathering ∷ []) 0 0 .num ≡ product 2 (spread ∷ gathering ∷ []) 0 0 .den
+  pub spreadOut : product 2 (gathering ∷ spread ∷ []) 0 0 .num * 2 ≡ product 2 (gathering ∷ spread ∷ []) 0 0 .den
+
+pub order-example : OrderExample
+unfolding product sumFractions onlyIf
+order-example = record { gathered = refl; spreadOut = refl }
+
+-- the total of two premiums 10 and 20 over the same picks: 10 in year 0 and 15 in year 1
+pub record TotalExample : Type 0 where
+  pub total : exactTotal 2 (from (10 ∷ 20 ∷ [])) (spread ∷ gathering ∷ []) 0 .num ≡ 25 * exactTotal 2 (from (10 ∷ 20 ∷ [])) (spread ∷ gathering ∷ []) 0 .den
+
+pub total-example : TotalExample
+unfolding exactTotal exactMean product sumFractions onlyIf
+total-example = record { total = refl }
+
+-- Example A's interval rows (document 01, "Sheet program and examples") and premiums
+abbrev pub chainA : SetChain
+chainA =
+    record {
+      states = 2;
+      row = λ i.
+          elim i [
+            | zero ↦ record { lower = from (900000000 ∷ 0 ∷ []); upper = from (1000000000 ∷ 50000000 ∷ []) }
+            | suc k ↦ record { lower = from (800000000 ∷ 100000000 ∷ []); upper = from (900000000 ∷ 250000000 ∷ []) }
+          ];
+    }
+
+abbrev pub premiumA : ℕ → ℕ
+premiumA = from (10000 ∷ 15000 ∷ [])
+
+-- its figures from class 2, which is state 1
+pub record FiguresA : Type 0 where
+  pub share1 : (lowShare chainA 0 2 1 ≡ 920000000) × (highShare chainA 0 2 1 ≡ 990000000)
+  pub share2 : (lowShare chainA 1 2 1 ≡ 10000000) × (highShare chainA 1 2 1 ≡ 80000000)
+  pub mean : (lowMean chainA premiumA 2 1 ≡ 10050) × (highMean chainA premiumA 2 1 ≡ 10400)
+  pub total : (lowTotal chainA premiumA 2 1 ≡ 25500) × (highTotal chainA premiumA 2 1 ≡ 26000)
+
+pub figures-a : FiguresA
+unfolding lowYears highYears lowStep highStep fillRow roomBefore sumTo onlyIf
+figures-a = record { share1 = (refl, refl); share2 = (refl, refl); mean = (refl, refl); total = (refl, refl) }
