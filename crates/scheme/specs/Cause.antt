@@ -52,8 +52,7 @@ causeWhere s moneyOut =
     (cond (startOut s) 5
     (cond (horizonOut s) 6
     (cond (ruleOut s) 7
-    (cond (bandOut s) 8
-    (cond (sumOut s) 9
+    (cond (bandOut s) 8 (cond (sumOut s) 9
     (cond moneyOut 10 0))))))
 
 -- the first cause that applies to the scheme by itself, or 0

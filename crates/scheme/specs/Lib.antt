@@ -4,4 +4,5 @@ pub mod Accepted
 pub mod Cause
 pub mod Stages
 pub mod Rows
+pub mod Examples
 pub mod Laws
