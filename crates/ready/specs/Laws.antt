@@ -69,18 +69,6 @@ tenths-most number i =
     chosen-all (λ l. getD l i 0 ≤ 3953) number scale1 scale2 scale3
     (all-up-to 3953 scale1 tt i) (all-up-to 3953 scale2 tt i) (all-up-to 3953 scale3 tt i)
 
--- lists written by a rule
-pub length-tab : (n : ℕ) (f : ℕ → ℕ) → length (tab n f) ≡ n
-unfolding tab
-length-tab zero f = refl
-length-tab (suc n) f = ap suc (length-tab n (λ k. f (suc k)))
-
-pub getD-tab : (n : ℕ) (f : ℕ → ℕ) (i : ℕ) → i < n → getD (tab n f) i 0 ≡ f i
-unfolding tab
-getD-tab zero f i h = absurd (not-suc-le-zero h)
-getD-tab (suc n) f zero h = refl
-getD-tab (suc n) f (suc i) h = getD-tab n (λ k. f (suc k)) i (le-of-suc-le-suc h)
-
 -- the rule's tests
 module _ (number place : ℕ) where
   pub rule-out : classesOf number ≤ place / 8 → ruleEntry number place ≡ 0

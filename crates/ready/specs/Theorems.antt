@@ -17,7 +17,8 @@ use Rattle.ready.specs.Scales.{classesOf, factorOf, premiumOf}
 use Rattle.ready.specs.Moves.{movedClass}
 use Rattle.ready.specs.Ready.{ruleEntry, premiumEntry, readyScheme}
 use Rattle.ready.specs.Answer.{Offered, readyAnswer}
-use Rattle.ready.specs.Laws.{classes-least, classes-most, product-most, getD-tab, rule-in, premium-in, offered}
+use Rattle.scheme.specs.Laws.Tab.{getD-tab}
+use Rattle.ready.specs.Laws.{classes-least, classes-most, product-most, rule-in, premium-in, offered}
 
 module _ (number base : ℕ) where
   -- the rule of class i + 1 and column k
@@ -28,23 +29,23 @@ module _ (number base : ℕ) where
       let m = classes-most number in
       let d : (i * 8 + k) / 8 ≡ i = omega arith in
       let r : (i * 8 + k) % 8 ≡ k = omega arith in
-      getD-tab 256 (ruleEntry number) (i * 8 + k) (omega arith) ∙ rw (d, r) at (rule-in number (i * 8 + k) (omega arith) (omega arith))
+      getD-tab 256 (ruleEntry number) (i * 8 + k) 0 (omega arith) ∙ rw (d, r) at (rule-in number (i * 8 + k) (omega arith) (omega arith))
 
   -- the band of column k
   pub lower-at : (i k : ℕ) → k < 5 → lowerAt (readyScheme number base) i k ≡ 0
   unfolding readyScheme
-  lower-at i k l = getD-tab 8 (λ j. 0) k (omega arith)
+  lower-at i k l = getD-tab 8 (λ j. 0) k 0 (omega arith)
 
   pub upper-at : (i k : ℕ) → k < 5 → upperAt (readyScheme number base) i k ≡ ONE
   unfolding readyScheme
-  upper-at i k l = getD-tab 8 (λ j. cond (ltb j 5) ONE 0) k (omega arith) ∙ rw (lt-ltb k 5 l)
+  upper-at i k l = getD-tab 8 (λ j. cond (ltb j 5) ONE 0) k 0 (omega arith) ∙ rw (lt-ltb k 5 l)
 
   -- the premium of class i + 1
   pub premium-at : (i : ℕ) → i < classesOf number → premiumAt (readyScheme number base) i ≡ premiumOf number base i
   unfolding readyScheme
   premium-at i h =
       let m = classes-most number in
-      getD-tab 32 (premiumEntry number base) i (omega arith) ∙ premium-in number base i h
+      getD-tab 32 (premiumEntry number base) i 0 (omega arith) ∙ premium-in number base i h
 
   size-fits : SizeFits (readyScheme number base)
   unfolding readyScheme

@@ -7,3 +7,4 @@ pub mod Tab
 pub mod Rows
 pub mod Clear
 pub mod Entries
+pub mod Filled

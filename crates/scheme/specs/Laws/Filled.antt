@@ -1,14 +1,13 @@
 -- A list filled from the front by a rule, one store a turn: of any length, by any rule.
--- Assumes nothing.
 use Prim.Native.Nat.{ℕ, _+_, _≤_, _<_}
-use mathlib.Core.Path.{_≡_, sym, _∙_}
+use mathlib.Core.Path.{_≡_, _∙_}
 use mathlib.Core.List.{List}
 use lib.ListN.{length, getD, set, replicate, length-set, length-replicate}
-use lib.Seq.{ext-getD, getD-set-same, getD-set-other}
+use lib.Seq.{getD-set-same, getD-set-other}
 use native.Mathlib.Omega.{arith}
 use borrow.Author.Count.{below-none, below-more}
 use Rattle.scheme.specs.Tables.{tab}
-use Rattle.ready.specs.Laws.{length-tab, getD-tab}
+use Rattle.scheme.specs.Laws.Tab.{as-tab}
 
 -- the list has n entries, and those below i are the rule's
 pub record Filled (n : ℕ) (f : ℕ → ℕ) (i : ℕ) (a : List ℕ) : Type 0 where
@@ -29,6 +28,4 @@ fill-more n f i a v h e r =
     }
 
 pub fill-all : (n : ℕ) (f : ℕ → ℕ) (i : ℕ) (a : List ℕ) → n ≤ i → Filled n f i a → a ≡ tab n f
-fill-all n f i a h r =
-    ext-getD 0 a (tab n f) (r .long ∙ sym (length-tab n f))
-    (λ k l. let b : k < n = omega arith in r .done k (omega arith) ∙ sym (getD-tab n f k b))
+fill-all n f i a h r = as-tab 0 a n f (r .long) (λ k l. r .done k (omega arith))
