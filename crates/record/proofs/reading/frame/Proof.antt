@@ -1,0 +1,63 @@
+-- `reading::frame` meets its contract: the header's causes, then the shape's.
+use mathlib.Core.Path.{_≡_, ap₂, sym, _∙_}
+use native.Mathlib.Omega.{arith}
+use Rattle.scheme.specs.Cause.{orElse}
+use Rattle.record.specs.Read.{versionCause, fieldCause}
+use Rattle.record.specs.Laws.Frame.{head-long, frame-head, frame-shape}
+use borrow.Author.Needs.{needs}
+use Rattle.record.proofs.reading.frame.Statement.{statement}
+use Rattle.record.proofs.reading.frame.Tie as tie
+
+head : (c : tie.After-first)
+    → c .first .result ≡ orElse (versionCause (c .before .before .before .before .args .bytes .now)) (fieldCause (c .before .before .before .before .args .bytes .now))
+head c = c .first .ensures ∙ ap₂ (λ a b. orElse a b) (c .before .before .version-cause .ensures) (c .before .field-cause .ensures)
+
+none : (c : tie.Else1)
+    → orElse (versionCause (c .before .before .before .before .before .args .bytes .now)) (fieldCause (c .before .before .before .before .before .args .bytes .now)) ≡ 0
+none c = sym (head (c .before)) ∙ c .if1 .left
+
+version-cause-requires : tie.Need-version-cause-requires
+version-cause-requires c κs = search needs
+
+field-cause-requires : tie.Need-field-cause-requires
+field-cause-requires c κs = search needs
+
+first-requires : tie.Need-first-requires
+first-requires c κs = search needs
+
+returns : tie.Need-returns
+returns c = frame-head _ (head (c .before)) (c .if1 .taken)
+
+shared-slice-read-classes : tie.Need-shared-slice-read-classes
+shared-slice-read-classes c = omega (arith, head-long (c .before .before .before .before .before .before .args .bytes .now) (none (c .before)))
+
+shared-slice-read-columns : tie.Need-shared-slice-read-columns
+shared-slice-read-columns c = omega (arith, head-long (c .before .before .before .before .before .before .before .args .bytes .now) (none (c .before .before)))
+
+size-cause-requires : tie.Need-size-cause-requires
+size-cause-requires c κs = search needs
+
+length-cause-requires : tie.Need-length-cause-requires
+length-cause-requires c κs = search needs
+
+first-requires-2 : tie.Need-first-requires-2
+first-requires-2 c κs = search needs
+
+returns-2 : tie.Need-returns-2
+returns-2 c =
+    frame-shape _ (none (c .before .before .before .before .before)) (c .first2 .ensures ∙ ap₂ (λ a b. orElse a b) (c .before .before .size-cause .ensures) (c .before .length-cause .ensures))
+
+pub frame-spec : {M : Type 1} → statement M
+frame-spec =
+    tie.close
+    (tie.spec
+    version-cause-requires
+    field-cause-requires
+    first-requires
+    returns
+    shared-slice-read-classes
+    shared-slice-read-columns
+    size-cause-requires
+    length-cause-requires
+    first-requires-2
+    returns-2)

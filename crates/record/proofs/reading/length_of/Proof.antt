@@ -1,0 +1,55 @@
+-- `reading::length_of` meets its contract.
+use Prim.Native.Nat.{_*_, _≤_}
+use native.Mathlib.Omega.{arith}
+use native.Mathlib.Nat.{mul-le-mul}
+use borrow.Author.Needs.{needs}
+use Rattle.record.proofs.reading.length_of.Statement.{statement}
+use Rattle.record.proofs.reading.length_of.Tie as tie
+
+-- s × m fits
+product : (c : tie.After-count2) → c .before .count .result * c .count2 .result ≤ 255 * 255
+product c =
+    let s : c .before .count .result ≤ 255 = omega arith in
+    let m : c .count2 .result ≤ 255 = omega arith in
+    mul-le-mul s m
+
+count-requires : tie.Need-count-requires
+count-requires c κs = search needs
+
+count-requires-2 : tie.Need-count-requires-2
+count-requires-2 c κs = search needs
+
+mul-result : tie.Need-mul-result
+mul-result c = omega (arith, product c)
+
+add-result : tie.Need-add-result
+add-result c = omega (arith, product c)
+
+mul-result-2 : tie.Need-mul-result-2
+mul-result-2 c = search needs
+
+add-result-2 : tie.Need-add-result-2
+add-result-2 c = omega (arith, product c)
+
+mul-result-3 : tie.Need-mul-result-3
+mul-result-3 c = search needs
+
+add-result-3 : tie.Need-add-result-3
+add-result-3 c = omega (arith, product c)
+
+returns : tie.Need-returns
+returns c = rw (c .before .count .ensures .0, c .count2 .ensures .0)
+
+pub length-of-spec : {M : Type 1} → statement M
+length-of-spec =
+    tie.close
+    (tie.spec
+    count-requires
+    count-requires-2
+    mul-result
+    add-result
+    mul-result-2
+    add-result-2
+    mul-result-3
+    add-result-3
+    returns)

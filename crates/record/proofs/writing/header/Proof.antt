@@ -1,0 +1,53 @@
+-- `writing::header` meets its contract: the seven bytes in order.
+use mathlib.Core.Path.{_≡_}
+use native.Mathlib.Omega.{arith}
+use lib.ListN.{length, length-set}
+use lib.Seq.{length-sets}
+use Rattle.record.specs.Laws.Numbers.{put-header}
+use borrow.Author.Needs.{needs}
+use Rattle.record.proofs.writing.header.Statement.{statement}
+use Rattle.record.proofs.writing.header.Tie as tie
+
+size : (c : tie.After-slice-known2) → length (c .before .before .put2 .last .0) ≡ length (c .before .before .before .before .before .args .out .now)
+size c = rw (c .before .before .put2 .ensures) (simp (length-sets, length-set))
+
+slice-write-out : tie.Need-slice-write-out
+slice-write-out c = search needs
+
+cast-put2 : tie.Need-cast-put2
+cast-put2 c = search needs
+
+put2-requires : tie.Need-put2-requires
+put2-requires c κs = simp length-set (omega arith)
+
+slice-write-out-2 : tie.Need-slice-write-out-2
+slice-write-out-2 c = omega (arith, size c)
+
+slice-write-out-3 : tie.Need-slice-write-out-3
+slice-write-out-3 c = simp length-set (omega (arith, size c))
+
+slice-write-out-4 : tie.Need-slice-write-out-4
+slice-write-out-4 c = simp length-set (omega (arith, size c))
+
+slice-write-out-5 : tie.Need-slice-write-out-5
+slice-write-out-5 c = simp length-set (omega (arith, size c))
+
+same-length : tie.Need-same-length
+same-length c = simp length-set (size c)
+
+returns : tie.Need-returns
+returns c = rw (c .before .before .put2 .ensures) (put-header _ _ _ _ _ _)
+
+pub header-spec : {M : Type 1} → statement M
+header-spec =
+    tie.close
+    (tie.spec
+    slice-write-out
+    cast-put2
+    put2-requires
+    slice-write-out-2
+    slice-write-out-3
+    slice-write-out-4
+    slice-write-out-5
+    same-length
+    returns)

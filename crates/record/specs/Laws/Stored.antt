@@ -1,0 +1,101 @@
+-- Arrays filled entry by entry or row by row, with 0 beyond what is filled.
+use Prim.Native.Nat.{ℕ, _+_, _*_, _-_, _/_, _%_, _≤_, _<_}
+use mathlib.Core.Path.{_≡_, ap, sym, _∙_}
+use mathlib.Core.List.{List}
+use mathlib.Core.Logic.{_⊎_, inl, inr, ⊎-elim}
+use native.Mathlib.Decide.{decLt, ℕ-discrete}
+use native.Mathlib.Omega.{arith}
+use lib.ListN.{length, getD, set, replicate, length-set, length-replicate, getD-replicate}
+use lib.Seq.{sets, length-sets, getD-set-same, getD-set-other}
+use borrow.Author.Tests.{lt-ltb, le-ltb}
+use Rattle.scheme.specs.Tables.{tab}
+use Rattle.record.specs.Stored.{upTo, rulesUpTo}
+use Rattle.scheme.specs.Laws.Tab.{length-tab, getD-tab, as-tab}
+use Rattle.record.specs.Laws.Lists.{sets-below, sets-within, sets-past}
+
+-- one of two orders holds
+pub split : (a b : ℕ) → (a < b) ⊎ (b ≤ a)
+split a b = by (decLt a b)
+  where
+    by : Dec (a < b) → (a < b) ⊎ (b ≤ a)
+    by (yes h) = inl h
+    by (no h) = inr (omega arith)
+
+pub upTo-below : (n : ℕ) (f : ℕ → ℕ) (k : ℕ) → k < n → upTo n f k ≡ f k
+unfolding upTo
+upTo-below n f k h = rw (lt-ltb k n h)
+
+pub upTo-past : (n : ℕ) (f : ℕ → ℕ) (k : ℕ) → n ≤ k → upTo n f k ≡ 0
+unfolding upTo
+upTo-past n f k h = rw (le-ltb k n h)
+
+pub upTo-eq : (n : ℕ) (f g : ℕ → ℕ) → ((k : ℕ) → k < n → f k ≡ g k) → (k : ℕ) → upTo n f k ≡ upTo n g k
+upTo-eq n f g h k =
+    ⊎-elim (λ lt. upTo-below n f k lt ∙ h k lt ∙ sym (upTo-below n g k lt)) (λ le. upTo-past n f k le ∙ sym (upTo-past n g k le)) (split k n)
+
+-- an array of 0 has none of its entries filled
+pub fill-none : (n : ℕ) (f : ℕ → ℕ) → replicate n 0 ≡ tab n (upTo 0 f)
+fill-none n f =
+    as-tab 0 (replicate n 0) n (upTo 0 f) (length-replicate n 0) (λ k lt. getD-replicate n k 0 0 lt ∙ sym (upTo-past 0 f k (omega arith)))
+
+-- one more entry
+pub fill-more : (n k : ℕ) (f : ℕ → ℕ) (l : List ℕ) (x : ℕ) → k < n → l ≡ tab n (upTo k f) → x ≡ f k → set l k x ≡ tab n (upTo (k + 1) f)
+fill-more n k f l x lt filled e = as-tab 0 (set l k x) n (upTo (k + 1) f) (length-set l k x ∙ size) (λ j jn. entry j jn (ℕ-discrete j k))
+  where
+    size : length l ≡ n
+    size = ap length filled ∙ length-tab n (upTo k f)
+
+    was : (j : ℕ) → j < n → getD l j 0 ≡ upTo k f j
+    was j jn = ap (λ a. getD a j 0) filled ∙ getD-tab n (upTo k f) j 0 jn
+
+    entry : (j : ℕ) → j < n → Dec (j ≡ k) → getD (set l k x) j 0 ≡ upTo (k + 1) f j
+    entry j jn (yes same) =
+        rw same (getD-set-same l k x 0 (omega (arith, size)) ∙ e ∙ sym (upTo-below (k + 1) f k (omega arith)))
+    entry j jn (no other) =
+        getD-set-other l k j x 0 other ∙ was j jn
+        ∙ ⊎-elim (λ below. upTo-below k f j below ∙ sym (upTo-below (k + 1) f j (omega arith)))
+        (λ past. upTo-past k f j past ∙ sym (upTo-past (k + 1) f j (omega arith)))
+        (split j k)
+
+-- an array of 0 has no row of rules
+pub rows-none : (m : ℕ) (rule : ℕ → ℕ → ℕ) → replicate 256 0 ≡ tab 256 (rulesUpTo 0 m rule)
+rows-none m rule =
+    as-tab 0 (replicate 256 0) 256 (rulesUpTo 0 m rule) (length-replicate {A = ℕ} 256 0)
+    (λ q lt. getD-replicate 256 q 0 0 lt ∙ sym (upTo-past 0 (λ i. upTo m (rule i) (q % 8)) (q / 8) (omega arith)))
+
+-- one more row of rules, m of 8 places
+pub rows-more : (i m : ℕ) (rule : ℕ → ℕ → ℕ) (l row : List ℕ) → i < 32 → m ≤ 8 → length row ≡ m → ((k : ℕ) → k < m → getD row k 0 ≡ rule i k)
+    → l ≡ tab 256 (rulesUpTo i m rule) → sets l (i * 8) row ≡ tab 256 (rulesUpTo (i + 1) m rule)
+rows-more i m rule l row lt most size holds filled =
+    as-tab 0 (sets l (i * 8) row) 256 (rulesUpTo (i + 1) m rule) (length-sets l (i * 8) row ∙ whole)
+    (λ q q256. ⊎-elim (before q q256) (λ past. ⊎-elim (within q past) (beyond q q256) (split q (i * 8 + m))) (split q (i * 8)))
+  where
+    whole : length l ≡ 256
+    whole = ap length filled ∙ length-tab 256 (rulesUpTo i m rule)
+
+    was : (q : ℕ) → q < 256 → getD l q 0 ≡ rulesUpTo i m rule q
+    was q lt = ap (λ a. getD a q 0) filled ∙ getD-tab 256 (rulesUpTo i m rule) q 0 lt
+
+    columns : ℕ → ℕ → ℕ
+    columns q j = upTo m (rule j) (q % 8)
+
+    before : (q : ℕ) → q < 256 → q < i * 8 → getD (sets l (i * 8) row) q 0 ≡ rulesUpTo (i + 1) m rule q
+    before q q256 less =
+        sets-below l (i * 8) row q less ∙ was q q256 ∙ upTo-below i (columns q) (q / 8) (omega arith)
+        ∙ sym (upTo-below (i + 1) (columns q) (q / 8) (omega arith))
+
+    within : (q : ℕ) → i * 8 ≤ q → q < i * 8 + m → getD (sets l (i * 8) row) q 0 ≡ rulesUpTo (i + 1) m rule q
+    within q from less =
+        let k : ℕ = q - i * 8 in
+        let there : q ≡ i * 8 + k = omega arith in
+        let class : q / 8 ≡ i = omega arith in
+        let column : q % 8 ≡ k = omega arith in
+        ap (λ p. getD (sets l (i * 8) row) p 0) there ∙ sets-within l (i * 8) row k (omega (arith, whole)) (omega arith) ∙ holds k (omega arith)
+        ∙ sym (upTo-below (i + 1) (columns q) (q / 8) (omega arith) ∙ upTo-below m (rule (q / 8)) (q % 8) (omega arith) ∙ ap (λ j. rule j (q % 8)) class ∙ ap (rule i) column)
+
+    beyond : (q : ℕ) → q < 256 → i * 8 + m ≤ q → getD (sets l (i * 8) row) q 0 ≡ rulesUpTo (i + 1) m rule q
+    beyond q q256 past =
+        sets-past l (i * 8) row q (omega arith) ∙ was q q256 ∙ upTo-past i (columns q) (q / 8) (omega arith)
+        ∙ sym (⊎-elim (λ here. upTo-below (i + 1) (columns q) (q / 8) here ∙ upTo-past m (rule (q / 8)) (q % 8) (omega arith))
+        (λ later. upTo-past (i + 1) (columns q) (q / 8) later)
+        (split (q / 8) (i + 1)))

@@ -1,0 +1,121 @@
+// The record of document 01: bytes to a scheme and back, and the rule row of a class.
+ghost use mathlib.Core.Path.{_≡_};
+ghost use Rattle.record.specs.Read.{readCause, declinedWith, readAnswer};
+ghost use Rattle.record.specs.RuleRow.{rowCause, ruleRow};
+ghost use Rattle.record.specs.Write.{writeAnswer, writeLeaves};
+use scheme::Scheme;
+
+mod numbers;
+mod reading;
+mod writing;
+
+// The refusal numbers of document 01, "When a call is declined", that only a record brings.
+pub const VERSION_OUT: u8 = 1;
+
+pub const FIELD_OUT: u8 = 2;
+
+pub const LENGTH_OUT: u8 = 4;
+
+pub const SLICE_OUT: u8 = 13;
+
+// What reading a record answers: number 0 and the scheme, or the cause and a scheme of 0.
+pub struct ReadAnswer {
+    pub number: u8,
+    pub scheme: Scheme,
+}
+
+// What writing a record answers: the record's length, or the cause.
+pub enum WriteAnswer {
+    Written(usize),
+    Declined(u8),
+}
+
+// The answer of a declined reading.
+fn declined(number: u8) -> ReadAnswer
+    ensures { λ r. ⌜ r ≡ declinedWith number ⌝ }
+{
+    let scheme = Scheme {
+        classes: 0,
+        columns: 0,
+        start: 0,
+        horizon: 0,
+        rules: [0; 256],
+        lowers: [0; 8],
+        uppers: [0; 8],
+        premiums: [0; 32],
+    };
+    ReadAnswer { number, scheme }
+}
+
+// Reads a record: any bytes, of any length.
+pub fn read(bytes: &[u8]) -> ReadAnswer
+    ensures { λ r. ⌜ r ≡ readAnswer (now (bytes .entry)) ⌝ }
+{
+    let frame = reading::frame(bytes);
+    if frame != 0 {
+        return declined(frame);
+    }
+    let scheme = reading::parsed(bytes);
+    let number = scheme::cause(scheme);
+    if number != 0 {
+        return declined(number);
+    }
+    ReadAnswer { number, scheme }
+}
+
+// The first cause of the bytes, or 0.
+fn cause_in(bytes: &[u8]) -> u8
+    ensures { λ r. ⌜ r ≡ readCause (now (bytes .entry)) ⌝ }
+{
+    let frame = reading::frame(bytes);
+    if frame != 0 {
+        return frame;
+    }
+    scheme::cause(reading::parsed(bytes))
+}
+
+// The first cause of a rule row, or 0.
+fn row_cause(bytes: &[u8], class: u64) -> u8
+    ensures { λ r. ⌜ r ≡ rowCause (now (bytes .entry)) class ⌝ }
+{
+    let number = cause_in(bytes);
+    if number != 0 {
+        return number;
+    }
+    if class == 0 {
+        return scheme::CLASS_OUT;
+    }
+    let classes = numbers::wide(bytes[3]);
+    if classes < class {
+        return scheme::CLASS_OUT;
+    }
+    0
+}
+
+// The rule row of a class: the part of the record that holds it, or an empty part for every cause.
+pub fn rule_row(bytes: &[u8], class: u64) -> &[u8]
+    ensures { λ r. ⌜ now r ≡ ruleRow (now (bytes .entry)) class ⌝ }
+{
+    if row_cause(bytes, class) != 0 {
+        return &bytes[0..0];
+    }
+    let columns = numbers::count(bytes[4]);
+    let start = 7 + ((class - 1) as usize) * columns;
+    &bytes[start..start + columns]
+}
+
+// Writes the record of a scheme into the slice, and leaves bytes past it unchanged; declined, all of them.
+pub fn write(scheme: Scheme, out: &mut [u8]) -> WriteAnswer
+    ensures { λ r. ⌜ (r ≡ writeAnswer scheme (now (out .entry))) × (now (out .exit) ≡ writeLeaves scheme (now (out .entry))) ⌝ }
+{
+    let number = scheme::cause(scheme);
+    if number != 0 {
+        return WriteAnswer::Declined(number);
+    }
+    let size = reading::length_of(scheme.classes, scheme.columns);
+    if out.len() < size {
+        return WriteAnswer::Declined(SLICE_OUT);
+    }
+    writing::whole(scheme, out, size);
+    WriteAnswer::Written(size)
+}
