@@ -4,3 +4,12 @@ pub mod Sorting
 pub mod Summing
 pub mod Filling
 pub mod Reaching
+pub mod Agreeing
+pub mod Forming
+pub mod Running
+pub mod Causing
+pub mod Starting
+pub mod Answering
+pub mod Sheeting
+pub mod Solving
+pub mod AnsweringStep

@@ -1,4 +1,4 @@
--- A filled row has a certificate, so its figure is the step's.
+-- A filled row has a certificate, so it is extreme and its figure is the step's.
 -- Assumes nothing.
 use Prim.Native.Nat.{ℕ, _-_, _≤_, _<_}
 use mathlib.Core.Path.{_≡_, sym, _∙_}
@@ -9,8 +9,10 @@ use native.Mathlib.Decide.{ℕ-discrete, decLt}
 use native.Mathlib.Omega.{arith}
 use lib.ListN.{length}
 use Rattle.setchain.specs.Sums.{dot}
-use Rattle.setchain.specs.Rows.{IntervalRow, SoundRow}
+use Rattle.setchain.specs.Rows.{IntervalRow, SoundRow, ofParts}
+use Rattle.setchain.specs.Step.{Parts}
 use Rattle.setchain.specs.Certificate.{LowCertificate, HighCertificate}
+use Rattle.setchain.specs.Laws.Certificate.{low-certified, high-certified}
 use Rattle.setchain.specs.Laws.Step.{low-reached, high-reached, low-step-at-most, high-step-at-most}
 use Rattle.bounds.specs.Lists.{at, rowIn}
 use Rattle.bounds.specs.Order.{NotAfter, payoffAt, Stands}
@@ -68,30 +70,45 @@ module _ {lower upper payoff order : List ℕ} {d : Bool} {row₀ row : List ℕ
       absurd (h (rw e at (by-place (p .place) stop (omega (arith, p .early)) (w .stops)))))
       (w .rest j l)
 
+-- a filled row's certificate, for a low figure and for a high one
+low-cert : {lower upper payoff order row₀ row : List ℕ} {stop : ℕ}
+    → Steppable lower upper payoff order false row₀ → Filled lower upper order row stop
+    → LowCertificate (length lower) (rowIn lower upper) (at payoff) (at row)
+low-cert {payoff = payoff} {order = order} {stop = stop} s w =
+    record {
+      threshold = payoffAt payoff order stop;
+      filled = λ j l h. before-full s w j l (λ z. omega arith);
+      bare = λ j l h. after-bare s w j l (λ z. omega arith);
+    }
+
+high-cert : {lower upper payoff order row₀ row : List ℕ} {stop : ℕ}
+    → Steppable lower upper payoff order true row₀ → Filled lower upper order row stop
+    → HighCertificate (length lower) (rowIn lower upper) (at payoff) (at row)
+high-cert {payoff = payoff} {order = order} {stop = stop} s w =
+    record {
+      threshold = payoffAt payoff order stop;
+      filled = λ j l h. before-full s w j l (λ z. omega arith);
+      bare = λ j l h. after-bare s w j l (λ z. omega arith);
+    }
+
 -- the figure of a filled row is the step's
 step-reached : (d : Bool) {lower upper payoff order row₀ row : List ℕ} {stop : ℕ}
     → Steppable lower upper payoff order d row₀ → Filled lower upper order row stop
     → rounded d (dot (length lower) (at row) (at payoff)) ≡ stepFigure d (length lower) (rowIn lower upper) (at payoff)
 step-reached false {lower} {upper} {payoff} {order} {row₀} {row} {stop} s w =
-    sym (low-reached (length lower) (rowIn lower upper) (s .sound) (at payoff) (at row) (w .parts) cert)
-  where
-    cert : LowCertificate (length lower) (rowIn lower upper) (at payoff) (at row)
-    cert =
-        record {
-          threshold = payoffAt payoff order stop;
-          filled = λ j l h. before-full s w j l (λ z. omega arith);
-          bare = λ j l h. after-bare s w j l (λ z. omega arith);
-        }
+    sym (low-reached (length lower) (rowIn lower upper) (s .sound) (at payoff) (at row) (w .parts) (low-cert s w))
 step-reached true {lower} {upper} {payoff} {order} {row₀} {row} {stop} s w =
-    sym (high-reached (length lower) (rowIn lower upper) (s .sound) (at payoff) (at row) (w .parts) cert)
-  where
-    cert : HighCertificate (length lower) (rowIn lower upper) (at payoff) (at row)
-    cert =
-        record {
-          threshold = payoffAt payoff order stop;
-          filled = λ j l h. before-full s w j l (λ z. omega arith);
-          bare = λ j l h. after-bare s w j l (λ z. omega arith);
-        }
+    sym (high-reached (length lower) (rowIn lower upper) (s .sound) (at payoff) (at row) (w .parts) (high-cert s w))
+
+-- no row of whole parts inside comes before a filled row
+step-extreme : (d : Bool) {lower upper payoff order row₀ row : List ℕ} {stop : ℕ}
+    → Steppable lower upper payoff order d row₀ → Filled lower upper order row stop
+    → (p : ℕ → ℕ) → Parts (length lower) (rowIn lower upper) p
+    → NotAfter d (dot (length lower) (at row) (at payoff)) (dot (length lower) p (at payoff))
+step-extreme false {lower} {upper} {payoff} {order} {row₀} {row} {stop} s w p inside =
+    omega (arith, low-certified (length lower) (rowIn lower upper) (at payoff) (at row) (w .parts) (low-cert s w) (ofParts p) inside)
+step-extreme true {lower} {upper} {payoff} {order} {row₀} {row} {stop} s w p inside =
+    omega (arith, high-certified (length lower) (rowIn lower upper) (at payoff) (at row) (w .parts) (high-cert s w) (ofParts p) inside)
 
 -- a figure is at most the largest payoff
 figure-at-most : (d : Bool) (n : ℕ) (r : IntervalRow) (f : ℕ → ℕ) (b : ℕ) → SoundRow n r → ((j : ℕ) → j < n → f j ≤ b) → stepFigure d n r f ≤ b
@@ -109,6 +126,7 @@ stepped {lower} {upper} {payoff} {order} {d} {row₀} {row} {stop} {r} s w e =
       size = w .size;
       figure = f;
       parts = w .parts;
+      extreme = step-extreme d s w;
       reached = g;
       atMost = λ b h. rw f (figure-at-most d (length lower) (rowIn lower upper) (at payoff) b (s .sound) h);
     }

@@ -4,6 +4,11 @@ pub mod Order
 pub mod Fill
 pub mod Figure
 pub mod Step
+pub mod Years
 pub mod Answers
+pub mod Start
 pub mod Promises
+pub mod StepAnswer
+pub mod Solve
+pub mod StepExamples
 pub mod Laws

@@ -8,7 +8,7 @@ use Rattle.setchain.specs.Sums.{dot}
 use Rattle.setchain.specs.Rows.{SoundRow}
 use Rattle.setchain.specs.Step.{Parts}
 use Rattle.bounds.specs.Lists.{at, rowIn}
-use Rattle.bounds.specs.Order.{Arranged}
+use Rattle.bounds.specs.Order.{Arranged, NotAfter}
 use Rattle.bounds.specs.Figure.{rounded, stepFigure, LARGEST}
 
 -- lists of one length, a sound row, payoffs that are not too large, and an order of the classes by payoff
@@ -25,5 +25,7 @@ pub record Stepped (lower upper payoff : List ℕ) (falling : Bool) (row : List 
   pub size : length row ≡ length lower
   pub figure : r ≡ stepFigure falling (length lower) (rowIn lower upper) (at payoff)
   pub parts : Parts (length lower) (rowIn lower upper) (at row)
+  pub extreme : (p : ℕ → ℕ) → Parts (length lower) (rowIn lower upper) p
+      → NotAfter falling (dot (length lower) (at row) (at payoff)) (dot (length lower) p (at payoff))
   pub reached : r ≡ rounded falling (dot (length lower) (at row) (at payoff))
   pub atMost : (b : ℕ) → ((j : ℕ) → j < length lower → at payoff j ≤ b) → r ≤ b

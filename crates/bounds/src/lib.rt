@@ -1,11 +1,105 @@
-// The bounds of a scheme. So far the one-year step over slices, in private modules: for any number of states to 128.
+// The bounds of a scheme: the one-year step, shares, means and totals, with what they promise (document 01, "One year" and "Years").
+use scheme::Scheme;
+ghost use mathlib.Core.Path.{_≡_};
+ghost use mathlib.Core.Bool.{true, false};
+ghost use Rattle.bounds.specs.StepAnswer.{StepAnswered};
+ghost use Rattle.bounds.specs.Answers.{highShares, lowShares, meanAnswer, shareAnswer, sheetCause, sheetSlice, totalAnswer};
+ghost use Rattle.bounds.specs.Promises.{MeanPromise, SharePromise, SheetPromise, TotalPromise};
+
+mod answer_step;
+mod causes;
 mod figure;
 mod fill;
 mod order;
+mod payoffs;
+mod sheet;
+mod start;
 mod step;
+mod year;
+mod years;
 
 // What a call for bounds answers: low and high, or the number of the cause for which it is declined.
 pub enum Bounds {
     Answered { low: u64, high: u64 },
     Refused(u8),
+}
+
+// The share of a class after a number of years, in parts.
+pub fn share(scheme: Scheme, class: u64, year: u64) -> Bounds
+    ensures answer { λ r. ⌜ r ≡ shareAnswer scheme class year ⌝ }
+    ensures promise { λ r. ⌜ (SharePromise scheme class year r) ⌝ }
+{
+    let number = causes::share_cause(scheme, class, year);
+    if number != 0 {
+        return Bounds::Refused(number);
+    }
+    let payoff = payoffs::share_payoff(class);
+    let gain = [0u64; 32];
+    start::start_bounds(scheme, gain, payoff, year)
+}
+
+// The mean premium of a year, in cents.
+pub fn mean(scheme: Scheme, year: u64) -> Bounds
+    ensures answer { λ r. ⌜ r ≡ meanAnswer scheme year ⌝ }
+    ensures promise { λ r. ⌜ (MeanPromise scheme year r) ⌝ }
+{
+    let number = causes::money_cause(scheme, year);
+    if number != 0 {
+        return Bounds::Refused(number);
+    }
+    let premiums = scheme.premiums;
+    let payoff = payoffs::widened(premiums);
+    let gain = [0u64; 32];
+    start::start_bounds(scheme, gain, payoff, year)
+}
+
+// The total of as many premiums as there are years, in cents.
+pub fn total(scheme: Scheme, year: u64) -> Bounds
+    ensures answer { λ r. ⌜ r ≡ totalAnswer scheme year ⌝ }
+    ensures promise { λ r. ⌜ (TotalPromise scheme year r) ⌝ }
+{
+    let number = causes::money_cause(scheme, year);
+    if number != 0 {
+        return Bounds::Refused(number);
+    }
+    let premiums = scheme.premiums;
+    let gain = payoffs::widened(premiums);
+    let payoff = [0u64; 32];
+    start::start_bounds(scheme, gain, payoff, year)
+}
+
+// A year's share sheet: the low and the high share of each class, in parts. Returns the number of the cause, or 0.
+pub fn share_sheet(scheme: Scheme, year: u64, low: &mut [u64], high: &mut [u64]) -> u8
+    ensures answer { λ r. ⌜ r ≡ sheetCause scheme year (now (low .entry)) (now (high .entry)) ⌝ }
+    ensures lows { λ r. ⌜ now (low .exit) ≡ sheetSlice r (lowShares scheme year) (now (low .entry)) ⌝ }
+    ensures highs { λ r. ⌜ now (high .exit) ≡ sheetSlice r (highShares scheme year) (now (high .entry)) ⌝ }
+    ensures promise { λ r. ⌜ (SheetPromise scheme year r (now (low .exit)) (now (high .exit))) ⌝ }
+{
+    let number = causes::sheet_cause(scheme, year, low.len(), high.len());
+    if number != 0 {
+        return number;
+    }
+    sheet::write_shares(scheme, year, low, high);
+    0
+}
+
+// What the one-year step answers: the number of the cause for which it is declined, or 0; the figure; and a row that reaches it.
+pub struct StepAnswer {
+    pub number: u8,
+    pub figure: u64,
+    pub row: [u64; 32],
+}
+
+// The low step: the least figure of a class one year on, rounded down, and a row that reaches it unrounded.
+pub fn low_step(scheme: Scheme, payoff: [u64; 32], class: u64) -> StepAnswer
+    ensures { λ r. ⌜ StepAnswered false scheme payoff class r ⌝ }
+{
+    answer_step::answer(scheme, payoff, class, false)
+}
+
+// The high step: the greatest figure of a class one year on, rounded up, and a row that reaches it unrounded.
+pub fn high_step(scheme: Scheme, payoff: [u64; 32], class: u64) -> StepAnswer
+    ensures { λ r. ⌜ StepAnswered true scheme payoff class r ⌝ }
+{
+    answer_step::answer(scheme, payoff, class, true)
 }

@@ -1,6 +1,6 @@
 // The scheme of document 01, its acceptance, and its interval rows.
 ghost use mathlib.Core.Path.{_≡_};
-ghost use Rattle.scheme.specs.Cause.{causeOf};
+ghost use Rattle.scheme.specs.Cause.{causeOf, outside};
 ghost use Rattle.scheme.specs.Rows.{rowAnswer};
 
 pub mod gathering;
@@ -76,6 +76,13 @@ pub fn cause(scheme: Scheme) -> u8
     0
 }
 
+// Whether a class is not one of 1 to s: cause 11.
+pub fn class_out(classes: u8, class: u64) -> bool
+    ensures { λ r. ⌜ r ≡ outside classes class ⌝ }
+{
+    class == 0 || (classes as u64) < class
+}
+
 // The answer of the row operation: a refusal number or 0, and the lower and upper entries.
 pub struct RowAnswer {
     pub number: u8,
@@ -91,7 +98,7 @@ pub fn row(scheme: Scheme, class: u64) -> RowAnswer
     if number != 0 {
         return rows::refused(number);
     }
-    if rows::class_out(scheme.classes, class) {
+    if class_out(scheme.classes, class) {
         return rows::refused(CLASS_OUT);
     }
     let rules = scheme.rules;

@@ -1,7 +1,6 @@
 // The row operation's parts.
 ghost use mathlib.Core.Path.{_≡_};
 ghost use Prim.Native.Nat.{_-_, _≤_};
-ghost use Rattle.scheme.specs.Cause.{outside};
 ghost use Rattle.scheme.specs.Rows.{entriesOf, rowRefused, rowFrom};
 use crate::RowAnswer;
 use crate::gathering::gather;
@@ -15,13 +14,6 @@ pub fn entries(rules: &[u8], ends: &[u32], classes: u8) -> [u64; 32]
     let mut out = [0u64; 32];
     gather(rules, ends, &mut out[..n]);
     out
-}
-
-// a class is not one of 1 to s
-pub fn class_out(classes: u8, class: u64) -> bool
-    ensures { λ r. ⌜ r ≡ outside classes class ⌝ }
-{
-    class == 0 || (classes as u64) < class
 }
 
 // a refusal number, with 0 everywhere else

@@ -41,7 +41,7 @@ at-start s ok t low high exact p =
     within = omega (arith, ok .start .positive, ok .start .within)
 
 -- where the whole cause is 0, its first part is
-first-none : (a b : ℕ) → orElse a b ≡ 0 → a ≡ 0
+pub first-none : (a b : ℕ) → orElse a b ≡ 0 → a ≡ 0
 first-none a b e = by (ℕ-discrete a 0)
   where
     by : Dec (a ≡ 0) → a ≡ 0

@@ -123,13 +123,13 @@ module _ (s : Scheme) (ok : Accepted s) (i : ℕ) (l : i < s .classes) where
       sumTo-eq (s .columns) (λ k. onlyIf (eqb (ruleAt s i k) (suc j)) (band k)) (λ k. onlyIf (eqb (ruleAt s i k - 1) j) (band k))
       (λ k g. ap (λ b. onlyIf b (band k)) (same-test (ruleAt s i k) j (ok .rules .positive i k l g)))
 
-  lower-is : (j : ℕ) → gathered (take (s .columns) (drop (i * 8) (s .rules))) (take (s .columns) (s .lowers)) j ≡ chainOf s .row i .lower j
+  pub lower-is : (j : ℕ) → gathered (take (s .columns) (drop (i * 8) (s .rules))) (take (s .columns) (s .lowers)) j ≡ chainOf s .row i .lower j
   lower-is j =
       gathered-part (s .rules) (s .lowers) (s .columns) (i * 8) j
       ∙ ap (min ONE) (into (lowerAt s i) j)
       ∙ omega (arith, into-all (s .classes) (cellsOf s i) (accepted-cells s ok i l) j, ok .sums .lowers i l)
 
-  upper-is : (j : ℕ) → gathered (take (s .columns) (drop (i * 8) (s .rules))) (take (s .columns) (s .uppers)) j ≡ chainOf s .row i .upper j
+  pub upper-is : (j : ℕ) → gathered (take (s .columns) (drop (i * 8) (s .rules))) (take (s .columns) (s .uppers)) j ≡ chainOf s .row i .upper j
   upper-is j = gathered-part (s .rules) (s .uppers) (s .columns) (i * 8) j ∙ ap (min ONE) (into (upperAt s i) j)
 
   pub row-is : rowFrom (s .rules) (s .lowers) (s .uppers) (s .columns) (s .classes) i ≡ rowAt s i

@@ -1,7 +1,7 @@
 -- `class_out` meets its contract.
 use borrow.Author.Tests.{eq-eqb, ne-eqb}
-use Rattle.scheme.proofs.rows.class_out.Statement.{statement}
-use Rattle.scheme.proofs.rows.class_out.Tie as tie
+use Rattle.scheme.proofs.class_out.Statement.{statement}
+use Rattle.scheme.proofs.class_out.Tie as tie
 
 returns : tie.Need-returns
 returns c = simp (eq-eqb _ _ (c .if1 .taken))

@@ -1,0 +1,31 @@
+-- `total` answers by the definition, which keeps its promise.
+-- Assumes nothing.
+use mathlib.Core.Path.{ap, sym, _∙_}
+use Rattle.bounds.specs.Start.{startBounds}
+use Rattle.bounds.proofs.Forming.{zeros}
+use Rattle.bounds.proofs.Answering.{money-accepted, money-within, total-ready, total-declined, total-answered, total-both}
+use borrow.Author.Needs.{needs}
+use Rattle.bounds.proofs.total.Statement.{statement}
+use Rattle.bounds.proofs.total.Tie as tie
+
+money-cause-requires : tie.Need-money-cause-requires
+money-cause-requires c κs = search needs
+
+returns : tie.Need-returns
+returns c = total-both (c .before .before .args .scheme) (c .before .before .args .year) _ (total-declined (c .before .before .args .scheme) (c .before .before .args .year) _ (c .before .money-cause .ensures) (c .if1 .taken))
+
+widened-requires : tie.Need-widened-requires
+widened-requires c κs = search needs
+
+start-bounds-requires : tie.Need-start-bounds-requires
+start-bounds-requires c κs =
+    let none = sym (c .before .before .before .money-cause .ensures) ∙ c .before .before .if1 .left in
+    rw (c .widened .ensures) (total-ready (c .before .before .before .before .args .scheme) (money-accepted (c .before .before .before .before .args .scheme) (c .before .before .before .before .args .year) none) (c .before .before .before .before .args .year) (money-within (c .before .before .before .before .args .scheme) (c .before .before .before .before .args .year) none))
+
+returns-2 : tie.Need-returns-2
+returns-2 c = total-both (c .before .before .before .before .before .args .scheme) (c .before .before .before .before .before .args .year) _ (total-answered (c .before .before .before .before .before .args .scheme) (c .before .before .before .before .before .args .year) _ (c .before .before .before .before .money-cause .ensures) (c .before .before .before .if1 .left) (c .start-bounds .ensures ∙ ap (λ g. startBounds (c .before .before .before .before .before .args .scheme) g zeros (c .before .before .before .before .before .args .year)) (c .before .widened .ensures)))
+
+pub total-spec : {M : Type 1} → statement M
+total-spec =
+    tie.close
+    (tie.spec money-cause-requires returns widened-requires start-bounds-requires returns-2)
