@@ -1,2 +1,3 @@
 -- The theorems that the contracts cite.
 pub mod Kept
+pub mod Table

@@ -7,6 +7,7 @@ pub mod Step
 pub mod Years
 pub mod Answers
 pub mod Start
+pub mod Table
 pub mod Promises
 pub mod StepAnswer
 pub mod Solve
