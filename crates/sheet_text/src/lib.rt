@@ -1,0 +1,1 @@
+// The sheet of a record as text (document 01, "Sheet program and examples").
