@@ -1,0 +1,26 @@
+//! Bonus-malus bounds: schemes, interval rows, the one-year step, bounds over
+//! years, the record, the ready schemes and the sheet.
+//!
+//! Every operation that can be declined answers the number of the first cause
+//! that applies, and then leaves all lent slices as they were.
+
+#![forbid(unsafe_code)]
+
+mod ready;
+mod record;
+mod rows;
+mod scheme;
+mod sheet;
+mod step;
+mod years;
+
+pub use ready::ready;
+pub use record::{bands, open, read, rule_row, write, Bands};
+pub use rows::row;
+pub use scheme::{
+    cause, Figures, Scheme, MAX_BASE, MAX_CLASSES, MAX_COLUMNS, MAX_HORIZON, MAX_PAYOFF,
+    MAX_PREMIUM, MAX_RECORD, ONE,
+};
+pub use sheet::sheet;
+pub use step::{high_step, low_step};
+pub use years::{mean, share, share_sheet, total};

@@ -1,0 +1,10 @@
+//! Trials of the plain version: made-up schemes, records and payoffs, exact
+//! arithmetic over picked matrices, and a fixed family of answers.
+
+#![forbid(unsafe_code)]
+
+pub mod exact;
+pub mod family;
+pub mod made;
+pub mod picks;
+pub mod rng;

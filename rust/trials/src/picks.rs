@@ -1,0 +1,232 @@
+//! Picked stochastic rows and the exact figures of a list of matrices.
+
+use crate::exact::{Fraction, Nat};
+use crate::rng::Rng;
+use plain::{high_step, low_step, Figures, Scheme, ONE};
+
+/// A stochastic row: whole numbers, one for each class, that sum to `over`.
+#[derive(Clone, Debug)]
+pub struct Row {
+    pub parts: Vec<u64>,
+    pub over: u64,
+}
+
+/// One row for each class.
+pub type Matrix = Vec<Row>;
+
+/// Whether a row is stochastic and inside an interval row of its size.
+pub fn inside(lower: &Figures, upper: &Figures, row: &Row) -> bool {
+    let over = u128::from(row.over);
+    let fits = |((&part, &low), &high): ((&u64, &u64), &u64)| {
+        let part = u128::from(part) * u128::from(ONE);
+        u128::from(low) * over <= part && part <= u128::from(high) * over
+    };
+    row.over >= 1
+        && row.parts.iter().map(|&part| u128::from(part)).sum::<u128>() == over
+        && row.parts.iter().zip(lower).zip(upper).all(fits)
+}
+
+/// A random row over `over` inside the interval of a class, where there is one.
+pub fn random_row(rng: &mut Rng, scheme: &Scheme, class: u64, over: u64) -> Option<Row> {
+    let (lower, upper) = plain::row(scheme, class).expect("a class of the scheme");
+    let s = usize::from(scheme.classes);
+    let scaled = |end: u64| u128::from(end) * u128::from(over);
+    let least: Vec<u64> = lower[..s]
+        .iter()
+        .map(|&l| scaled(l).div_ceil(u128::from(ONE)) as u64)
+        .collect();
+    let most: Vec<u64> = upper[..s]
+        .iter()
+        .map(|&u| (scaled(u) / u128::from(ONE)) as u64)
+        .collect();
+    if least.iter().zip(&most).any(|(l, u)| l > u) {
+        return None;
+    }
+    let used: u128 = least.iter().map(|&l| u128::from(l)).sum();
+    let mut rest = u128::from(over).checked_sub(used)?;
+    let mut room: u128 = least
+        .iter()
+        .zip(&most)
+        .map(|(l, u)| u128::from(u - l))
+        .sum();
+    if rest > room {
+        return None;
+    }
+
+    let mut parts = least.clone();
+    let mut places: Vec<usize> = (0..s).collect();
+    rng.shuffle(&mut places);
+    for j in places {
+        let here = u128::from(most[j] - least[j]);
+        room -= here;
+        // What the places after this one cannot take, and what there is.
+        let need = rest.saturating_sub(room) as u64;
+        let can = here.min(rest) as u64;
+        let given = match rng.below(4) {
+            0 => need,
+            1 => can,
+            _ => rng.between(need, can),
+        };
+        parts[j] += given;
+        rest -= u128::from(given);
+    }
+    let row = Row { parts, over };
+    assert!(inside(&lower, &upper, &row));
+    Some(row)
+}
+
+/// A row for a class: over a small or large number, extreme, or a mixture of
+/// two rows over ONE.
+pub fn any_row(rng: &mut Rng, scheme: &Scheme, class: u64) -> Row {
+    for _ in 0..4 {
+        let over = match rng.below(6) {
+            0 | 1 => rng.between(1, 12),
+            2 => rng.between(1, 100_000),
+            3 => rng.between(1, u64::MAX),
+            4 => rng.pick(&[1, 2, 10, 1000, ONE - 1, ONE, ONE + 1, u64::MAX]),
+            _ => return mixture(rng, scheme, class),
+        };
+        if let Some(row) = random_row(rng, scheme, class, over) {
+            return row;
+        }
+    }
+    random_row(rng, scheme, class, ONE).expect("a row of whole parts")
+}
+
+/// Two rows over ONE, extreme or random, mixed in whole weights.
+fn mixture(rng: &mut Rng, scheme: &Scheme, class: u64) -> Row {
+    let payoff = crate::made::payoff(rng, scheme.classes);
+    let low = extreme_row(scheme, &payoff, class, false);
+    let other = match rng.below(3) {
+        0 => extreme_row(scheme, &payoff, class, true),
+        1 => random_row(rng, scheme, class, ONE).expect("a row of whole parts"),
+        _ => return low,
+    };
+    let (a, b) = (rng.between(0, 9), rng.between(1, 9));
+    let parts = low
+        .parts
+        .iter()
+        .zip(&other.parts)
+        .map(|(x, y)| a * x + b * y)
+        .collect();
+    Row {
+        parts,
+        over: (a + b) * ONE,
+    }
+}
+
+/// The row that a step hands back, as a pick.
+fn extreme_row(scheme: &Scheme, payoff: &Figures, class: u64, high: bool) -> Row {
+    let step = if high { high_step } else { low_step };
+    let (_, row) = step(scheme, payoff, class).expect("a step");
+    Row {
+        parts: row[..usize::from(scheme.classes)].to_vec(),
+        over: ONE,
+    }
+}
+
+/// Random picks for `years` years.
+pub fn any_picks(rng: &mut Rng, scheme: &Scheme, years: u64) -> Vec<Matrix> {
+    let classes = 1..=u64::from(scheme.classes);
+    (0..years)
+        .map(|_| {
+            classes
+                .clone()
+                .map(|class| any_row(rng, scheme, class))
+                .collect()
+        })
+        .collect()
+}
+
+/// The picks that follow the steps of a bound: the matrix of the first year is
+/// made of the rows of the last step. With `added` the figures of each year
+/// get these added, as in a total.
+pub fn extreme_picks(
+    scheme: &Scheme,
+    payoff: &Figures,
+    added: Option<&Figures>,
+    years: u64,
+    high: bool,
+) -> Vec<Matrix> {
+    let step = if high { high_step } else { low_step };
+    let s = usize::from(scheme.classes);
+    let mut figures = *payoff;
+    let mut picks = Vec::new();
+    for _ in 0..years {
+        let mut next = [0; 32];
+        let mut matrix = Vec::new();
+        for i in 0..s {
+            let (figure, row) = step(scheme, &figures, i as u64 + 1).expect("a step");
+            next[i] = figure + added.map_or(0, |added| added[i]);
+            matrix.push(Row {
+                parts: row[..s].to_vec(),
+                over: ONE,
+            });
+        }
+        figures = next;
+        picks.push(matrix);
+    }
+    picks.reverse();
+    picks
+}
+
+/// The exact shares of all classes: the start class's row in the product of
+/// the matrices, first year leftmost.
+pub fn exact_shares(scheme: &Scheme, picks: &[Matrix]) -> Vec<Fraction> {
+    let s = usize::from(scheme.classes);
+    let mut numerators = vec![Nat::from(0u64); s];
+    numerators[usize::from(scheme.start) - 1] = Nat::from(1u64);
+    let mut denominator = Nat::from(1u64);
+    for matrix in picks {
+        // One denominator for the year: that of all rows, or their product.
+        let same = matrix.iter().all(|row| row.over == matrix[0].over);
+        let scale = |i: usize| match same {
+            true => Nat::from(1u64),
+            false => product(
+                (0..s)
+                    .filter(|&other| other != i)
+                    .map(|other| matrix[other].over),
+            ),
+        };
+        let mut next = vec![Nat::from(0u64); s];
+        for (i, row) in matrix.iter().enumerate() {
+            let weight = numerators[i].mul(&scale(i));
+            for (sum, &part) in next.iter_mut().zip(&row.parts) {
+                *sum = sum.add(&weight.mul_small(part));
+            }
+        }
+        numerators = next;
+        denominator = match same {
+            true => denominator.mul_small(matrix[0].over),
+            false => denominator.mul(&product(matrix.iter().map(|row| row.over))),
+        };
+    }
+    let fraction = |numerator| Fraction {
+        numerator,
+        denominator: denominator.clone(),
+    };
+    numerators.into_iter().map(fraction).collect()
+}
+
+fn product(factors: impl Iterator<Item = u64>) -> Nat {
+    factors.fold(Nat::from(1u64), |product, factor| product.mul_small(factor))
+}
+
+/// The exact mean premium after the picked years.
+pub fn exact_mean(scheme: &Scheme, picks: &[Matrix]) -> Fraction {
+    let shares = exact_shares(scheme, picks);
+    let mut numerator = Nat::from(0u64);
+    for (share, &premium) in shares.iter().zip(&scheme.premiums) {
+        numerator = numerator.add(&share.numerator.mul_small(u64::from(premium)));
+    }
+    Fraction {
+        numerator,
+        denominator: shares[0].denominator.clone(),
+    }
+}
+
+/// The exact total of as many premiums as there are picked years.
+pub fn exact_total(scheme: &Scheme, picks: &[Matrix]) -> Fraction {
+    let means = (0..picks.len()).map(|years| exact_mean(scheme, &picks[..years]));
+    means.fold(Fraction::whole(0), |sum, mean| sum.add(&mean))
+}

@@ -1,0 +1,178 @@
+//! Demand 3 by exact arithmetic: no picks leave the bounds, and some come
+//! within t of each.
+
+use plain::{mean, share, share_sheet, total, Scheme, MAX_HORIZON, ONE};
+use std::cmp::Ordering;
+use trials::exact::{Fraction, Nat};
+use trials::made;
+use trials::picks::{
+    any_picks, any_row, exact_mean, exact_shares, exact_total, extreme_picks, inside, Matrix,
+};
+use trials::rng::Rng;
+
+#[test]
+fn naturals() {
+    let mut rng = Rng::new(21);
+    for _ in 0..2_000 {
+        let mut number = || rng.draw() >> rng.below(64);
+        let (a, b, c) = (number(), number(), number());
+        let nat = |value: u64| Nat::from(value);
+        assert_eq!(
+            nat(a).add(&nat(b)),
+            Nat::from(u128::from(a) + u128::from(b))
+        );
+        assert_eq!(
+            nat(a).mul(&nat(b)),
+            Nat::from(u128::from(a) * u128::from(b))
+        );
+        assert_eq!(nat(a).cmp(&nat(b)), a.cmp(&b));
+        let (ab, bc) = (nat(a).mul_small(b), nat(b).mul_small(c));
+        assert_eq!(ab.mul_small(c), bc.mul(&nat(a)));
+        let long = ab.mul(&bc).mul(&ab);
+        let left = long.mul(&ab.add(&bc));
+        assert_eq!(left, long.mul(&ab).add(&long.mul(&bc)));
+        assert_eq!(
+            ab.cmp(&bc),
+            long.mul(&ab).cmp(&long.mul(&bc)).then(ab.cmp(&bc))
+        );
+
+        let (d, e) = (c | 1, b | 1);
+        let part = |top: u64, bottom: u64| Fraction {
+            numerator: nat(top),
+            denominator: nat(bottom),
+        };
+        let order = (u128::from(a) * u128::from(e)).cmp(&(u128::from(b) * u128::from(d)));
+        assert_eq!(part(a, d).compare(&part(b, e)), order);
+        let sum = part(a, d).add(&part(b, e));
+        let turned = part(b, e).add(&part(a, d));
+        assert_eq!(sum.compare(&turned), Ordering::Equal);
+        assert!(part(a, d).between(a / d, a.div_ceil(d)));
+    }
+}
+
+/// Checks all bounds of a year against picks for it.
+fn check_inside(scheme: &Scheme, year: u64, picks: &[Matrix]) {
+    let s = usize::from(scheme.classes);
+    let (mut low, mut high) = (vec![0; s], vec![0; s]);
+    share_sheet(scheme, year, &mut low, &mut high).unwrap();
+    for (j, exact) in exact_shares(scheme, picks).iter().enumerate() {
+        assert_eq!(share(scheme, j as u64 + 1, year), Ok((low[j], high[j])));
+        assert!(
+            exact.times(ONE).between(low[j], high[j]),
+            "{scheme:?} {year} {picks:?}"
+        );
+    }
+    let (low, high) = mean(scheme, year).unwrap();
+    assert!(
+        exact_mean(scheme, picks).between(low, high),
+        "{scheme:?} {year} {picks:?}"
+    );
+    let (low, high) = total(scheme, year).unwrap();
+    assert!(
+        exact_total(scheme, picks).between(low, high),
+        "{scheme:?} {year} {picks:?}"
+    );
+}
+
+fn small_scheme(rng: &mut Rng) -> Scheme {
+    let s = rng.between(1, 4) as u8;
+    let m = rng.between(1, 8) as u8;
+    let mut scheme = made::scheme_of(rng, s, m);
+    scheme.horizon = 4;
+    scheme
+}
+
+#[test]
+fn rows_inside() {
+    let mut rng = Rng::new(22);
+    let mut small = 0;
+    for _ in 0..4_000 {
+        let scheme = made::scheme(&mut rng);
+        let class = rng.between(1, u64::from(scheme.classes));
+        let (lower, upper) = plain::row(&scheme, class).unwrap();
+        let picked = any_row(&mut rng, &scheme, class);
+        assert!(inside(&lower, &upper, &picked));
+        small += u64::from(picked.over < 100);
+    }
+    assert!(small > 400);
+}
+
+#[test]
+fn no_picks_leave() {
+    let mut rng = Rng::new(23);
+    for _ in 0..6_000 {
+        let scheme = small_scheme(&mut rng);
+        for year in 0..=4 {
+            let picks = any_picks(&mut rng, &scheme, year);
+            check_inside(&scheme, year, &picks);
+        }
+    }
+}
+
+/// Checks that the extreme picks of each bound come within `year` of it, and
+/// leave no bound where `all` is set.
+fn check_close(scheme: &Scheme, year: u64, classes: &[usize], all: bool) {
+    let s = usize::from(scheme.classes);
+    let mut premiums = [0; 32];
+    for (figure, &premium) in premiums.iter_mut().zip(&scheme.premiums[..s]) {
+        *figure = u64::from(premium);
+    }
+    for high in [false, true] {
+        // The picks of a low bound lie from it to `year` above, those of a
+        // high bound from `year` below to it.
+        let near = |exact: &Fraction, (low, top): (u64, u64)| match high {
+            false => exact.between(low, low + year),
+            true => exact.between(top.saturating_sub(year), top),
+        };
+        for &j in classes {
+            let mut payoff = [0; 32];
+            payoff[j] = ONE;
+            let picks = extreme_picks(scheme, &payoff, None, year, high);
+            let exact = exact_shares(scheme, &picks)[j].times(ONE);
+            assert!(near(&exact, share(scheme, j as u64 + 1, year).unwrap()));
+            if all {
+                check_inside(scheme, year, &picks);
+            }
+        }
+        let picks = extreme_picks(scheme, &premiums, None, year, high);
+        assert!(near(
+            &exact_mean(scheme, &picks),
+            mean(scheme, year).unwrap()
+        ));
+        if all {
+            check_inside(scheme, year, &picks);
+        }
+        let picks = extreme_picks(scheme, &[0; 32], Some(&premiums), year, high);
+        assert!(near(
+            &exact_total(scheme, &picks),
+            total(scheme, year).unwrap()
+        ));
+        if all {
+            check_inside(scheme, year, &picks);
+        }
+    }
+}
+
+#[test]
+fn extreme_picks_come_close() {
+    let mut rng = Rng::new(24);
+    for _ in 0..1_000 {
+        let scheme = small_scheme(&mut rng);
+        let classes: Vec<usize> = (0..usize::from(scheme.classes)).collect();
+        for year in 0..=4 {
+            check_close(&scheme, year, &classes, true);
+        }
+    }
+}
+
+#[test]
+fn extreme_picks_come_close_on_larger_schemes() {
+    let mut rng = Rng::new(25);
+    for _ in 0..150 {
+        let mut scheme = made::scheme(&mut rng);
+        scheme.horizon = MAX_HORIZON;
+        let year = rng.between(5, 12);
+        let class = rng.below(u64::from(scheme.classes)) as usize;
+        check_close(&scheme, year, &[class], false);
+    }
+}
