@@ -11,5 +11,5 @@ pub mod Table
 pub mod Promises
 pub mod StepAnswer
 pub mod Solve
-pub mod StepExamples
+pub mod Examples
 pub mod Laws

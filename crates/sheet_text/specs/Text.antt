@@ -7,7 +7,7 @@ use lib.Dec.{ltb}
 -- the decimal digits of x, at most as many as `most`
 unfoldable pub digitsWithin : ℕ → ℕ → List ℕ
 digitsWithin zero x = []
-digitsWithin (suc most) x = cond (ltb x 10) (48 + x ∷ []) (digitsWithin most (x / 10) ++ (48 + x % 10 ∷ []))
+digitsWithin (suc most) x = cond (ltb x 10) ((48 + x) ∷ []) (digitsWithin most (x / 10) ++ ((48 + x % 10) ∷ []))
 
 -- "Numbers print in decimal without leading zeros": a 64-bit number has at most 20 digits
 abbrev pub decimal : ℕ → List ℕ

@@ -8,10 +8,10 @@ use lib.ListN.{getD}
 use native.Mathlib.Decide.{ℕ-discrete}
 use native.Mathlib.Omega.{arith}
 use Rattle.setchain.specs.Fractions.{Fraction}
-use Rattle.setchain.specs.Picks.{Matrix, exactMean, exactTotal}
+use Rattle.setchain.specs.Picks.{Matrix, PicksFor, exactMean, exactTotal}
 use Rattle.setchain.specs.Years.{lowShare, highShare, lowMean, highMean, lowTotal, highTotal}
 use Rattle.setchain.specs.Promise.{shareInParts, Promise}
-use Rattle.setchain.specs.Theorems.{share-promise, mean-promise, total-promise}
+use Rattle.setchain.specs.Theorems.{share-promise, mean-promise, total-promise, some-picks}
 use Rattle.scheme.specs.declared.Scheme.{Scheme}
 use Rattle.scheme.specs.Tables.{tab}
 use Rattle.scheme.specs.Access.{premiumAt}
@@ -108,3 +108,7 @@ sheet-kept s year low high z j l =
 
     ok : Accepted s
     ok = accepted-cause s (first-none (causeOf s) (yearCause s year) (first-none (moneyCause s year) (sliceCause s low high) z))
+
+-- the promises are not empty: picks for any number of years exist
+pub picks-exist : (s : Scheme) → Accepted s → (t : ℕ) → (ps : List Matrix) × PicksFor (chainOf s) t ps
+picks-exist s ok t = some-picks (chainOf s) (accepted-sound s ok) t
