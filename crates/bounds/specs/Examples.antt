@@ -30,14 +30,14 @@ use Rattle.bounds.specs.Answers.{answerBy, startOf, shareCause, shareAns
 abbrev pub schemeThirds : Scheme
 schemeThirds =
     record {
-      classes = 2
-      ; columns = 2
-      ; start = 1
-      ; horizon = 1
-      ; rules = padded 246 (1 ∷ 2 ∷ 0 ∷ 0 ∷ 0 ∷ 0 ∷ 0 ∷ 0 ∷ 1 ∷ 2 ∷ [])
-      ; lowers = padded 6 (333333333 ∷ 666666667 ∷ [])
-      ; uppers = padded 6 (333333333 ∷ 666666667 ∷ [])
-      ; premiums = padded 30 (10 ∷ 11 ∷ [])
+      classes = 2;
+      columns = 2;
+      start = 1;
+      horizon = 1;
+      rules = padded 246 (1 ∷ 2 ∷ 0 ∷ 0 ∷ 0 ∷ 0 ∷ 0 ∷ 0 ∷ 1 ∷ 2 ∷ []);
+      lowers = padded 6 (333333333 ∷ 666666667 ∷ []);
+      uppers = padded 6 (333333333 ∷ 666666667 ∷ []);
+      premiums = padded 30 (10 ∷ 11 ∷ []);
     }
 
 -- with one state the row is ONE, so a step changes nothing
@@ -120,15 +120,15 @@ pub document-examples : DocumentExamples
 unfolding shareAnswer meanAnswer totalAnswer causeWhere sizeOut startOut horizonOut ruleOut bandOut sumOut premiumOut anyBelow lowYears highYears lowStep highStep fillRow roomBefore sumTo onlyIf
 document-examples =
     record {
-      rows = rows-a
-      ; year1Class1 = refl
-      ; year1Class2 = refl
-      ; year2Class1 = refl
-      ; year2Class2 = refl
-      ; year2Mean = refl
-      ; total = refl
-      ; steps = step-examples
-      ; oneClass = one-class
-      ; horizonZero = horizon-zero
-      ; thirds = refl
+      rows = rows-a;
+      year1Class1 = refl;
+      year1Class2 = refl;
+      year2Class1 = refl;
+      year2Class2 = refl;
+      year2Mean = refl;
+      total = refl;
+      steps = step-examples;
+      oneClass = one-class;
+      horizonZero = horizon-zero;
+      thirds = refl;
     }
