@@ -1,18 +1,28 @@
 -- Interval rows, payoffs and gains that agree on the states of a chain give the same figures, which stay within the payoffs' and the gains' bounds.
 -- Assumes nothing.
 use Prim.Native.Nat.{ℕ, zero, suc, _+_, _*_, _≤_, _<_}
-use mathlib.Core.Path.{_≡_, refl, ap, ap₂, sym, _∙_, subst}
+use mathlib.Core.Path.{_≡_, refl, ap, ap₂, sym, _∙_}
 use mathlib.Core.Bool.{Bool, true, false}
 use native.Mathlib.Omega.{arith}
-use native.Mathlib.Nat.{le-trans}
-use Rattle.setchain.specs.Sums.{sumTo}
-use Rattle.setchain.specs.Rows.{ONE, IntervalRow, SoundRow, SetChain, SoundChain}
+use Rattle.setchain.specs.Rows.{IntervalRow, SoundRow, SetChain, SoundChain}
 use Rattle.setchain.specs.Step.{Parts, lowStep, highStep}
 use Rattle.setchain.specs.Years.{lowYears, highYears}
 use Rattle.setchain.specs.Laws.Sums.{sumTo-eq}
 use Rattle.setchain.specs.Laws.Step.{low-figure, high-figure, low-figure-only, high-figure-only, low-step-same, high-step-same, low-step-at-most, high-step-at-most}
 use Rattle.bounds.specs.Figure.{stepFigure}
 use Rattle.bounds.specs.Years.{yearFigure, yearsFigure}
+
+-- no year and one year more
+pub years-none : (falling : Bool) (c : SetChain) (payoff gain : ℕ → ℕ) (i : ℕ) → yearsFigure falling c payoff gain 0 i ≡ payoff i
+unfolding lowYears highYears
+years-none false c payoff gain i = refl
+years-none true c payoff gain i = refl
+
+pub years-more : (falling : Bool) (c : SetChain) (payoff gain : ℕ → ℕ) (t i : ℕ)
+    → yearsFigure falling c payoff gain (suc t) i ≡ yearFigure falling c gain (yearsFigure falling c payoff gain t) i
+unfolding lowYears highYears
+years-more false c payoff gain t i = refl
+years-more true c payoff gain t i = refl
 
 -- two rows have the same entries for the first n states
 pub record Agree (n : ℕ) (r q : IntervalRow) : Type 0 where
@@ -77,18 +87,6 @@ pub step-at-most : (falling : Bool) (n : ℕ) (r : IntervalRow) → SoundRow n r
     → stepFigure falling n r f ≤ b
 step-at-most false n r s f b h = low-step-at-most n r s f b h
 step-at-most true n r s f b h = high-step-at-most n r s f b h
-
--- no year and one year more
-pub years-none : (falling : Bool) (c : SetChain) (payoff gain : ℕ → ℕ) (i : ℕ) → yearsFigure falling c payoff gain 0 i ≡ payoff i
-unfolding lowYears highYears
-years-none false c payoff gain i = refl
-years-none true c payoff gain i = refl
-
-pub years-more : (falling : Bool) (c : SetChain) (payoff gain : ℕ → ℕ) (t i : ℕ)
-    → yearsFigure falling c payoff gain (suc t) i ≡ yearFigure falling c gain (yearsFigure falling c payoff gain t) i
-unfolding lowYears highYears
-years-more false c payoff gain t i = refl
-years-more true c payoff gain t i = refl
 
 -- a year's figure from figures that are known
 pub years-next : (falling : Bool) (c : SetChain) → SoundChain c → (payoff gain f : ℕ → ℕ) (t i : ℕ) → i < c .states

@@ -1,16 +1,15 @@
 -- The public calls: what a cause of 0 tells, which figures they start from, and their answers in each case.
 -- Assumes nothing.
-use Prim.Native.Nat.{ℕ, _+_, _-_, _*_, _≤_, _<_}
+use Prim.Native.Nat.{ℕ, _-_, _≤_, _<_}
 use mathlib.Core.Path.{_≡_, refl, ap, ap₂, sym, _∙_, subst}
 use mathlib.Core.Bool.{Bool, true, false, cond}
 use mathlib.Core.List.{List}
 use native.Mathlib.Omega.{arith}
 use lib.Dec.{eqb, ltb}
-use lib.ListN.{length, replicate, getD-replicate}
+use lib.ListN.{getD-replicate}
 use borrow.Author.Tests.{ltb-false}
-use Rattle.setchain.specs.Sums.{onlyIf}
-use Rattle.setchain.specs.Rows.{ONE, SetChain}
-use Rattle.setchain.specs.Years.{nothing, sharePayoff, lowShare, highShare}
+use Rattle.setchain.specs.Rows.{ONE}
+use Rattle.setchain.specs.Years.{nothing, sharePayoff}
 use Rattle.setchain.specs.Laws.Sums.{onlyIf-le}
 use Rattle.scheme.specs.declared.Scheme.{Scheme}
 use Rattle.scheme.specs.Access.{premiumAt}
@@ -23,9 +22,8 @@ use Rattle.scheme.specs.Laws.Sound.{accepted-sound}
 use Rattle.bounds.specs.declared.Bounds.{Bounds}
 use Rattle.bounds.specs.declared.Bounds.the-variants.{Answered, Refused}
 use Rattle.bounds.specs.Lists.{at}
-use Rattle.bounds.specs.Figure.{LARGEST}
 use Rattle.bounds.specs.Years.{yearsFigure}
-use Rattle.bounds.specs.Start.{Roomy, Ready, startFigure, startBounds, ShareHeld}
+use Rattle.bounds.specs.Start.{Ready, startFigure, startBounds, ShareHeld}
 use Rattle.bounds.specs.Answers.{answerBy, startOf, shareCause, shareAnswer, moneyCause, meanAnswer, totalAnswer}
 use Rattle.bounds.specs.Promises.{SharePromise, MeanPromise, TotalPromise}
 use Rattle.bounds.specs.Laws.Kept.{first-none, share-kept, mean-kept, total-kept}

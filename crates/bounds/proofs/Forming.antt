@@ -7,7 +7,9 @@ use mathlib.Core.List.{List, _++_}
 use native.Mathlib.Omega.{arith}
 use lib.ListN.{length, take, drop, replicate, length-append, List·getD-append}
 use lib.Seq.{length-take-le, take-at, getD-take}
-use Rattle.setchain.specs.Rows.{IntervalRow, SoundRow}
+use mir.Syntax.{w64}
+use mir.Val.{Fits}
+use Rattle.setchain.specs.Rows.{SoundRow}
 use Rattle.scheme.specs.Tables.{tab}
 use Rattle.scheme.specs.Rows.{gathered}
 use Rattle.scheme.specs.Laws.Tab.{length-tab, getD-tab}
@@ -115,6 +117,9 @@ module _ {rules lowers uppers gain before order : List ℕ} {falling : Bool} {fi
         small = w .small;
         arranged = w .arranged;
       }
+
+  pub form-fits : {r : ℕ} → i < length before → r ≤ LARGEST → Fits w64 (at gain i + r)
+  form-fits l h = omega (arith, w .rises i l)
 
   pub form-figure : {r : ℕ} → Figured (take (i * 8 + length lowers - i * 8) (drop (i * 8) rules)) lowers uppers before falling r
       → at gain i + r ≡ yearFigure falling (chainIn (length before) rules lowers uppers) (at gain) (at before) i

@@ -7,7 +7,6 @@ pub mod Reaching
 pub mod Agreeing
 pub mod Forming
 pub mod Running
-pub mod Causing
 pub mod Starting
 pub mod Answering
 pub mod Sheeting

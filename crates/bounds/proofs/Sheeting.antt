@@ -10,14 +10,12 @@ use lib.ListN.{length, set}
 use borrow.Author.Tests.{eqb-true}
 use Rattle.setchain.specs.Years.{sharePayoff, nothing}
 use Rattle.scheme.specs.declared.Scheme.{Scheme}
-use Rattle.scheme.specs.Tables.{tab}
 use Rattle.scheme.specs.Accepted.{Accepted}
-use Rattle.scheme.specs.Cause.{causeOf, orElse, yearCause}
+use Rattle.scheme.specs.Cause.{orElse}
 use Rattle.scheme.specs.Rows.{chainOf}
-use Rattle.scheme.specs.Laws.Cause.{declined, answered}
+use Rattle.scheme.specs.Laws.Cause.{declined}
 use Rattle.scheme.specs.Laws.Tab.{as-tab}
 use Rattle.scheme.specs.Laws.Tables.{or-false-left, or-false-right}
-use Rattle.bounds.specs.Lists.{at}
 use Rattle.bounds.specs.Years.{yearsFigure}
 use Rattle.bounds.specs.Start.{startFigure, ShareHeld, Sheeted}
 use Rattle.bounds.specs.Answers.{startOf, moneyCause, sliceCause, sheetCause, sheetSlice, lowShares, highShares}

@@ -1,28 +1,25 @@
 -- The start class's figure: from the parts that a scheme stores to the scheme's own chain.
 -- Assumes nothing.
-use Prim.Native.Nat.{ℕ, _+_, _-_, _*_, _≤_, _<_}
+use Prim.Native.Nat.{ℕ, _-_, _≤_, _<_}
 use mathlib.Core.Path.{_≡_, refl, ap, sym, _∙_, subst}
-use mathlib.Core.Bool.{Bool, true, false}
+use mathlib.Core.Bool.{Bool}
 use mathlib.Core.List.{List}
 use native.Mathlib.Decide.{ℕ-discrete}
 use native.Mathlib.Omega.{arith}
 use lib.Dec.{eqb}
-use lib.ListN.{length, take, set, replicate, getD-replicate}
+use lib.ListN.{length, take, set, getD-replicate}
 use lib.Seq.{length-take-le, getD-take, getD-set-same, getD-set-other}
 use borrow.Author.Tests.{eq-eqb, ne-eqb}
-use Rattle.setchain.specs.Sums.{onlyIf}
-use Rattle.setchain.specs.Rows.{ONE, SoundRow, SetChain, SoundChain}
+use Rattle.setchain.specs.Rows.{ONE, SetChain, SoundChain}
 use Rattle.setchain.specs.Years.{sharePayoff}
 use Rattle.setchain.specs.Laws.Sums.{onlyIf-true, onlyIf-false}
 use Rattle.scheme.specs.declared.Scheme.{Scheme}
-use Rattle.scheme.specs.Accepted.{Accepted}
 use Rattle.scheme.specs.Rows.{chainOf}
 use Rattle.scheme.specs.Laws.Sound.{accepted-sound}
 use Rattle.scheme.specs.Laws.Entries.{lower-is, upper-is}
 use Rattle.bounds.specs.Lists.{at}
-use Rattle.bounds.specs.Figure.{LARGEST}
-use Rattle.bounds.specs.Years.{rulesOf, gatheredRow, chainBy, chainIn, yearsFigure, Held, Runnable, Ran}
-use Rattle.bounds.specs.Start.{Roomy, chainStored, Startable, Ready, startFigure, ShareHeld}
+use Rattle.bounds.specs.Years.{chainBy, chainIn, yearsFigure, Runnable, Ran}
+use Rattle.bounds.specs.Start.{chainStored, Startable, Ready, startFigure, ShareHeld}
 use Rattle.bounds.specs.Answers.{startOf}
 use Rattle.bounds.proofs.Agreeing.{Agree, sound-same, years-same}
 use Rattle.bounds.proofs.Forming.{zeros}

@@ -5,12 +5,12 @@ use mathlib.Core.Bool.{Bool, true, false}
 use mathlib.Core.List.{List}
 use lib.ListN.{length, take}
 use Rattle.setchain.specs.Rows.{SetChain, SoundChain}
-use Rattle.setchain.specs.Years.{sharePayoff, nothing}
+use Rattle.setchain.specs.Years.{sharePayoff}
 use Rattle.scheme.specs.declared.Scheme.{Scheme}
 use Rattle.scheme.specs.Accepted.{Accepted}
 use Rattle.scheme.specs.Rows.{chainOf}
 use Rattle.bounds.specs.declared.Bounds.{Bounds}
-use Rattle.bounds.specs.declared.Bounds.the-variants.{Answered, Refused}
+use Rattle.bounds.specs.declared.Bounds.the-variants.{Answered}
 use Rattle.bounds.specs.Lists.{at}
 use Rattle.bounds.specs.Figure.{LARGEST}
 use Rattle.bounds.specs.Years.{chainBy, yearsFigure}

@@ -9,64 +9,74 @@ ghost use Rattle.bounds.specs.Answers.{moneyCause, shareCause};
 // A sheet slice not of s numbers.
 pub const SLICE_OUT: u8 = 13;
 
-// The year is above the horizon.
-fn year_out(horizon: u8, year: u64) -> bool
-    ensures { λ r. ⌜ r ≡ ltb horizon year ⌝ }
+// The first of two causes, where 0 is none.
+fn or_else(first: u8, second: u8) -> u8
+    ensures { λ r. ⌜ r ≡ orElse first second ⌝ }
 {
-    (horizon as u64) < year
+    if first == 0 { second } else { first }
 }
 
-// A slice of some length is not of s numbers.
-fn slice_out(classes: u8, length: usize) -> bool
-    ensures { λ r. ⌜ r ≡ not (eqb length classes) ⌝ }
+// Cause 11: a class that is not one of 1 to s.
+fn class_cause(classes: u8, class: u64) -> u8
+    ensures { λ r. ⌜ r ≡ cond (outside classes class) 11 0 ⌝ }
 {
-    length != classes as usize
+    if class == 0 {
+        return scheme::CLASS_OUT;
+    }
+    if (classes as u64) < class {
+        return scheme::CLASS_OUT;
+    }
+    0
+}
+
+// Cause 12: a year above the horizon.
+fn year_cause(horizon: u8, year: u64) -> u8
+    ensures { λ r. ⌜ r ≡ cond (ltb horizon year) 12 0 ⌝ }
+{
+    if (horizon as u64) < year {
+        return scheme::YEAR_OUT;
+    }
+    0
+}
+
+// Cause 13: one of two slices is not of s numbers.
+fn slice_cause(classes: u8, low: usize, high: usize) -> u8
+    ensures { λ r. ⌜ r ≡ cond (not (eqb low classes) || not (eqb high classes)) 13 0 ⌝ }
+{
+    if low != classes as usize {
+        return SLICE_OUT;
+    }
+    if high != classes as usize {
+        return SLICE_OUT;
+    }
+    0
 }
 
 // The first cause of a call about money, or 0.
 pub fn money_cause(scheme: Scheme, year: u64) -> u8
     ensures { λ r. ⌜ r ≡ moneyCause scheme year ⌝ }
 {
-    let number = scheme::cause(scheme);
-    if number != 0 {
-        return number;
-    }
-    if year_out(scheme.horizon, year) {
-        return scheme::YEAR_OUT;
-    }
-    0
+    let own = scheme::cause(scheme);
+    let late = year_cause(scheme.horizon, year);
+    or_else(own, late)
 }
 
 // The first cause of a call about the share of a class, or 0.
 pub fn share_cause(scheme: Scheme, class: u64, year: u64) -> u8
     ensures { λ r. ⌜ r ≡ shareCause scheme class year ⌝ }
 {
-    let number = scheme::cause(scheme);
-    if number != 0 {
-        return number;
-    }
-    if scheme::class_out(scheme.classes, class) {
-        return scheme::CLASS_OUT;
-    }
-    if year_out(scheme.horizon, year) {
-        return scheme::YEAR_OUT;
-    }
-    0
+    let own = scheme::cause(scheme);
+    let out = class_cause(scheme.classes, class);
+    let late = year_cause(scheme.horizon, year);
+    let query = or_else(out, late);
+    or_else(own, query)
 }
 
 // The first cause of a call for a share sheet with slices of two lengths, or 0.
 pub fn sheet_cause(scheme: Scheme, year: u64, low: usize, high: usize) -> u8
     ensures { λ r. ⌜ r ≡ orElse (moneyCause scheme year) (cond (not (eqb low (scheme .classes)) || not (eqb high (scheme .classes))) 13 0) ⌝ }
 {
-    let number = money_cause(scheme, year);
-    if number != 0 {
-        return number;
-    }
-    if slice_out(scheme.classes, low) {
-        return SLICE_OUT;
-    }
-    if slice_out(scheme.classes, high) {
-        return SLICE_OUT;
-    }
-    0
+    let money = money_cause(scheme, year);
+    let slices = slice_cause(scheme.classes, low, high);
+    or_else(money, slices)
 }

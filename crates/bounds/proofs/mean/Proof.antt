@@ -18,7 +18,7 @@ widened-requires : tie.Need-widened-requires
 widened-requires c κs = search needs
 
 start-bounds-requires : tie.Need-start-bounds-requires
-start-bounds-requires c κs = rw (c .widened .ensures) (mean-ready (c .before .before .before .before .args .scheme) (money-accepted (c .before .before .before .before .args .scheme) (c .before .before .before .before .args .year) (sym (c .before .before .before .money-cause .ensures) ∙ c .before .before .if1 .left)) (c .before .before .before .before .args .year))
+start-bounds-requires c κs = rw (c .widened .ensures) (mean-ready (c .before .before .before .before .args .scheme) (money-accepted (c .before .before .before .before .args .scheme) (c .before .before .before .before .args .year) (sym (c .before .before .before .money-cause .ensures) ∙ c .before .before .if1 .left)) _)
 
 returns-2 : tie.Need-returns-2
 returns-2 c = mean-both (c .before .before .before .before .before .args .scheme) (c .before .before .before .before .before .args .year) _ (mean-answered (c .before .before .before .before .before .args .scheme) (c .before .before .before .before .before .args .year) _ (c .before .before .before .before .money-cause .ensures) (c .before .before .before .if1 .left) (c .start-bounds .ensures ∙ ap (λ p. startBounds (c .before .before .before .before .before .args .scheme) zeros p (c .before .before .before .before .before .args .year)) (c .before .widened .ensures)))

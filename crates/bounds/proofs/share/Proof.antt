@@ -16,7 +16,7 @@ share-payoff-requires : tie.Need-share-payoff-requires
 share-payoff-requires c κs = share-class (c .before .before .args .scheme) (c .before .before .args .class) (c .before .before .args .year) (sym (c .before .share-cause .ensures) ∙ c .if1 .left)
 
 start-bounds-requires : tie.Need-start-bounds-requires
-start-bounds-requires c κs = share-ready (c .before .before .before .args .scheme) (share-accepted (c .before .before .before .args .scheme) (c .before .before .before .args .class) (c .before .before .before .args .year) (sym (c .before .before .share-cause .ensures) ∙ c .before .if1 .left)) (c .share-payoff .ensures) (c .before .before .before .args .year)
+start-bounds-requires c κs = share-ready (c .before .before .before .args .scheme) (share-accepted (c .before .before .before .args .scheme) (c .before .before .before .args .class) (c .before .before .before .args .year) (sym (c .before .before .share-cause .ensures) ∙ c .before .if1 .left)) (c .share-payoff .ensures) _
 
 returns-2 : tie.Need-returns-2
 returns-2 c = share-both (c .before .before .before .before .args .scheme) (c .before .before .before .before .args .class) (c .before .before .before .before .args .year) _ (share-answered (c .before .before .before .before .args .scheme) (c .before .before .before .before .args .class) (c .before .before .before .before .args .year) _ (c .before .before .before .share-cause .ensures) (c .before .before .if1 .left) (c .before .share-payoff .ensures) (c .start-bounds .ensures))

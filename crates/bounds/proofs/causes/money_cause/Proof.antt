@@ -1,5 +1,6 @@
--- `money_cause` meets its contract: the tests are the definition's, in its order.
-use Rattle.bounds.proofs.Causing.{cause-hit, cause-on, test-hit, test-on}
+-- `money_cause` meets its contract: the causes are the definition's, in its order.
+use mathlib.Core.Path.{ap₂, _∙_}
+use Rattle.scheme.specs.Cause.{orElse}
 use borrow.Author.Needs.{needs}
 use Rattle.bounds.proofs.causes.money_cause.Statement.{statement}
 use Rattle.bounds.proofs.causes.money_cause.Tie as tie
@@ -7,18 +8,14 @@ use Rattle.bounds.proofs.causes.money_cause.Tie as tie
 cause-requires : tie.Need-cause-requires
 cause-requires c κs = search needs
 
+year-cause-requires : tie.Need-year-cause-requires
+year-cause-requires c κs = search needs
+
+or-else-requires : tie.Need-or-else-requires
+or-else-requires c κs = search needs
+
 returns : tie.Need-returns
-returns c = cause-hit _ _ _ (c .before .cause .ensures) (c .if1 .taken)
-
-year-out-requires : tie.Need-year-out-requires
-year-out-requires c κs = search needs
-
-returns-2 : tie.Need-returns-2
-returns-2 c = cause-on _ _ _ 12 (c .before .before .before .cause .ensures) (c .before .before .if1 .left) (test-hit _ _ 12 0 (c .before .year-out .ensures) (c .if2 .taken))
-
-returns-3 : tie.Need-returns-3
-returns-3 c = cause-on _ _ _ 0 (c .before .before .before .cause .ensures) (c .before .before .if1 .left) (test-on _ _ 12 0 (c .before .year-out .ensures) (c .if2 .left))
+returns c = c .or-else .ensures ∙ ap₂ (λ a b. orElse a b) (c .before .before .cause .ensures) (c .before .year-cause .ensures)
 
 pub money-cause-spec : {M : Type 1} → statement M
-money-cause-spec =
-    tie.close (tie.spec cause-requires returns year-out-requires returns-2 returns-3)
+money-cause-spec = tie.close (tie.spec cause-requires year-cause-requires or-else-requires returns)

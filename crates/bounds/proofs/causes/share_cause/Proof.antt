@@ -1,7 +1,6 @@
--- `share_cause` meets its contract: the tests are the definition's, in its order.
-use mathlib.Core.Path.{refl}
-use native.Mathlib.Omega.{arith}
-use Rattle.bounds.proofs.Causing.{cause-hit, cause-on, test-hit, test-on}
+-- `share_cause` meets its contract: the causes are the definition's, in its order.
+use mathlib.Core.Path.{ap₂, _∙_}
+use Rattle.scheme.specs.Cause.{orElse}
 use borrow.Author.Needs.{needs}
 use Rattle.bounds.proofs.causes.share_cause.Statement.{statement}
 use Rattle.bounds.proofs.causes.share_cause.Tie as tie
@@ -9,32 +8,31 @@ use Rattle.bounds.proofs.causes.share_cause.Tie as tie
 cause-requires : tie.Need-cause-requires
 cause-requires c κs = search needs
 
+class-cause-requires : tie.Need-class-cause-requires
+class-cause-requires c κs = search needs
+
+year-cause-requires : tie.Need-year-cause-requires
+year-cause-requires c κs = search needs
+
+or-else-requires : tie.Need-or-else-requires
+or-else-requires c κs = search needs
+
+or-else-requires-2 : tie.Need-or-else-requires-2
+or-else-requires-2 c κs = search needs
+
 returns : tie.Need-returns
-returns c = cause-hit _ _ _ (c .before .cause .ensures) (c .if1 .taken)
-
-class-out-requires : tie.Need-class-out-requires
-class-out-requires c κs = search needs
-
-returns-2 : tie.Need-returns-2
-returns-2 c = cause-on _ _ _ 11 (c .before .before .before .cause .ensures) (c .before .before .if1 .left) (cause-hit 11 _ _ (test-hit _ _ 11 0 (c .before .class-out .ensures) (c .if2 .taken)) (λ z. omega arith))
-
-year-out-requires : tie.Need-year-out-requires
-year-out-requires c κs = search needs
-
-returns-3 : tie.Need-returns-3
-returns-3 c = cause-on _ _ _ 12 (c .before .before .before .before .before .cause .ensures) (c .before .before .before .before .if1 .left) (cause-on 0 _ _ 12 (test-on _ _ 11 0 (c .before .before .before .class-out .ensures) (c .before .before .if2 .left)) refl (test-hit _ _ 12 0 (c .before .year-out .ensures) (c .if3 .taken)))
-
-returns-4 : tie.Need-returns-4
-returns-4 c = cause-on _ _ _ 0 (c .before .before .before .before .before .cause .ensures) (c .before .before .before .before .if1 .left) (cause-on 0 _ _ 0 (test-on _ _ 11 0 (c .before .before .before .class-out .ensures) (c .before .before .if2 .left)) refl (test-on _ _ 12 0 (c .before .year-out .ensures) (c .if3 .left)))
+returns c =
+    c .or-else2 .ensures
+    ∙ ap₂ (λ a b. orElse a b) (c .before .before .before .before .cause .ensures)
+    (c .before .or-else .ensures ∙ ap₂ (λ a b. orElse a b) (c .before .before .before .class-cause .ensures) (c .before .before .year-cause .ensures))
 
 pub share-cause-spec : {M : Type 1} → statement M
 share-cause-spec =
     tie.close
     (tie.spec
     cause-requires
-    returns
-    class-out-requires
-    returns-2
-    year-out-requires
-    returns-3
-    returns-4)
+    class-cause-requires
+    year-cause-requires
+    or-else-requires
+    or-else-requires-2
+    returns)

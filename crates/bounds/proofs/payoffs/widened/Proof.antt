@@ -1,7 +1,6 @@
 -- `widened` copies: the invariant says so of the places passed.
 -- Assumes nothing.
 use Prim.Native.Nat.{_-_}
-use mathlib.Core.Path.{_≡_, refl}
 use native.Mathlib.Omega.{arith}
 use lib.ListN.{length}
 use Rattle.bounds.specs.Lists.{at}

@@ -1,8 +1,6 @@
 -- `class_figure` gathers the class's row and takes its step.
 -- Assumes nothing.
-use Prim.Native.Nat.{ℕ}
-use mathlib.Core.Path.{_≡_, sym}
-use mathlib.Core.List.{List}
+use mathlib.Core.Path.{sym}
 use native.Mathlib.Omega.{arith}
 use lib.ListN.{length, replicate, drop}
 use lib.Seq.{length-take-le}

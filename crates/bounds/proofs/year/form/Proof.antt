@@ -7,7 +7,7 @@ use lib.ListN.{length}
 use Rattle.bounds.specs.Lists.{at}
 use Rattle.bounds.specs.Years.{chainIn, yearFigure}
 use Rattle.bounds.proofs.Writing.{Written, written-none, written-more}
-use Rattle.bounds.proofs.Forming.{form-takes, form-figure, form-all}
+use Rattle.bounds.proofs.Forming.{form-takes, form-fits, form-figure, form-all}
 use Rattle.bounds.proofs.year.form.Statement.{statement}
 use Rattle.bounds.proofs.year.form.Tie as tie
 
@@ -45,7 +45,7 @@ shared-slice-read-figures : tie.Need-shared-slice-read-figures Inv-loop μ-loop
 shared-slice-read-figures c = omega arith
 
 add-figures : tie.Need-add-figures Inv-loop μ-loop
-add-figures c = omega (arith, c .before .before .before .before .before .before .before .before .before .before .before .before .pre .rises (c .before .before .before .before .loop .i) (omega arith))
+add-figures c = form-fits (c .before .before .before .before .before .before .before .before .before .before .before .before .pre) _ (omega arith) (c .before .class-figure .ensures .small)
 
 mul-figures-2 : tie.Need-mul-figures-2 Inv-loop μ-loop
 mul-figures-2 c = omega arith

@@ -1,9 +1,7 @@
 -- `year` arranges the classes by the figures before and forms the new ones in a copy.
 -- Assumes nothing.
 use mathlib.Core.Path.{_≡_, sym, _∙_}
-use Prim.Native.Nat.{ℕ, _≤_}
-use native.Mathlib.Omega.{arith}
-use lib.ListN.{length, drop, length-append}
+use lib.ListN.{length, drop}
 use lib.Seq.{length-take-le}
 use Rattle.bounds.proofs.Forming.{zeros, year-orders, order-fits, order-size, year-forms, year-formed}
 use borrow.Author.Needs.{needs}

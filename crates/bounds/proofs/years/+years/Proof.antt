@@ -43,7 +43,7 @@ years-years-requires : (t : ℕ) → years-lts.Need-years-requires (
   advance-reads.Asked,
   advance-reads.Learnt,
 ) (years-at t) years.Post
-years-years-requires t c κs = (omega arith, run-less (c .before .before .before .before .before .pre .1) (omega arith))
+years-years-requires t c κs = (omega arith, run-less (c .before .before .before .before .before .pre .1) _ (omega arith))
 
 years-advance-requires : (t : ℕ) → years-lts.Need-advance-requires (
   years-below t,
@@ -51,7 +51,7 @@ years-advance-requires : (t : ℕ) → years-lts.Need-advance-requires (
   advance-reads.Asked,
   advance-reads.Learnt,
 ) (years-at t) years.Post
-years-advance-requires t c κs = run-year (c .before .before .before .before .before .before .before .pre .1) (omega arith) (c .before .years .ensures)
+years-advance-requires t c κs = run-year (c .before .before .before .before .before .before .before .pre .1) _ (omega arith) (c .before .years .ensures)
 
 years-returns-2 : (t : ℕ) → years-lts.Need-returns-2 (
   years-below t,
@@ -59,7 +59,7 @@ years-returns-2 : (t : ℕ) → years-lts.Need-returns-2 (
   advance-reads.Asked,
   advance-reads.Learnt,
 ) (years-at t) years.Post
-years-returns-2 t c = run-more (c .before .before .before .before .before .before .before .before .pre .1) (omega arith) (c .before .before .years .ensures) (c .advance .ensures)
+years-returns-2 t c = run-more (c .before .before .before .before .before .before .before .before .pre .1) _ (omega arith) (c .before .before .years .ensures) (omega arith) (c .advance .ensures)
 
 pub +years-spec : {M : Type 1} → statement M
 +years-spec = close μ-years λ t. years-lts.spec (
