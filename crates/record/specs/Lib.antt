@@ -5,6 +5,7 @@ pub mod Stored
 pub mod Layout
 pub mod Read
 pub mod RuleRow
+pub mod Reader
 pub mod Write
 pub mod Frame
 pub mod Laws

@@ -5,6 +5,7 @@ ghost use Rattle.record.specs.RuleRow.{rowCause, ruleRow};
 ghost use Rattle.record.specs.Write.{writeAnswer, writeLeaves};
 use scheme::Scheme;
 
+pub mod bands;
 mod numbers;
 mod reading;
 mod writing;
