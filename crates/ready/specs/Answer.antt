@@ -2,25 +2,10 @@
 use Prim.Native.Nat.{ℕ, _≤_}
 use mathlib.Core.Bool.{cond}
 use lib.Dec.{eqb, ltb}
-use Rattle.scheme.specs.declared.Scheme.{Scheme}
-use Rattle.scheme.specs.Tables.{tab}
 use Rattle.scheme.specs.Cause.{outside, orElse}
+use Rattle.scheme.specs.Stored.{noScheme}
 use Rattle.ready.specs.declared.ReadyAnswer.{ReadyAnswer}
 use Rattle.ready.specs.Ready.{readyScheme}
-
--- "When a call is declined": "number only", so a scheme all 0 beside it
-unfoldable pub noScheme : Scheme
-noScheme =
-    record {
-      classes = 0;
-      columns = 0;
-      start = 0;
-      horizon = 0;
-      rules = tab 256 (λ k. 0);
-      lowers = tab 8 (λ k. 0);
-      uppers = tab 8 (λ k. 0);
-      premiums = tab 32 (λ k. 0);
-    }
 
 -- "Ready schemes": number 1 to 3, "base 0 to 2,500,000 cents"
 pub record Offered (number base : ℕ) : Type 0 where

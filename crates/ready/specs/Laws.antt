@@ -1,19 +1,19 @@
 -- Laws of the ready schemes' definitions.
 use Prim.Native.Nat.{ℕ, zero, suc, _+_, _*_, _/_, _%_, _≤_, _<_}
-use mathlib.Core.Path.{_≡_, refl, ap}
+use mathlib.Core.Path.{_≡_}
 use mathlib.Core.Bool.{Bool, true, false, cond, _&&_}
 use mathlib.Core.List.{List, [], _∷_}
 use lib.Dec.{T, eqb, leb, leb→le}
-use lib.ListN.{length, getD}
+use lib.ListN.{getD}
 use native.Mathlib.Omega.{arith}
 use native.Mathlib.Decide.{ℕ-discrete, decLt}
-use native.Mathlib.Nat.{mul-le-mul, le-of-suc-le-suc, not-suc-le-zero}
+use native.Mathlib.Nat.{mul-le-mul}
 use borrow.Author.Tests.{eq-eqb, ne-eqb, lt-ltb, le-ltb}
-use Rattle.scheme.specs.Tables.{tab}
 use Rattle.ready.specs.Scales.{chosen, classesOf, factorOf, tenthsOf, premiumOf, scale1, scale2, scale3}
 use Rattle.ready.specs.Moves.{movedClass, Movable}
 use Rattle.ready.specs.Ready.{ruleEntry, premiumEntry, readyScheme}
-use Rattle.ready.specs.Answer.{noScheme, Offered, readyCause, readyAnswer}
+use Rattle.scheme.specs.Stored.{noScheme}
+use Rattle.ready.specs.Answer.{Offered, readyCause, readyAnswer}
 
 -- what holds of both cases holds of the one picked
 pub cond-all {ℓ} : {A : Type ℓ} (P : A → Type 0) (b : Bool) (x y : A) → P x → P y → P (cond b x y)

@@ -6,7 +6,8 @@ ghost use Rattle.scheme.specs.Cause.{orElse};
 ghost use Rattle.ready.specs.Scales.{chosen, classesOf, factorOf, tenthsOf};
 ghost use Rattle.ready.specs.Moves.{held, movedClass, Movable};
 ghost use Rattle.ready.specs.Ready.{ruleEntry, premiumEntry, readyScheme};
-ghost use Rattle.ready.specs.Answer.{noScheme, numberCause, baseCause, readyCause, readyAnswer};
+ghost use Rattle.scheme.specs.Stored.{noScheme};
+ghost use Rattle.ready.specs.Answer.{numberCause, baseCause, readyCause, readyAnswer};
 use scheme::Scheme;
 
 // The whole of a share, in parts.

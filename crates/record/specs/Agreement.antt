@@ -13,7 +13,7 @@ use Rattle.scheme.specs.Cause.{causeOf}
 use Rattle.scheme.specs.Accepted.{Accepted}
 use Rattle.scheme.specs.Laws.Judged.{accepted-cause, cause-accepted}
 use Rattle.record.specs.Numbers.{beAt, beBytes}
-use Rattle.record.specs.Stored.{schemeOf, cleared}
+use Rattle.scheme.specs.Stored.{schemeOf, cleared}
 use Rattle.record.specs.Layout.{version1, lengthOf, rowPlace, bandPlace, premiumPlace, classesIn, columnsIn, schemeIn, headerBytes, headerOf, rulesOf, bandsOf, premiumsOf, bytesOf}
 use Rattle.record.specs.Read.{frameCause, readCause, readAnswer}
 use Rattle.record.specs.Write.{recordLength, writeLeaves}

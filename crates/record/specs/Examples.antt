@@ -3,14 +3,12 @@ use Prim.Native.Nat.{ℕ}
 use mathlib.Core.Path.{_≡_, refl}
 use mathlib.Core.List.{List, [], _∷_}
 use Rattle.setchain.specs.Sums.{sumTo}
-use Rattle.scheme.specs.declared.Scheme.{Scheme}
 use Rattle.scheme.specs.Tables.{tab, anyBelow}
 use Rattle.scheme.specs.Cause.{sizeOut, startOut, horizonOut, ruleOut, bandOut, sumOut, premiumOut, causeWhere}
 use Rattle.record.specs.Numbers.{beAt, beBytes}
 use Rattle.record.specs.Joined.{joined}
-use Rattle.record.specs.Stored.{upTo, schemeOf}
+use Rattle.scheme.specs.Stored.{upTo, schemeOf}
 use Rattle.record.specs.Layout.{version1, schemeIn, headerBytes, bytesOf}
-use Rattle.record.specs.declared.bands.Band.{Band}
 use Rattle.record.specs.declared.bands.Band.the-variants.{Ends, NoMore}
 use Rattle.record.specs.Read.{frameCause, readCause}
 use Rattle.record.specs.Reader.{bandAt, openPart, answers}

@@ -7,7 +7,7 @@ use Rattle.scheme.specs.Tables.{tab}
 use Rattle.scheme.specs.Access.{ruleAt, lowerAt, upperAt, premiumAt}
 use Rattle.record.specs.Numbers.{beAt, beBytes}
 use Rattle.record.specs.Joined.{joined}
-use Rattle.record.specs.Stored.{schemeOf}
+use Rattle.scheme.specs.Stored.{schemeOf}
 
 -- what the layouts of the versions differ in
 pub record Layout : Type 0 where

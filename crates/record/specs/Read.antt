@@ -7,7 +7,7 @@ use lib.ListN.{length, getD}
 use Rattle.scheme.specs.Cause.{outside, causeOf, orElse}
 use Rattle.record.specs.declared.ReadAnswer.{ReadAnswer}
 use Rattle.record.specs.Numbers.{beAt}
-use Rattle.record.specs.Stored.{noScheme}
+use Rattle.scheme.specs.Stored.{noScheme}
 use Rattle.record.specs.Layout.{version1, lengthOf, classesIn, columnsIn, schemeIn}
 
 -- cause 1: "no byte, or byte 0 is not 1"

@@ -5,7 +5,7 @@ ghost use lib.ListN.{length, getD};
 ghost use Rattle.scheme.specs.Tables.{tab};
 ghost use Rattle.scheme.specs.Cause.{outside, orElse};
 ghost use Rattle.record.specs.Numbers.{beAt};
-ghost use Rattle.record.specs.Stored.{upTo, rulesUpTo};
+ghost use Rattle.scheme.specs.Stored.{upTo, rulesUpTo};
 ghost use Rattle.record.specs.Layout.{version1, lengthOf, schemeIn};
 ghost use Rattle.record.specs.Read.{versionCause, fieldCause, sizeCause, lengthCause, frameCause};
 ghost use Rattle.record.specs.Frame.{Framed};

@@ -1,5 +1,5 @@
 -- The first cause that applies to a scheme, tests in number order (document 01, "When a call is declined").
-use Prim.Native.Nat.{ℕ, suc}
+use Prim.Native.Nat.{ℕ}
 use mathlib.Core.Bool.{Bool, cond, _||_}
 use lib.Dec.{eqb, ltb}
 use Rattle.setchain.specs.Sums.{sumTo}

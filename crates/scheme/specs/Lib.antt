@@ -4,5 +4,6 @@ pub mod Accepted
 pub mod Cause
 pub mod Stages
 pub mod Rows
+pub mod Stored
 pub mod Examples
 pub mod Laws

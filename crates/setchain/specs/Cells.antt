@@ -1,6 +1,5 @@
 -- The interval row that bands make (document 01, "Interval rows"). A cell is a claim column: the state that its rule leads to, and its band.
 use Prim.Native.Nat.{ℕ, min, _≤_, _<_}
-use mathlib.Core.Bool.{Bool}
 use lib.Dec.{eqb}
 use Rattle.setchain.specs.Sums.{sumTo, onlyIf}
 use Rattle.setchain.specs.Rows.{ONE, IntervalRow}

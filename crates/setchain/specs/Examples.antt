@@ -3,8 +3,8 @@ use Prim.Native.Nat.{ℕ, zero, suc, _*_}
 use mathlib.Core.Path.{_≡_, refl}
 use mathlib.Core.List.{List, [], _∷_}
 use lib.ListN.{getD}
-use Rattle.setchain.specs.Sums.{sumTo, onlyIf, dot}
-use Rattle.setchain.specs.Fractions.{Fraction, whole, _⊗_, sumFractions}
+use Rattle.setchain.specs.Sums.{sumTo, onlyIf}
+use Rattle.setchain.specs.Fractions.{sumFractions}
 use Rattle.setchain.specs.Rows.{IntervalRow, SetChain}
 use Rattle.setchain.specs.Step.{roomBefore, fillRow, lowStep, highStep}
 use Rattle.setchain.specs.Years.{lowYears, highYears, lowShare, highShare, lowMean, highMean, lowTotal, highTotal}

@@ -1,15 +1,15 @@
 -- Demand 3 on the definitions (document 01, "Years"): for every set-chain with sound rows, any number of states, any t and ALL picks.
-use Prim.Native.Nat.{ℕ, _+_, _-_, _*_, _≤_, _<_}
-use mathlib.Core.Path.{_≡_, sym, subst}
+use Prim.Native.Nat.{ℕ, _+_, _-_, _≤_, _<_}
+use mathlib.Core.Path.{sym, subst}
 use mathlib.Core.List.{List}
 use lib.ListN.{length}
 use native.Mathlib.Omega.{arith}
 use native.Mathlib.Nat.{le-refl, le-of-eq, mul-pos, mul-le-mul-right}
-use Rattle.setchain.specs.Fractions.{Fraction, whole, _⊕_, _⊗_, _≼_}
+use Rattle.setchain.specs.Fractions.{Fraction, whole, _≼_}
 use Rattle.setchain.specs.Rows.{SetChain, SoundChain}
 use Rattle.setchain.specs.Years.{lowYears, highYears, nothing, sharePayoff, lowShare, highShare, lowMean, highMean, lowTotal, highTotal}
 use Rattle.setchain.specs.Picks.{Matrix, InsideEach, PicksFor, exactMean, exactTotal}
-use Rattle.setchain.specs.Promise.{shareInParts, Between, Near, Containment, Closeness, Promise}
+use Rattle.setchain.specs.Promise.{shareInParts, Between, Near, Containment, Promise}
 use Rattle.setchain.specs.Laws.Fractions.{Proper, _≈_, at-most-trans}
 use Rattle.setchain.specs.Laws.Value.{value, proper-value, value-least, value-most, lowPicks, lowPicks-for, value-low-near, highPicks, highPicks-for, value-high-near}
 use Rattle.setchain.specs.Laws.Exact.{proper-product, share-value, proper-exact-mean, mean-value, proper-exact-total, total-value}

@@ -1,6 +1,6 @@
 -- `declined` meets its contract.
 use mathlib.Core.Path.{refl}
-use Rattle.record.specs.Stored.{noScheme}
+use Rattle.scheme.specs.Stored.{noScheme}
 use Rattle.record.proofs.declined.Statement.{statement}
 use Rattle.record.proofs.declined.Tie as tie
 

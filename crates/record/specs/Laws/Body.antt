@@ -12,7 +12,7 @@ use Rattle.scheme.specs.Access.{ruleAt, lowerAt, upperAt, premiumAt}
 use Rattle.scheme.specs.Laws.Tab.{length-tab, getD-tab, tab-eq}
 use Rattle.record.specs.Numbers.{beAt, beBytes}
 use Rattle.record.specs.Joined.{joined}
-use Rattle.record.specs.Stored.{schemeOf}
+use Rattle.scheme.specs.Stored.{schemeOf}
 use Rattle.record.specs.Layout.{Layout, lengthOf, rowPlace, bandPlace, premiumPlace, schemeFrom, bandBytes, rulesOf, bandsOf, premiumsOf}
 use Rattle.record.specs.Laws.Lists.{tab-part, joined-eq, joined-parts, getD-joined}
 use Rattle.record.specs.Laws.Numbers.{put-read, read-put, beAt-eq, length-beBytes, length-band}

@@ -9,7 +9,7 @@ use Rattle.scheme.specs.Tables.{tab}
 use Rattle.scheme.specs.Access.{ruleAt, lowerAt, upperAt, premiumAt}
 use Rattle.scheme.specs.Accepted.{Accepted}
 use Rattle.scheme.specs.Laws.Tab.{getD-tab, tab-eq}
-use Rattle.record.specs.Stored.{upTo, rulesUpTo, schemeOf, cleared}
+use Rattle.scheme.specs.Stored.{upTo, rulesUpTo, schemeOf, cleared}
 use Rattle.record.specs.Laws.Stored.{upTo-below, upTo-eq}
 
 -- an array filled up to n holds its entries

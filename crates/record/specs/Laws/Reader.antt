@@ -1,7 +1,7 @@
 -- What a band reader hands out: the record's bands in order, then no more.
 use Prim.Native.Nat.{ℕ, zero, suc, max, _+_, _*_, _≤_, _<_}
 use mathlib.Core.Path.{_≡_, refl, ap, sym, _∙_}
-use mathlib.Core.Bool.{Bool, true, false, cond, _&&_}
+use mathlib.Core.Bool.{Bool, true, false, _&&_}
 use mathlib.Core.List.{List, [], _∷_, _++_}
 use native.Mathlib.Decide.{ℕ-discrete}
 use native.Mathlib.Omega.{arith}
@@ -15,7 +15,7 @@ use Rattle.scheme.specs.Laws.Tab.{tab-eq}
 use Rattle.record.specs.declared.bands.Band.{Band}
 use Rattle.record.specs.declared.bands.Band.the-variants.{Ends, NoMore}
 use Rattle.record.specs.Numbers.{beAt}
-use Rattle.record.specs.Layout.{version1, lengthOf, schemeIn, bandPlace, classesIn, columnsIn}
+use Rattle.record.specs.Layout.{version1, lengthOf, schemeIn, classesIn, columnsIn}
 use Rattle.record.specs.Frame.{Framed}
 use Rattle.record.specs.Read.{frameCause, readCause}
 use Rattle.record.specs.Reader.{handedOut, stored, bandIn, bandAt, afterAt, openPart, answers, cursorAfter, storedBands}

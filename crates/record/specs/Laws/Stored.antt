@@ -9,7 +9,7 @@ use lib.ListN.{length, getD, set, replicate, length-set, length-replicate, getD-
 use lib.Seq.{sets, length-sets, getD-set-same, getD-set-other}
 use borrow.Author.Tests.{lt-ltb, le-ltb}
 use Rattle.scheme.specs.Tables.{tab}
-use Rattle.record.specs.Stored.{upTo, rulesUpTo}
+use Rattle.scheme.specs.Stored.{upTo, rulesUpTo}
 use Rattle.scheme.specs.Laws.Tab.{length-tab, getD-tab, as-tab}
 use Rattle.record.specs.Laws.Lists.{sets-below, sets-within, sets-past}
 

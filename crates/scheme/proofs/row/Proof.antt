@@ -1,6 +1,5 @@
 -- `row` meets its contract, by the cases of `Laws.Entries`.
 use mathlib.Core.Path.{sym, _∙_}
-use native.Mathlib.Omega.{arith}
 use Rattle.scheme.specs.Laws.Cause.{outside-false}
 use Rattle.scheme.specs.Laws.Judged.{accepted-cause}
 use Rattle.scheme.specs.Laws.Entries.{row-declined, row-no-class, row-answered}

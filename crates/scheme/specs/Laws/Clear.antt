@@ -1,7 +1,7 @@
 -- The loop that sets every entry to 0.
 use Prim.Native.Nat.{ℕ, _+_, _≤_, _<_}
-use mathlib.Core.Path.{_≡_, refl, ap, ap₂, sym, _∙_}
-use mathlib.Core.List.{List, [], _++_, append-nil}
+use mathlib.Core.Path.{_≡_, refl, ap, _∙_}
+use mathlib.Core.List.{List, _++_, append-nil}
 use lib.ListN.{length, set, replicate, drop, length-set}
 use lib.Seq.{drop-length}
 use native.Mathlib.Omega.{arith}

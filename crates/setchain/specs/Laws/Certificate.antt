@@ -1,11 +1,11 @@
 -- The certificate theorem: a row of whole parts with a certificate is extreme among the rows inside over EVERY M.
-use Prim.Native.Nat.{ℕ, zero, suc, _+_, _*_, _≤_, _<_}
-use mathlib.Core.Path.{_≡_, refl, ap, sym, _∙_}
+use Prim.Native.Nat.{ℕ, _+_, _*_, _≤_, _<_}
+use mathlib.Core.Path.{_≡_, ap, sym, _∙_}
 use native.Mathlib.Decide.{decLt}
 use native.Mathlib.Omega.{arith}
-use native.Mathlib.Nat.{mul-le-mul-right, mul-le-mul-left, le-dest, le-refl, le-of-eq}
+use native.Mathlib.Nat.{mul-le-mul-right, le-dest}
 use Rattle.setchain.specs.Sums.{sumTo, dot}
-use Rattle.setchain.specs.Rows.{ONE, IntervalRow, Row, Inside, ofParts}
+use Rattle.setchain.specs.Rows.{ONE, IntervalRow, Row, Inside}
 use Rattle.setchain.specs.Step.{Parts}
 use Rattle.setchain.specs.Certificate.{LowCertificate, HighCertificate}
 use Rattle.setchain.specs.Laws.Sums.{sumTo-eq, sumTo-le, sumTo-add, sumTo-scale}

@@ -1,15 +1,15 @@
 -- Document 01's exact figures (product, sum over classes, sum over years) have the same value as the recursion of `Laws.Value`.
-use Prim.Native.Nat.{ℕ, zero, suc, _+_, _*_, _≤_, _<_}
-use mathlib.Core.Path.{_≡_, refl, ap, sym, _∙_, subst, subst₂}
+use Prim.Native.Nat.{ℕ, zero, suc, _*_, _<_}
+use mathlib.Core.Path.{_≡_, refl, ap, sym, _∙_, subst}
 use mathlib.Core.List.{List, [], _∷_}
 use mathlib.Core.Bool.{Bool, true, false}
 use lib.Dec.{eqb}
 use lib.ListN.{length, take}
 use native.Mathlib.Omega.{arith}
 use native.Mathlib.Nat.{le-refl, mul-pos}
-use Rattle.setchain.specs.Sums.{sumTo, onlyIf, dot}
+use Rattle.setchain.specs.Sums.{onlyIf}
 use Rattle.setchain.specs.Fractions.{Fraction, whole, _⊕_, _⊗_, sumFractions}
-use Rattle.setchain.specs.Rows.{ONE, Row, SetChain}
+use Rattle.setchain.specs.Rows.{ONE, SetChain}
 use Rattle.setchain.specs.Years.{nothing, sharePayoff}
 use Rattle.setchain.specs.Picks.{Matrix, InsideEach, none, also, entryOf, product, exactMean, exactTotal}
 use Rattle.setchain.specs.Promise.{shareInParts}

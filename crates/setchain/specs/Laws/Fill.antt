@@ -1,6 +1,6 @@
 -- The fill: spare parts given along a strict order of the states leave a row that sums to ONE, and a pivot state
 -- before which every state is filled and after which none has got anything.
-use Prim.Native.Nat.{ℕ, zero, suc, min, _+_, _-_, _*_, _≤_, _<_}
+use Prim.Native.Nat.{ℕ, zero, suc, min, _+_, _-_, _≤_, _<_}
 use mathlib.Core.Path.{_≡_, refl, ap, sym, _∙_}
 use mathlib.Core.Logic.{_⊎_, inl, inr, ⊎-elim}
 use mathlib.Core.Bool.{Bool, true, false, not, true≢false}
@@ -10,7 +10,7 @@ use native.Mathlib.Omega.{arith}
 use native.Mathlib.Nat.{le-refl, le-step}
 use borrow.Author.Tests.{eq-eqb, ne-eqb}
 use Rattle.setchain.specs.Sums.{sumTo, onlyIf}
-use Rattle.setchain.specs.Laws.Sums.{onlyIf-true, onlyIf-false, onlyIf-le, sumTo-eq, sumTo-le, sumTo-add, sumTo-point, below-pred}
+use Rattle.setchain.specs.Laws.Sums.{onlyIf-true, onlyIf-false, onlyIf-le, sumTo-eq, sumTo-le, sumTo-add, sumTo-point}
 
 -- a strict total order of the numbers, as a test
 pub record Strict (before : ℕ → ℕ → Bool) : Type 0 where

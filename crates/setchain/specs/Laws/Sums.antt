@@ -1,7 +1,7 @@
 -- Laws of bounded sums.
 use Prim.Native.Nat.{ℕ, zero, suc, min, _+_, _*_, _≤_, _<_}
 use mathlib.Core.Path.{_≡_, refl, ap, sym, _∙_}
-use mathlib.Core.Logic.{_⊎_, inl, inr, ⊎-elim}
+use mathlib.Core.Logic.{⊎-elim}
 use mathlib.Core.Bool.{Bool, true, false}
 use lib.Dec.{eqb}
 use borrow.Author.Tests.{eq-eqb, ne-eqb}
@@ -9,7 +9,7 @@ use native.Mathlib.Decide.{ℕ-discrete}
 use native.Mathlib.Omega.{arith}
 use native.Mathlib.Numerals.{add-one}
 use native.Mathlib.Nat.{eq-or-lt-of-le, le-of-suc-le-suc, not-suc-le-zero, le-step, le-refl}
-use Rattle.setchain.specs.Sums.{sumTo, onlyIf, dot}
+use Rattle.setchain.specs.Sums.{sumTo, onlyIf}
 
 -- the tests of onlyIf
 pub onlyIf-true : (b : Bool) (x : ℕ) → b ≡ true → onlyIf b x ≡ x

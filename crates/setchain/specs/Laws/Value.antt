@@ -7,12 +7,12 @@ use native.Mathlib.Omega.{arith}
 use native.Mathlib.Nat.{le-refl, le-of-eq, add-assoc, mul-pos, mul-le-mul-right, mul-le-mul-left}
 use Rattle.setchain.specs.Sums.{sumTo, dot}
 use Rattle.setchain.specs.Fractions.{Fraction, whole, _⊕_, _⊗_, _≼_, sumFractions}
-use Rattle.setchain.specs.Rows.{ONE, IntervalRow, Row, Inside, SetChain, SoundChain, ofParts}
+use Rattle.setchain.specs.Rows.{ONE, Row, SetChain, SoundChain, ofParts}
 use Rattle.setchain.specs.Step.{lowRow, highRow, lowStep, highStep}
 use Rattle.setchain.specs.Years.{lowYears, highYears}
 use Rattle.setchain.specs.Picks.{Matrix, InsideEach, none, also, PicksFor, entryOf}
 use Rattle.setchain.specs.Laws.Sums.{sumTo-eq, sumTo-le, sumTo-add, sumTo-scale}
-use Rattle.setchain.specs.Laws.Fractions.{Proper, _≈_, proper-sum, at-most-trans, mul-at-most, sum-at-most, sum-weighed}
+use Rattle.setchain.specs.Laws.Fractions.{Proper, proper-sum, at-most-trans, mul-at-most, sum-at-most, sum-weighed}
 use Rattle.setchain.specs.Laws.Step.{low-parts, high-parts, low-step-least, low-step-near, high-step-greatest, high-step-near}
 
 -- the mean of v by the entries of a row

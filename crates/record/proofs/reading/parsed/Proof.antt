@@ -8,7 +8,7 @@ use lib.ListN.{length, getD}
 use Rattle.scheme.specs.declared.Scheme.{Scheme}
 use Rattle.scheme.specs.Tables.{tab}
 use Rattle.record.specs.Numbers.{beAt}
-use Rattle.record.specs.Stored.{upTo, rulesUpTo, schemeOf}
+use Rattle.scheme.specs.Stored.{upTo, rulesUpTo, schemeOf}
 use Rattle.record.specs.Layout.{version1, classesIn, columnsIn, schemeIn}
 use Rattle.scheme.specs.Laws.Tab.{tab-eq}
 use Rattle.record.specs.Laws.Stored.{upTo-eq}

@@ -4,7 +4,7 @@ use mathlib.Core.Path.{_≡_}
 use native.Mathlib.Omega.{arith}
 use Rattle.scheme.specs.Tables.{tab}
 use Rattle.record.specs.Numbers.{beAt}
-use Rattle.record.specs.Stored.{upTo}
+use Rattle.scheme.specs.Stored.{upTo}
 use Rattle.record.specs.Laws.Stored.{fill-none, fill-more}
 use Rattle.record.proofs.reading.premiums.Statement.{statement}
 use Rattle.record.proofs.reading.premiums.Tie as tie

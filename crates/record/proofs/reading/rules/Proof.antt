@@ -5,7 +5,7 @@ use native.Mathlib.Omega.{arith}
 use native.Mathlib.Nat.{mul-le-mul-right}
 use lib.ListN.{length, getD, take, drop}
 use Rattle.scheme.specs.Tables.{tab}
-use Rattle.record.specs.Stored.{rulesUpTo}
+use Rattle.scheme.specs.Stored.{rulesUpTo}
 use Rattle.scheme.specs.Laws.Tab.{length-tab}
 use Rattle.record.specs.Laws.Lists.{part-length, part-at}
 use Rattle.record.specs.Laws.Stored.{rows-none, rows-more}

@@ -1,6 +1,4 @@
 -- `raise` meets its contract: the rule leads to no entry, or to one.
-use mathlib.Core.Path.{ap, _∙_}
-use lib.ListN.{set}
 use native.Mathlib.Omega.{arith}
 use Rattle.scheme.specs.Laws.Rows.{raised-none, raised-set}
 use borrow.Author.Needs.{needs}

@@ -1,5 +1,4 @@
 -- `sum_out` meets its contract.
-use mathlib.Core.Path.{sym}
 use borrow.Author.Needs.{needs}
 use borrow.Author.Tests.{lt-ltb, le-ltb}
 use Rattle.scheme.proofs.tests.sum_out.Statement.{statement}
