@@ -116,7 +116,7 @@ module _ (s : Scheme) (ok : Accepted s) where
             };
       }
 
-  mean-figure : (falling : Bool) (t : ℕ) → startFigure falling s zeros (s .premiums) t ≡ yearsFigure falling (chainOf s) (premiumAt s) nothing t (startOf s)
+  pub mean-figure : (falling : Bool) (t : ℕ) → startFigure falling s zeros (s .premiums) t ≡ yearsFigure falling (chainOf s) (premiumAt s) nothing t (startOf s)
   mean-figure falling t = as-functions falling zeros (s .premiums) nothing (premiumAt s) t (λ j l. refl) no-gain
 
   -- the total of premiums
@@ -135,7 +135,7 @@ module _ (s : Scheme) (ok : Accepted s) where
             };
       }
 
-  total-figure : (falling : Bool) (t : ℕ) → startFigure falling s (s .premiums) zeros t ≡ yearsFigure falling (chainOf s) nothing (premiumAt s) t (startOf s)
+  pub total-figure : (falling : Bool) (t : ℕ) → startFigure falling s (s .premiums) zeros t ≡ yearsFigure falling (chainOf s) nothing (premiumAt s) t (startOf s)
   total-figure falling t = as-functions falling (s .premiums) zeros (premiumAt s) nothing t no-gain (λ j l. refl)
 
 -- an answer by its cause, in both cases

@@ -10,5 +10,8 @@ pub mod Running
 pub mod Starting
 pub mod Answering
 pub mod Sheeting
+pub mod Tracking
+pub mod Tabling
+pub mod Figuring
 pub mod Solving
 pub mod AnsweringStep

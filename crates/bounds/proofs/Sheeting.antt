@@ -64,7 +64,7 @@ sheeting-all {s} {year} {low} {high} h w = (
 )
 
 -- what a cause of 0 tells of the slices
-test-not : (b : Bool) → not b ≡ false → b ≡ true
+pub test-not : (b : Bool) → not b ≡ false → b ≡ true
 test-not true e = refl
 test-not false e = absurd (true≢false e)
 

@@ -76,17 +76,24 @@ module _ {rules lowers uppers : List ℕ} {columns classes start : ℕ} {gain pa
         rises = w .roomy .rises;
       }
 
-  pub start-is : {falling : Bool} {figures : List ℕ} (i : ℕ) → i ≡ start - 1
-      → Ran (length (take classes gain)) rules (take columns lowers) (take columns uppers) (take classes gain) payoff falling t figures
-      → at figures i ≡ yearsFigure falling (chainStored columns classes rules lowers uppers) (at payoff) (at gain) t (start - 1)
-  start-is {falling} {figures} i e ran =
-      ap (at figures) e
-      ∙ ran .each (start - 1) (omega (arith, gains-count, w .positive, w .within))
-      ∙ ap (λ c. yearsFigure falling c (at payoff) (at (take classes gain)) t (start - 1)) lent-is
+  pub start-years : (falling : Bool) (u i : ℕ) → i ≡ start - 1
+      → yearsFigure falling (chainIn (length (take classes gain)) rules (take columns lowers) (take columns uppers)) (at payoff) (at (take classes gain)) u i
+      ≡ yearsFigure falling (chainStored columns classes rules lowers uppers) (at payoff) (at gain) u (start - 1)
+  start-years falling u i e =
+      ap (yearsFigure falling lent (at payoff) (at (take classes gain)) u) e
+      ∙ ap (λ c. yearsFigure falling c (at payoff) (at (take classes gain)) u (start - 1)) lent-is
       ∙ years-same falling (chainStored columns classes rules lowers uppers) (chainStored columns classes rules lowers uppers) refl (w .sound)
       (λ j l. record { lower = λ k g. refl; upper = λ k g. refl })
       (at payoff) (at payoff) (at (take classes gain)) (at gain)
-      (λ j l. refl) (λ j l. getD-take classes gain j 0 l) t (start - 1) (omega (arith, w .positive, w .within))
+      (λ j l. refl) (λ j l. getD-take classes gain j 0 l) u (start - 1) (omega (arith, w .positive, w .within))
+
+  pub start-within : (i : ℕ) → i ≡ start - 1 → i < length (take classes gain)
+  start-within i e = omega (arith, gains-count, w .positive, w .within)
+
+  pub start-is : {falling : Bool} {figures : List ℕ} (i : ℕ) → i ≡ start - 1
+      → Ran (length (take classes gain)) rules (take columns lowers) (take columns uppers) (take classes gain) payoff falling t figures
+      → at figures i ≡ yearsFigure falling (chainStored columns classes rules lowers uppers) (at payoff) (at gain) t (start - 1)
+  start-is {falling} i e ran = ran .each i (start-within i e) ∙ start-years falling t i e
 
 -- from a scheme's parts to its chain
 module _ (s : Scheme) {gain payoff : List ℕ} {t : ℕ} (w : Ready s gain payoff t) where
@@ -122,10 +129,14 @@ module _ (s : Scheme) {gain payoff : List ℕ} {t : ℕ} (w : Ready s gain payof
         roomy = w .roomy;
       }
 
+  pub scheme-years : (falling : Bool) (u : ℕ)
+      → yearsFigure falling (chainStored (s .columns) (s .classes) (s .rules) (s .lowers) (s .uppers)) (at payoff) (at gain) u (s .start - 1)
+      ≡ startFigure falling s gain payoff u
+  scheme-years falling u =
+      years-same falling stored (chainOf s) refl stored-sound rows-are (at payoff) (at payoff) (at gain) (at gain) (λ j l. refl) (λ j l. refl) u (startOf s)
+      (omega (arith, w .accepted .start .positive, w .accepted .start .within))
+
   pub scheme-figure : (falling : Bool) {r : ℕ}
       → r ≡ yearsFigure falling (chainStored (s .columns) (s .classes) (s .rules) (s .lowers) (s .uppers)) (at payoff) (at gain) t (s .start - 1)
       → r ≡ startFigure falling s gain payoff t
-  scheme-figure falling e =
-      e
-      ∙ years-same falling stored (chainOf s) refl stored-sound rows-are (at payoff) (at payoff) (at gain) (at gain) (λ j l. refl) (λ j l. refl) t (startOf s)
-      (omega (arith, w .accepted .start .positive, w .accepted .start .within))
+  scheme-figure falling e = e ∙ scheme-years falling t

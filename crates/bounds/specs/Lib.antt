@@ -8,6 +8,7 @@ pub mod Years
 pub mod Answers
 pub mod Start
 pub mod Table
+pub mod Tracks
 pub mod Promises
 pub mod StepAnswer
 pub mod Solve

@@ -1,5 +1,5 @@
 -- Demand 3 as the calls promise it, from the scheme and the answer alone (document 01, "Years").
-use Prim.Native.Nat.{ℕ, _-_, _<_}
+use Prim.Native.Nat.{ℕ, _-_, _≤_, _<_}
 use mathlib.Core.Path.{_≡_}
 use mathlib.Core.List.{List}
 use lib.ListN.{getD}
@@ -11,6 +11,7 @@ use Rattle.scheme.specs.Access.{premiumAt}
 use Rattle.scheme.specs.Rows.{chainOf}
 use Rattle.bounds.specs.declared.Bounds.{Bounds}
 use Rattle.bounds.specs.Answers.{numberOf, lowOf, highOf, startOf}
+use Rattle.bounds.specs.Table.{placeOf, totalPlace}
 
 -- some picks for t years bring the exact figure no further than t from the bound
 pub record SomeNear (s : Scheme) (t bound : ℕ) (exact : List Matrix → Fraction) : Type 0 where
@@ -52,3 +53,16 @@ TotalPromise s year r = numberOf r ≡ 0 → Kept s year (startTotal s) (lowOf r
 abbrev pub SheetPromise : Scheme → ℕ → ℕ → List ℕ → List ℕ → Type 0
 SheetPromise s year number low high =
     number ≡ 0 → (j : ℕ) → j < s .classes → Kept s year (startShare s j) (getD low j 0) (getD high j 0)
+
+-- "For all picks for t years" and "some picks for t years", for each number of a table's low and high lists
+pub record TableKept (s : Scheme) (low high : List ℕ) : Type 0 where
+  -- the share of each class in each year
+  pub shares : (t j : ℕ) → t ≤ s .horizon → j < s .classes → Kept s t (startShare s j) (getD low (placeOf s t j) 0) (getD high (placeOf s t j) 0)
+  -- the mean premium of each year
+  pub means : (t : ℕ) → t ≤ s .horizon → Kept s t (startMean s) (getD low (placeOf s t (s .classes)) 0) (getD high (placeOf s t (s .classes)) 0)
+  -- the total of the horizon's premiums
+  pub total : Kept s (s .horizon) (startTotal s) (getD low (totalPlace s) 0) (getD high (totalPlace s) 0)
+
+-- of the numbers in the two slices of all figures
+abbrev pub FiguresPromise : Scheme → ℕ → List ℕ → List ℕ → Type 0
+FiguresPromise s number low high = number ≡ 0 → TableKept s low high

@@ -1,10 +1,12 @@
 // The causes for which a call is declined, tests in number order (document 01, "When a call is declined").
 use scheme::Scheme;
 ghost use mathlib.Core.Path.{_≡_};
+ghost use Prim.Native.Nat.{_+_, _*_};
 ghost use mathlib.Core.Bool.{cond, not, _||_};
 ghost use lib.Dec.{eqb, ltb};
-ghost use Rattle.scheme.specs.Cause.{outside, orElse};
+ghost use Rattle.scheme.specs.Cause.{causeOf, outside, orElse};
 ghost use Rattle.bounds.specs.Answers.{moneyCause, shareCause};
+ghost use Rattle.bounds.specs.Table.{tableSize};
 
 // A sheet slice not of s numbers.
 pub const SLICE_OUT: u8 = 13;
@@ -39,14 +41,14 @@ fn year_cause(horizon: u8, year: u64) -> u8
     0
 }
 
-// Cause 13: one of two slices is not of s numbers.
-fn slice_cause(classes: u8, low: usize, high: usize) -> u8
-    ensures { λ r. ⌜ r ≡ cond (not (eqb low classes) || not (eqb high classes)) 13 0 ⌝ }
+// Cause 13: one of two slices is not of as many numbers as are wanted.
+fn slice_cause(size: usize, low: usize, high: usize) -> u8
+    ensures { λ r. ⌜ r ≡ cond (not (eqb low size) || not (eqb high size)) 13 0 ⌝ }
 {
-    if low != classes as usize {
+    if low != size {
         return SLICE_OUT;
     }
-    if high != classes as usize {
+    if high != size {
         return SLICE_OUT;
     }
     0
@@ -77,6 +79,25 @@ pub fn sheet_cause(scheme: Scheme, year: u64, low: usize, high: usize) -> u8
     ensures { λ r. ⌜ r ≡ orElse (moneyCause scheme year) (cond (not (eqb low (scheme .classes)) || not (eqb high (scheme .classes))) 13 0) ⌝ }
 {
     let money = money_cause(scheme, year);
-    let slices = slice_cause(scheme.classes, low, high);
+    let slices = slice_cause(scheme.classes as usize, low, high);
     or_else(money, slices)
+}
+
+// How many numbers the table of a sheet has.
+fn table_size(classes: u8, horizon: u8) -> usize
+    ensures { λ r. ⌜ r ≡ (horizon + 1) * (classes + 1) + 1 ⌝ }
+{
+    let years = horizon as usize + 1;
+    let row = classes as usize + 1;
+    years * row + 1
+}
+
+// The first cause of a call for all figures with slices of two lengths, or 0.
+pub fn table_cause(scheme: Scheme, low: usize, high: usize) -> u8
+    ensures { λ r. ⌜ r ≡ orElse (causeOf scheme) (cond (not (eqb low (tableSize scheme)) || not (eqb high (tableSize scheme))) 13 0) ⌝ }
+{
+    let own = scheme::cause(scheme);
+    let size = table_size(scheme.classes, scheme.horizon);
+    let slices = slice_cause(size, low, high);
+    or_else(own, slices)
 }

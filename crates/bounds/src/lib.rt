@@ -4,7 +4,8 @@ ghost use mathlib.Core.Path.{_≡_};
 ghost use mathlib.Core.Bool.{true, false};
 ghost use Rattle.bounds.specs.StepAnswer.{StepAnswered};
 ghost use Rattle.bounds.specs.Answers.{highShares, lowShares, meanAnswer, shareAnswer, sheetCause, sheetSlice, totalAnswer};
-ghost use Rattle.bounds.specs.Promises.{MeanPromise, SharePromise, SheetPromise, TotalPromise};
+ghost use Rattle.bounds.specs.Table.{highTable, lowTable, tableCause};
+ghost use Rattle.bounds.specs.Promises.{FiguresPromise, MeanPromise, SharePromise, SheetPromise, TotalPromise};
 
 mod answer_step;
 mod causes;
@@ -15,6 +16,8 @@ mod payoffs;
 mod sheet;
 mod start;
 mod step;
+mod table;
+mod track;
 mod year;
 mod years;
 
@@ -80,6 +83,23 @@ pub fn share_sheet(scheme: Scheme, year: u64, low: &mut [u64], high: &mut [u64])
         return number;
     }
     sheet::write_shares(scheme, year, low, high);
+    0
+}
+
+// All figures of a sheet, low and high: for each year to the horizon the share of each class and the mean premium, last the horizon's total.
+// Returns the number of the cause, or 0.
+pub fn figures(scheme: Scheme, low: &mut [u64], high: &mut [u64]) -> u8
+    ensures answer { λ r. ⌜ r ≡ tableCause scheme (now (low .entry)) (now (high .entry)) ⌝ }
+    ensures lows { λ r. ⌜ now (low .exit) ≡ sheetSlice r (lowTable scheme) (now (low .entry)) ⌝ }
+    ensures highs { λ r. ⌜ now (high .exit) ≡ sheetSlice r (highTable scheme) (now (high .entry)) ⌝ }
+    ensures promise { λ r. ⌜ (FiguresPromise scheme r (now (low .exit)) (now (high .exit))) ⌝ }
+{
+    let number = causes::table_cause(scheme, low.len(), high.len());
+    if number != 0 {
+        return number;
+    }
+    table::write_table(scheme, false, low);
+    table::write_table(scheme, true, high);
     0
 }
 

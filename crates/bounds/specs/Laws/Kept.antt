@@ -2,9 +2,9 @@
 use Prim.Native.Nat.{ℕ, _-_, _<_}
 use mathlib.Core.Path.{_≡_, refl, ap, sym, _∙_, subst, subst₂}
 use mathlib.Core.List.{List}
-use mathlib.Core.Bool.{cond}
+use mathlib.Core.Bool.{cond, not, _||_}
 use lib.Dec.{eqb}
-use lib.ListN.{getD}
+use lib.ListN.{getD, length}
 use native.Mathlib.Decide.{ℕ-discrete}
 use native.Mathlib.Omega.{arith}
 use Rattle.setchain.specs.Fractions.{Fraction}
@@ -25,7 +25,9 @@ use Rattle.scheme.specs.Laws.Tab.{getD-tab}
 use Rattle.bounds.specs.declared.Bounds.{Bounds}
 use Rattle.bounds.specs.declared.Bounds.the-variants.{Answered, Refused}
 use Rattle.bounds.specs.Answers.{numberOf, lowOf, highOf, answerBy, startOf, shareCause, shareAnswer, moneyCause, meanAnswer, totalAnswer, sheetCause, sliceCause, sheetSlice, lowShares, highShares}
-use Rattle.bounds.specs.Promises.{SomeNear, Kept, startShare, startMean, startTotal, SharePromise, MeanPromise, TotalPromise, SheetPromise}
+use Rattle.bounds.specs.Promises.{SomeNear, Kept, startShare, startMean, startTotal, SharePromise, MeanPromise, TotalPromise, SheetPromise, TableKept, FiguresPromise}
+use Rattle.bounds.specs.Table.{tableSize, lowTable, highTable, tableCause}
+use Rattle.bounds.specs.Laws.Table.{low-share-at, high-share-at, low-mean-at, high-mean-at, low-total-at, high-total-at}
 
 -- a promise for every state, at the start class
 at-start : (s : Scheme) → Accepted s → (t : ℕ) (low high : ℕ → ℕ) (exact : List Matrix → ℕ → Fraction) → Promise (chainOf s) t low high exact
@@ -112,3 +114,33 @@ sheet-kept s year low high z j l =
 -- the promises are not empty: picks for any number of years exist
 pub picks-exist : (s : Scheme) → Accepted s → (t : ℕ) → (ps : List Matrix) × PicksFor (chainOf s) t ps
 picks-exist s ok t = some-picks (chainOf s) (accepted-sound s ok) t
+
+-- of an accepted scheme's tables
+table-kept : (s : Scheme) → Accepted s → TableKept s (lowTable s) (highTable s)
+table-kept s ok =
+    record {
+      shares = λ t j h l.
+          subst₂ (λ a b. Kept s t (startShare s j) a b) (sym (low-share-at s t h j l)) (sym (high-share-at s t h j l))
+          (at-start s ok t (lowShare (chainOf s) j t) (highShare (chainOf s) j t) (shareInParts (s .classes) j)
+          (share-promise (chainOf s) (accepted-sound s ok) j t));
+      means = λ t h.
+          subst₂ (λ a b. Kept s t (startMean s) a b) (sym (low-mean-at s t h)) (sym (high-mean-at s t h))
+          (at-start s ok t (lowMean (chainOf s) (premiumAt s) t) (highMean (chainOf s) (premiumAt s) t) (exactMean (s .classes) (premiumAt s))
+          (mean-promise (chainOf s) (accepted-sound s ok) (premiumAt s) t));
+      total =
+          subst₂ (λ a b. Kept s (s .horizon) (startTotal s) a b) (sym (low-total-at s)) (sym (high-total-at s))
+          (at-start s ok (s .horizon) (lowTotal (chainOf s) (premiumAt s) (s .horizon)) (highTotal (chainOf s) (premiumAt s) (s .horizon)) (exactTotal (s .classes) (premiumAt s))
+          (total-promise (chainOf s) (accepted-sound s ok) (premiumAt s) (s .horizon)));
+    }
+
+-- of the slices as a call for all figures leaves them
+pub figures-kept : (s : Scheme) (low high : List ℕ)
+    → FiguresPromise s (tableCause s low high)
+    (sheetSlice (tableCause s low high) (lowTable s) low)
+    (sheetSlice (tableCause s low high) (highTable s) high)
+unfolding tableCause
+figures-kept s low high z =
+    subst₂ (λ a b. TableKept s a b)
+    (sym (answered (tableCause s low high) (lowTable s) low z))
+    (sym (answered (tableCause s low high) (highTable s) high z))
+    (table-kept s (accepted-cause s (first-none (causeOf s) (cond (not (eqb (length low) (tableSize s)) || not (eqb (length high) (tableSize s))) 13 0) z)))

@@ -8,6 +8,9 @@ use Rattle.bounds.proofs.causes.sheet_cause.Tie as tie
 money-cause-requires : tie.Need-money-cause-requires
 money-cause-requires c κs = search needs
 
+cast-slice-cause : tie.Need-cast-slice-cause
+cast-slice-cause c = search needs
+
 slice-cause-requires : tie.Need-slice-cause-requires
 slice-cause-requires c κs = search needs
 
@@ -15,8 +18,9 @@ or-else-requires : tie.Need-or-else-requires
 or-else-requires c κs = search needs
 
 returns : tie.Need-returns
-returns c = c .or-else .ensures ∙ ap₂ (λ a b. orElse a b) (c .before .before .money-cause .ensures) (c .before .slice-cause .ensures)
+returns c = c .or-else .ensures ∙ ap₂ (λ a b. orElse a b) (c .before .before .before .money-cause .ensures) (c .before .slice-cause .ensures)
 
 pub sheet-cause-spec : {M : Type 1} → statement M
 sheet-cause-spec =
-    tie.close (tie.spec money-cause-requires slice-cause-requires or-else-requires returns)
+    tie.close
+    (tie.spec money-cause-requires cast-slice-cause slice-cause-requires or-else-requires returns)

@@ -1,0 +1,215 @@
+-- A sheet's table: its columns from a scheme's parts, the columns one after the other, and the list that they make.
+-- Assumes nothing.
+use Prim.Native.Nat.{ℕ, suc, _+_, _-_, _*_, _/_, _%_, _≤_, _<_}
+use mathlib.Core.Path.{_≡_, refl, ap, sym, _∙_, subst}
+use mathlib.Core.Bool.{Bool, true, false}
+use mathlib.Core.List.{List}
+use native.Mathlib.Omega.{arith}
+use native.Mathlib.Decide.{decLt}
+use native.Mathlib.Nat.{mul-le-mul, mul-le-mul-right, div-add-mod', div-lt-iff-lt-mul, mod-lt, mod-eq-of-lt, mul-add-mod-self-right}
+use lib.ListN.{length, set, take, length-set}
+use lib.Seq.{getD-set-same, getD-set-other}
+use borrow.Author.Count.{below-none, below-more}
+use Rattle.setchain.specs.Years.{sharePayoff, nothing}
+use Rattle.scheme.specs.Tables.{tab}
+use Rattle.scheme.specs.Access.{premiumAt}
+use Rattle.scheme.specs.Accepted.{Accepted}
+use Rattle.scheme.specs.Rows.{chainOf}
+use Rattle.scheme.specs.Laws.Tab.{as-tab}
+use Rattle.scheme.specs.declared.Scheme.{Scheme}
+use Rattle.bounds.specs.Lists.{at}
+use Rattle.bounds.specs.Figure.{LARGEST}
+use Rattle.bounds.specs.Years.{chainIn, yearsFigure}
+use Rattle.bounds.specs.Start.{chainStored, Ready, startFigure, ShareHeld}
+use Rattle.bounds.specs.Answers.{startOf}
+use Rattle.bounds.specs.Table.{placeOf, totalPlace, tableSize, tableEntry, lowTable, highTable}
+use Rattle.bounds.specs.Tracks.{Trackable, Tracked, Columnable, ColumnReady, TableReady, SharesIn, figureTable}
+use Rattle.bounds.specs.Laws.Table.{entry-share, entry-mean, entry-total}
+use Rattle.bounds.proofs.Starting.{start-runs, start-years, start-within, scheme-starts, scheme-years}
+use Rattle.bounds.proofs.Forming.{zeros}
+use Rattle.bounds.proofs.Answering.{share-ready, share-figure, mean-ready, mean-figure, total-ready, total-figure}
+
+-- figures that are equal in each year
+tracked-same : {f g : ℕ → ℕ} {from stride years : ℕ} {before after : List ℕ} → ((u : ℕ) → f u ≡ g u)
+    → Tracked f from stride years before after → Tracked g from stride years before after
+tracked-same h w = record { size = w .size; done = λ u l. w .done u l ∙ h u; other = w .other }
+
+-- from the stored parts to the slices that go down
+module _ {rules lowers uppers : List ℕ} {columns classes start : ℕ} {gain payoff : List ℕ} {horizon from : ℕ} {out : List ℕ}
+    (w : Columnable rules lowers uppers columns classes start gain payoff horizon from out)
+    (rulesStored : 256 ≤ length rules) (lowersStored : 8 ≤ length lowers) (gainStored : 32 ≤ length gain)
+    (i : ℕ) (state : i ≡ start - 1) where
+  pub column-tracks : Trackable rules (take columns lowers) (take columns uppers) (take classes gain) payoff i from (classes + 1) horizon out
+  column-tracks =
+      record {
+        runs = start-runs (w .starts) rulesStored lowersStored gainStored;
+        within = start-within (w .starts) rulesStored lowersStored gainStored i state;
+        apart = omega arith;
+        fits = w .fits;
+        few = w .few;
+      }
+
+  pub column-tracked : (falling : Bool) {after : List ℕ}
+      → Tracked (λ u. yearsFigure falling (chainIn (length (take classes gain)) rules (take columns lowers) (take columns uppers)) (at payoff) (at (take classes gain)) u i) from (classes + 1) horizon out after
+      → Tracked (λ t. yearsFigure falling (chainStored columns classes rules lowers uppers) (at payoff) (at gain) t (start - 1)) from (classes + 1) horizon out after
+  column-tracked falling t = tracked-same (λ u. start-years (w .starts) rulesStored lowersStored gainStored falling u i state) t
+
+-- a table's numbers are few
+table-few : (s : Scheme) → s .horizon ≤ 100 → s .classes ≤ 32 → tableSize s ≤ LARGEST
+table-few s h c =
+    let k : suc (s .horizon) * suc (s .classes) ≤ 101 * 33 = mul-le-mul {n₂ = 101} {m₂ = 33} (omega arith) (omega arith) in
+    omega arith
+
+-- from a scheme to its parts
+module _ (s : Scheme) {gain payoff : List ℕ} {from : ℕ} {out : List ℕ} (w : ColumnReady s gain payoff from out) where
+  pub scheme-columns : Columnable (s .rules) (s .lowers) (s .uppers) (s .columns) (s .classes) (s .start) gain payoff (s .horizon) from out
+  scheme-columns =
+      record {
+        starts = scheme-starts s (w .ready);
+        fits = omega (arith, w .within, w .size);
+        few = omega (arith, w .size, table-few s (w .ready .accepted .horizon .within) (w .ready .accepted .size .classes));
+      }
+
+  pub scheme-column : (falling : Bool) {after : List ℕ}
+      → Tracked (λ t. yearsFigure falling (chainStored (s .columns) (s .classes) (s .rules) (s .lowers) (s .uppers)) (at payoff) (at gain) t (s .start - 1)) from (s .classes + 1) (s .horizon) out after
+      → Tracked (startFigure falling s gain payoff) from (s .classes + 1) (s .horizon) out after
+  scheme-column falling t = tracked-same (scheme-years s (w .ready) falling) t
+
+-- a place tells its number in the row
+number-is : (c t j : ℕ) → j ≤ c → (t * suc c + j) % suc c ≡ j
+number-is c t j l = mul-add-mod-self-right t (suc c) j ∙ mod-eq-of-lt {n = j} {m = suc c} (omega arith)
+
+-- columns have no place in common
+columns-apart : (c t k u j : ℕ) → k ≤ c → j ≤ c → t * suc c + k ≡ j + u * (c + 1) → k ≡ j
+columns-apart c t k u j l m e =
+    let f : t * suc c + k ≡ u * suc c + j = omega arith in
+    sym (number-is c t k l) ∙ ap (λ x. x % suc c) f ∙ number-is c u j m
+
+-- a column's own places hold its figures, and those of another column what they held
+module _ (s : Scheme) {figure : ℕ → ℕ} {j : ℕ} {before after : List ℕ} (inRow : j ≤ s .classes)
+    (w : Tracked figure j (s .classes + 1) (s .horizon) before after) where
+  column-own : (t : ℕ) → t ≤ s .horizon → at after (placeOf s t j) ≡ figure t
+  column-own t h =
+      let e : placeOf s t j ≡ j + t * (s .classes + 1) = omega arith in
+      ap (at after) e ∙ w .done t (omega arith)
+
+  column-other : (t k : ℕ) → k ≤ s .classes → (k ≡ j → ⊥) → at after (placeOf s t k) ≡ at before (placeOf s t k)
+  column-other t k l d = w .other (placeOf s t k) (λ u e. d (columns-apart (s .classes) t k u j l inRow e))
+
+-- the shares, class by class
+pub sharing-none : {falling : Bool} {s : Scheme} {out : List ℕ} → TableReady s out → SharesIn falling s out 0
+sharing-none w = record { size = w .size; inside = omega arith; done = below-none _ }
+
+module _ (s : Scheme) (ok : Accepted s) {falling : Bool} {out : List ℕ} {j : ℕ} (w : SharesIn falling s out j) (more : j < s .classes)
+    {payoff : List ℕ} (held : ShareHeld (j + 1) payoff) where
+  pub sharing-column : ColumnReady s zeros payoff j out
+  sharing-column = record { ready = share-ready s ok held (s .horizon); within = omega arith; size = w .size }
+
+  pub sharing-more : {after : List ℕ} → Tracked (startFigure falling s zeros payoff) j (s .classes + 1) (s .horizon) out after → SharesIn falling s after (j + 1)
+  sharing-more {after} t =
+      record {
+        size = t .size ∙ w .size;
+        inside = omega arith;
+        done =
+            below-more (λ k. (u : ℕ) → u ≤ s .horizon → at after (placeOf s u k) ≡ yearsFigure falling (chainOf s) (sharePayoff k) nothing u (startOf s)) j
+            (λ k l u h. column-other s (omega arith) t u k (omega arith) (λ e. omega arith) ∙ w .done k l u h)
+            (λ u h.
+            column-own s (omega arith) t u h
+            ∙ share-figure s ok held u falling
+            ∙ ap (λ k. yearsFigure falling (chainOf s) (sharePayoff k) nothing u (startOf s)) again);
+      }
+    where
+      again : j + 1 - 1 ≡ j
+      again = omega arith
+
+pub sharing-all : {falling : Bool} {s : Scheme} {out : List ℕ} {j : ℕ} → s .classes ≤ j → SharesIn falling s out j → SharesIn falling s out (s .classes)
+sharing-all h w = record { size = w .size; inside = omega arith; done = λ k l. w .done k (omega arith) }
+
+-- shares, means and the total at their places make the list
+module _ (s : Scheme) (share : ℕ → ℕ → ℕ) (mean : ℕ → ℕ) (total : ℕ) (out : List ℕ) (size : length out ≡ tableSize s)
+    (shares : (t j : ℕ) → t ≤ s .horizon → j < s .classes → at out (placeOf s t j) ≡ share t j)
+    (means : (t : ℕ) → t ≤ s .horizon → at out (placeOf s t (s .classes)) ≡ mean t)
+    (last : at out (totalPlace s) ≡ total) where
+  -- by year and number
+  row-entry : (t j : ℕ) → t ≤ s .horizon → j ≤ s .classes → at out (placeOf s t j) ≡ tableEntry s share mean total (placeOf s t j)
+  row-entry t j h l = by (decLt j (s .classes))
+    where
+      by : Dec (j < s .classes) → at out (placeOf s t j) ≡ tableEntry s share mean total (placeOf s t j)
+      by (yes g) = shares t j h g ∙ sym (entry-share s share mean total t j h g)
+      by (no g) =
+          let e : s .classes ≡ j = omega arith in
+          subst (λ k. at out (placeOf s t k) ≡ tableEntry s share mean total (placeOf s t k)) e (means t h ∙ sym (entry-mean s share mean total t h))
+
+  place-entry : (p : ℕ) → p < tableSize s → at out p ≡ tableEntry s share mean total p
+  place-entry p l = by (decLt p (totalPlace s))
+    where
+      by : Dec (p < totalPlace s) → at out p ≡ tableEntry s share mean total p
+      by (yes g) =
+          let t : p / suc (s .classes) < suc (s .horizon) = div-lt-iff-lt-mul {k = suc (s .classes)} {x = p} {y = suc (s .horizon)} (omega arith) .1 g in
+          let j : p % suc (s .classes) < suc (s .classes) = mod-lt p {m = suc (s .classes)} (omega arith) in
+          subst (λ q. at out q ≡ tableEntry s share mean total q) (div-add-mod' p (suc (s .classes)))
+          (row-entry (p / suc (s .classes)) (p % suc (s .classes)) (omega arith) (omega arith))
+      by (no g) =
+          let e : totalPlace s ≡ p = omega arith in
+          subst (λ q. at out q ≡ tableEntry s share mean total q) e (last ∙ sym (entry-total s share mean total))
+
+  table-pinned : out ≡ tab (tableSize s) (tableEntry s share mean total)
+  table-pinned = as-tab 0 out (tableSize s) (tableEntry s share mean total) size place-entry
+
+-- the table of a flag
+tabled : (s : Scheme) (falling : Bool) {out : List ℕ}
+    → out
+    ≡ tab (tableSize s)
+    (tableEntry s
+    (λ t j. yearsFigure falling (chainOf s) (sharePayoff j) nothing t (startOf s))
+    (λ t. yearsFigure falling (chainOf s) (premiumAt s) nothing t (startOf s))
+    (yearsFigure falling (chainOf s) nothing (premiumAt s) (s .horizon) (startOf s)))
+    → out ≡ figureTable falling s
+unfolding lowTable highTable
+tabled s false e = e
+tabled s true e = e
+
+-- the mean's column and the total, after the shares
+module _ (s : Scheme) (ok : Accepted s) {premiums : List ℕ} (are : premiums ≡ s .premiums) where
+  pub total-starts : Ready s premiums zeros (s .horizon)
+  total-starts = subst (λ x. Ready s x zeros (s .horizon)) (sym are) (total-ready s ok (s .horizon) (ok .horizon .within))
+
+  module _ {falling : Bool} {out : List ℕ} (w : SharesIn falling s out (s .classes)) where
+    pub mean-column : ColumnReady s zeros premiums (s .classes) out
+    mean-column =
+        record {
+          ready = subst (λ x. Ready s zeros x (s .horizon)) (sym are) (mean-ready s ok (s .horizon));
+          within = omega arith;
+          size = w .size;
+        }
+
+    module _ {after : List ℕ} (m : Tracked (startFigure falling s zeros premiums) (s .classes) (s .classes + 1) (s .horizon) out after) where
+      -- the last place is the total's
+      last-place : length after - 1 ≡ totalPlace s
+      last-place = omega (arith, m .size, w .size)
+
+      kept : (v t j : ℕ) → t ≤ s .horizon → j ≤ s .classes → at (set after (length after - 1) v) (placeOf s t j) ≡ at after (placeOf s t j)
+      kept v t j h l =
+          getD-set-other after (length after - 1) (placeOf s t j) v 0
+          (λ g.
+          let k : suc t * suc (s .classes) ≤ suc (s .horizon) * suc (s .classes) = mul-le-mul-right (suc (s .classes)) (omega arith) in
+          omega (arith, last-place))
+
+      pub table-size : (v : ℕ) → length (set after (length after - 1) v) ≡ tableSize s
+      table-size v = length-set after (length after - 1) v ∙ m .size ∙ w .size
+
+      pub table-made : (v : ℕ) → v ≡ startFigure falling s premiums zeros (s .horizon) → set after (length after - 1) v ≡ figureTable falling s
+      table-made v f =
+          tabled s falling
+          (table-pinned s _ _ _ (set after (length after - 1) v) (table-size v)
+          (λ t j h l. kept v t j h (omega arith) ∙ column-other s (omega arith) m t j (omega arith) (λ g. omega arith) ∙ w .done j l t h)
+          (λ t h.
+          kept v t (s .classes) h (omega arith)
+          ∙ column-own s (omega arith) m t h
+          ∙ ap (λ x. startFigure falling s zeros x t) are
+          ∙ mean-figure s ok falling t)
+          (ap (at (set after (length after - 1) v)) (sym last-place)
+          ∙ getD-set-same after (length after - 1) v 0 (omega (arith, m .size, w .size))
+          ∙ f
+          ∙ ap (λ x. startFigure falling s x zeros (s .horizon)) are
+          ∙ total-figure s ok falling (s .horizon)))

@@ -1,0 +1,62 @@
+-- `share_columns` writes the shares class by class.
+-- Assumes nothing.
+use mathlib.Core.Path.{sym, _∙_}
+use Prim.Native.Nat.{_-_}
+use native.Mathlib.Omega.{arith}
+use Rattle.bounds.specs.Tracks.{SharesIn}
+use Rattle.bounds.proofs.Tabling.{sharing-none, sharing-column, sharing-more, sharing-all}
+use Rattle.bounds.proofs.table.share_columns.Statement.{statement}
+use Rattle.bounds.proofs.table.share_columns.Tie as tie
+
+abbrev Inv-loop : tie.InvT-loop
+Inv-loop scheme falling out₀ gain classes j₀ out j = SharesIn falling scheme out j
+
+abbrev μ-loop : tie.MeasureT-loop
+μ-loop scheme falling out₀ gain classes j₀ out j = classes - j
+
+cast-classes : tie.Need-cast-classes Inv-loop μ-loop
+cast-classes c = omega arith
+
+loop-holds : tie.Need-loop-holds Inv-loop μ-loop
+loop-holds c = sharing-none (c .before .before .pre)
+
+add-share-payoff : tie.Need-add-share-payoff Inv-loop μ-loop
+add-share-payoff c = omega arith
+
+share-payoff-requires : tie.Need-share-payoff-requires Inv-loop μ-loop
+share-payoff-requires c κs = (omega arith, omega arith)
+
+column-requires : tie.Need-column-requires Inv-loop μ-loop
+column-requires c κs = sharing-column (c .before .before .before .before .before .before .args .scheme) (c .before .before .before .before .before .before .pre .accepted) (c .before .before .before .loop .inv) (omega arith) (c .before .share-payoff .ensures)
+
+add-j : tie.Need-add-j Inv-loop μ-loop
+add-j c = omega arith
+
+loop-less : tie.Need-loop-less Inv-loop μ-loop
+loop-less c = omega arith
+
+loop-again : tie.Need-loop-again Inv-loop μ-loop
+loop-again c = sharing-more (c .before .before .before .before .before .before .before .before .before .args .scheme) (c .before .before .before .before .before .before .before .before .before .pre .accepted) (c .before .before .before .before .before .before .loop .inv) (omega arith) (c .before .before .before .before .share-payoff .ensures) (c .before .before .column .ensures)
+
+same-length : tie.Need-same-length Inv-loop μ-loop
+same-length c = c .before .loop .inv .size ∙ sym (c .before .before .before .before .pre .size)
+
+returns : tie.Need-returns Inv-loop μ-loop
+returns c = sharing-all (omega arith) (c .before .loop .inv)
+
+pub share-columns-spec : {M : Type 1} → statement M
+share-columns-spec =
+    tie.close
+    (tie.spec
+    Inv-loop
+    μ-loop
+    cast-classes
+    loop-holds
+    add-share-payoff
+    share-payoff-requires
+    column-requires
+    add-j
+    loop-less
+    loop-again
+    same-length
+    returns)

@@ -1,0 +1,56 @@
+-- `write_table` writes the shares, then the mean's column, then the total at the last place.
+-- Assumes nothing.
+use mathlib.Core.Path.{sym, _∙_}
+use Rattle.bounds.proofs.Tabling.{total-starts, mean-column, table-size, table-made}
+use borrow.Author.Needs.{needs}
+use Rattle.bounds.proofs.table.write_table.Statement.{statement}
+use Rattle.bounds.proofs.table.write_table.Tie as tie
+
+share-columns-requires : tie.Need-share-columns-requires
+share-columns-requires c κs = search needs
+
+widened-requires : tie.Need-widened-requires
+widened-requires c κs = search needs
+
+cast-column : tie.Need-cast-column
+cast-column c = search needs
+
+column-requires : tie.Need-column-requires
+column-requires c κs = mean-column (c .before .before .before .before .before .before .before .before .before .args .scheme) (c .before .before .before .before .before .before .before .before .before .pre .accepted) (c .before .before .widened .ensures) (c .before .before .before .before .before .before .share-columns .ensures)
+
+sub-last : tie.Need-sub-last
+sub-last c = search needs
+
+cast-start-figure : tie.Need-cast-start-figure
+cast-start-figure c = search needs
+
+start-figure-requires : tie.Need-start-figure-requires
+start-figure-requires c κs = total-starts (c .before .before .before .before .before .before .before .before .before .before .before .before .before .args .scheme) (c .before .before .before .before .before .before .before .before .before .before .before .before .before .pre .accepted) (c .before .before .before .before .before .before .widened .ensures)
+
+mul-out : tie.Need-mul-out
+mul-out c = search needs
+
+slice-write-out : tie.Need-slice-write-out
+slice-write-out c = search needs
+
+same-length : tie.Need-same-length
+same-length c = table-size (c .before .before .before .before .before .before .before .before .before .before .before .before .before .before .args .scheme) (c .before .before .before .before .before .before .before .before .before .before .before .before .before .before .pre .accepted) (c .before .before .before .before .before .before .before .widened .ensures) (c .before .before .before .before .before .before .before .before .before .before .before .share-columns .ensures) (c .before .before .before .before .column .ensures) (c .start-figure .result) ∙ sym (c .before .before .before .before .before .before .before .before .before .before .before .before .before .before .pre .size)
+
+returns : tie.Need-returns
+returns c = table-made (c .before .before .before .before .before .before .before .before .before .before .before .before .before .before .args .scheme) (c .before .before .before .before .before .before .before .before .before .before .before .before .before .before .pre .accepted) (c .before .before .before .before .before .before .before .widened .ensures) (c .before .before .before .before .before .before .before .before .before .before .before .share-columns .ensures) (c .before .before .before .before .column .ensures) (c .start-figure .result) (c .start-figure .ensures)
+
+pub write-table-spec : {M : Type 1} → statement M
+write-table-spec =
+    tie.close
+    (tie.spec
+    share-columns-requires
+    widened-requires
+    cast-column
+    column-requires
+    sub-last
+    cast-start-figure
+    start-figure-requires
+    mul-out
+    slice-write-out
+    same-length
+    returns)

@@ -1,0 +1,58 @@
+-- Figure vectors carried through the years, and the columns of a sheet's table: what the private functions take and leave.
+use Prim.Native.Nat.{ℕ, _+_, _*_, _≤_, _<_}
+use mathlib.Core.Path.{_≡_}
+use mathlib.Core.Bool.{Bool, true, false}
+use mathlib.Core.List.{List}
+use lib.ListN.{length}
+use Rattle.setchain.specs.Years.{sharePayoff, nothing}
+use Rattle.scheme.specs.declared.Scheme.{Scheme}
+use Rattle.scheme.specs.Accepted.{Accepted}
+use Rattle.scheme.specs.Rows.{chainOf}
+use Rattle.bounds.specs.Lists.{at}
+use Rattle.bounds.specs.Figure.{LARGEST}
+use Rattle.bounds.specs.Years.{chainIn, yearsFigure, Runnable}
+use Rattle.bounds.specs.Start.{Startable, Ready}
+use Rattle.bounds.specs.Answers.{startOf}
+use Rattle.bounds.specs.Table.{placeOf, tableSize, lowTable, highTable}
+
+-- years that can be run, a state of the chain, and a slice that has the last year's place
+pub record Trackable (rules lowers uppers gain payoff : List ℕ) (state from stride years : ℕ) (out : List ℕ) : Type 0 where
+  pub runs : Runnable rules lowers uppers gain payoff years
+  pub within : state < length gain
+  pub apart : 1 ≤ stride
+  pub fits : from + years * stride < length out
+  pub few : length out ≤ LARGEST
+
+-- the figures of year 0 to `years` stand in `after`, and nothing else has changed
+pub record Tracked (figure : ℕ → ℕ) (from stride years : ℕ) (before after : List ℕ) : Type 0 where
+  pub size : length after ≡ length before
+  pub done : (u : ℕ) → u < years + 1 → at after (from + u * stride) ≡ figure u
+  pub other : (p : ℕ) → ((u : ℕ) → p ≡ from + u * stride → ⊥) → at after p ≡ at before p
+
+-- what a column of the start class's figures takes from the stored parts
+pub record Columnable (rules lowers uppers : List ℕ) (columns classes start : ℕ) (gain payoff : List ℕ) (horizon from : ℕ) (out : List ℕ) : Type 0 where
+  pub starts : Startable rules lowers uppers columns classes start gain payoff horizon
+  pub fits : from + horizon * (classes + 1) < length out
+  pub few : length out ≤ LARGEST
+
+-- and from a scheme: a place in a year's row, and a slice of the table's size
+pub record ColumnReady (s : Scheme) (gain payoff : List ℕ) (from : ℕ) (out : List ℕ) : Type 0 where
+  pub ready : Ready s gain payoff (s .horizon)
+  pub within : from ≤ s .classes
+  pub size : length out ≡ tableSize s
+
+-- what a table takes: an accepted scheme, and a slice of its size
+pub record TableReady (s : Scheme) (out : List ℕ) : Type 0 where
+  pub accepted : Accepted s
+  pub size : length out ≡ tableSize s
+
+-- the shares of the first j classes stand at their places in every year
+pub record SharesIn (falling : Bool) (s : Scheme) (out : List ℕ) (j : ℕ) : Type 0 where
+  pub size : length out ≡ tableSize s
+  pub inside : j ≤ s .classes
+  pub done : (k : ℕ) → k < j → (t : ℕ) → t ≤ s .horizon → at out (placeOf s t k) ≡ yearsFigure falling (chainOf s) (sharePayoff k) nothing t (startOf s)
+
+-- the low figures, or the high ones where payoffs fall along the order
+abbrev pub figureTable : Bool → Scheme → List ℕ
+figureTable false = lowTable
+figureTable true = highTable
