@@ -5,9 +5,9 @@ use scheme::Scheme;
 
 // A word and a number.
 fn line(word: &[u8], x: u64) {
-    print::bytes(word);
-    print::number(x);
-    print::end();
+    console::bytes(word);
+    console::number(x);
+    console::end();
 }
 
 // A byte and a 32-bit number in 64 bits.
@@ -21,33 +21,33 @@ fn wider(x: u32) -> u64 {
 
 // A word and what a call for bounds answered.
 fn answer(word: &[u8], b: Bounds) {
-    print::bytes(word);
+    console::bytes(word);
     match b {
         Bounds::Answered { low, high } => {
-            print::number(low);
-            print::number(high);
+            console::number(low);
+            console::number(high);
         }
         Bounds::Refused(number) => {
-            print::bytes(b" REFUSED");
-            print::number(number as u64);
+            console::bytes(b" REFUSED");
+            console::number(number as u64);
         }
     }
-    print::end();
+    console::end();
 }
 
 // A word and what writing a record answered.
 fn wrote(word: &[u8], w: WriteAnswer) {
-    print::bytes(word);
+    console::bytes(word);
     match w {
         WriteAnswer::Written(length) => {
-            print::number(length as u64);
+            console::number(length as u64);
         }
         WriteAnswer::Declined(number) => {
-            print::bytes(b" REFUSED");
-            print::number(number as u64);
+            console::bytes(b" REFUSED");
+            console::number(number as u64);
         }
     }
-    print::end();
+    console::end();
 }
 
 // A scheme of one class and two columns whose lowers sum to ONE.
@@ -221,13 +221,13 @@ fn damaged() {
 
 // A part of bytes as numbers.
 fn shown(word: &[u8], part: &[u8]) {
-    print::bytes(word);
+    console::bytes(word);
     let mut i: usize = 0;
     while i < part.len() {
-        print::number(wide(part[i]));
+        console::number(wide(part[i]));
         i += 1;
     }
-    print::end();
+    console::end();
 }
 
 // The rule row of a class.

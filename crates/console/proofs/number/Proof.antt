@@ -1,8 +1,8 @@
 -- `number` is safe and ends: the place falls with each digit.
 use Prim.Native.Nat.{_≤_}
 use borrow.Author.Needs.{needs}
-use Rattle.print.proofs.number.Statement.{statement}
-use Rattle.print.proofs.number.Tie as tie
+use Rattle.console.proofs.number.Statement.{statement}
+use Rattle.console.proofs.number.Tie as tie
 
 abbrev Inv-loop : tie.InvT-loop
 Inv-loop x digits₀ at₀ rest₀ digits at rest = at ≤ 19
