@@ -1,6 +1,6 @@
 -- A figure vector carried through the years: year 0, and one year more.
 -- Assumes nothing.
-use Prim.Native.Nat.{ℕ, suc, _+_, _-_, _*_, _≤_, _<_}
+use Prim.Native.Nat.{ℕ, suc, _+_, _*_, _≤_, _<_}
 use mathlib.Core.Path.{_≡_, refl, ap, sym, _∙_, subst}
 use mathlib.Core.Bool.{Bool}
 use mathlib.Core.List.{List}
@@ -12,7 +12,7 @@ use borrow.Author.Count.{below-none, below-more}
 use Rattle.setchain.specs.Rows.{SetChain}
 use Rattle.bounds.specs.Lists.{at}
 use Rattle.bounds.specs.Figure.{LARGEST}
-use Rattle.bounds.specs.Years.{chainIn, yearsFigure, Held, Yearly, Formed, Runnable, Ran}
+use Rattle.bounds.specs.Years.{chainIn, yearsFigure, Yearly, Formed, Ran}
 use Rattle.bounds.specs.Tracks.{Trackable, Tracked}
 use Rattle.bounds.proofs.Agreeing.{years-none, years-next, years-at-most}
 use Rattle.bounds.proofs.Running.{run-none}

@@ -1,16 +1,14 @@
 -- Document 01's examples that are marked (m), under one theorem.
-use Prim.Native.Nat.{ℕ, zero, suc, _+_, _*_, _/_, _≤_, _<_}
+use Prim.Native.Nat.{ℕ, zero, suc, _*_, _≤_}
 use mathlib.Core.Path.{_≡_, refl, ap, ap₂, sym, _∙_, subst}
-use mathlib.Core.List.{List, [], _∷_}
-use mathlib.Core.Bool.{Bool, true, false}
-use lib.Dec.{eqb}
+use mathlib.Core.List.{[], _∷_}
 use native.Mathlib.Omega.{arith}
 use native.Mathlib.Nat.{le-refl}
-use borrow.Author.Tests.{eq-eqb, le-ltb}
-use Rattle.setchain.specs.Sums.{sumTo, onlyIf, dot}
+use borrow.Author.Tests.{le-ltb}
+use Rattle.setchain.specs.Sums.{sumTo, onlyIf}
 use Rattle.setchain.specs.Rows.{ONE, IntervalRow, SoundRow, SetChain, SoundChain}
-use Rattle.setchain.specs.Step.{roomBefore, fillRow, lowRow, highRow, lowStep, highStep}
-use Rattle.setchain.specs.Years.{lowYears, highYears, lowShare, highShare, lowTotal, highTotal}
+use Rattle.setchain.specs.Step.{roomBefore, fillRow, lowStep, highStep}
+use Rattle.setchain.specs.Years.{lowYears, highYears, lowShare, highShare}
 use Rattle.setchain.specs.Examples.{StepExamples, step-examples}
 use Rattle.setchain.specs.Laws.Step.{low-parts, high-parts}
 use Rattle.scheme.specs.declared.Scheme.{Scheme}
@@ -22,9 +20,8 @@ use Rattle.scheme.specs.Examples.{padded, schemeA, RowsA, rows-a}
 use Rattle.scheme.specs.Laws.Cause.{answered, second-cause, cond-false, inside-outside}
 use Rattle.scheme.specs.Laws.Judged.{cause-accepted}
 use Rattle.scheme.specs.Laws.Sound.{accepted-sound}
-use Rattle.bounds.specs.declared.Bounds.{Bounds}
 use Rattle.bounds.specs.declared.Bounds.the-variants.{Answered, Refused}
-use Rattle.bounds.specs.Answers.{answerBy, startOf, shareCause, shareAnswer, moneyCause, meanAnswer, totalAnswer}
+use Rattle.bounds.specs.Answers.{startOf, shareCause, shareAnswer, moneyCause, meanAnswer, totalAnswer}
 
 -- "Both classes 0→1, 1+→2; bands 333333333 and 666666667, each lower = upper; premiums 10, 11"
 abbrev pub schemeThirds : Scheme

@@ -10,7 +10,7 @@ use Rattle.scheme.specs.Accepted.{Accepted}
 use Rattle.scheme.specs.Rows.{chainOf}
 use Rattle.bounds.specs.Lists.{at}
 use Rattle.bounds.specs.Figure.{LARGEST}
-use Rattle.bounds.specs.Years.{chainIn, yearsFigure, Runnable}
+use Rattle.bounds.specs.Years.{yearsFigure, Runnable}
 use Rattle.bounds.specs.Start.{Startable, Ready}
 use Rattle.bounds.specs.Answers.{startOf}
 use Rattle.bounds.specs.Table.{placeOf, tableSize, lowTable, highTable}

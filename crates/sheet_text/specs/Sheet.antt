@@ -25,12 +25,19 @@ classLine year j low high = yearWord ++ field year ++ classWord ++ field (suc j)
 unfoldable pub premiumLine : (year low high : ℕ) → List ℕ
 premiumLine year low high = yearWord ++ field year ++ premiumWord ++ field low ++ field high ++ newline
 
--- the lines of one year
-unfoldable pub yearLines : Scheme → ℕ → List ℕ
-yearLines s year =
+-- the class lines of one year
+abbrev pub classLines : Scheme → ℕ → List ℕ
+classLines s year =
     joined (s .classes)
     (λ j. classLine year j (lowShare (chainOf s) j year (startOf s)) (highShare (chainOf s) j year (startOf s)))
-    ++ premiumLine year (lowMean (chainOf s) (premiumAt s) year (startOf s)) (highMean (chainOf s) (premiumAt s) year (startOf s))
+
+-- the PREMIUM line of one year
+abbrev pub yearPremium : Scheme → ℕ → List ℕ
+yearPremium s year = premiumLine year (lowMean (chainOf s) (premiumAt s) year (startOf s)) (highMean (chainOf s) (premiumAt s) year (startOf s))
+
+-- the lines of one year
+unfoldable pub yearLines : Scheme → ℕ → List ℕ
+yearLines s year = classLines s year ++ yearPremium s year
 
 -- "TOTAL, t being the horizon, comes last."
 unfoldable pub totalLine : (low high : ℕ) → List ℕ

@@ -1,1 +1,55 @@
 // The sheet of a record as text (document 01, "Sheet program and examples").
+use scheme::Scheme;
+ghost use mathlib.Core.Path.{_≡_};
+ghost use Prim.Native.Nat.{_≤_};
+ghost use Rattle.scheme.specs.Accepted.{Accepted};
+ghost use Rattle.sheet_text.specs.Sheet.{refusedLine, sheetOf};
+ghost use Rattle.sheet_text.specs.Answer.{roomOf, Told, sheetAnswer, sheetLeaves};
+
+mod lines;
+mod tables;
+mod text;
+mod whole;
+mod years;
+
+// What writing a sheet answers: the sheet's length, or the cause.
+pub enum SheetAnswer {
+    Written(usize),
+    Declined(u8),
+}
+
+// Writes the line of a refusal.
+fn refused(out: &mut [u8], number: u8) -> SheetAnswer
+    requires { ⌜ number ≤ 99 ⌝ }
+    ensures { λ r. ⌜ Told 11 (refusedLine number) (now (out .entry)) (now (out .exit)) r ⌝ }
+{
+    if out.len() < 11 {
+        return SheetAnswer::Declined(record::SLICE_OUT);
+    }
+    SheetAnswer::Written(lines::refused_line(out, 0, number))
+}
+
+// Writes the sheet of an accepted scheme.
+fn accepted(out: &mut [u8], scheme: Scheme) -> SheetAnswer
+    requires { ⌜ Accepted scheme ⌝ }
+    ensures { λ r. ⌜ Told (roomOf scheme) (sheetOf scheme) (now (out .entry)) (now (out .exit)) r ⌝ }
+{
+    let years = (scheme.horizon as usize) + 1;
+    let room = 19 + years * ((scheme.classes as usize) * 40 + 35) + 28;
+    if out.len() < room {
+        return SheetAnswer::Declined(record::SLICE_OUT);
+    }
+    SheetAnswer::Written(tables::put_sheet(out, scheme))
+}
+
+// Writes the sheet of any bytes, or the line of their refusal, and leaves bytes past it unchanged; a slice without the room is left as it was.
+pub fn sheet(bytes: &[u8], out: &mut [u8]) -> SheetAnswer
+    ensures { λ r. ⌜ (r ≡ sheetAnswer (now (bytes .entry)) (now (out .entry))) × (now (out .exit) ≡ sheetLeaves (now (bytes .entry)) (now (out .entry))) ⌝ }
+{
+    let answer = record::read(bytes);
+    let number = answer.number;
+    if number != 0 {
+        return refused(out, number);
+    }
+    accepted(out, answer.scheme)
+}

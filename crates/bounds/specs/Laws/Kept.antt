@@ -1,6 +1,6 @@
 -- The answers keep their promises: setchain's theorems at an accepted scheme's chain and start class.
 use Prim.Native.Nat.{ℕ, _-_, _<_}
-use mathlib.Core.Path.{_≡_, refl, ap, sym, _∙_, subst, subst₂}
+use mathlib.Core.Path.{_≡_, ap, sym, _∙_, subst, subst₂}
 use mathlib.Core.List.{List}
 use mathlib.Core.Bool.{cond, not, _||_}
 use lib.Dec.{eqb}
@@ -13,7 +13,6 @@ use Rattle.setchain.specs.Years.{lowShare, highShare, lowMean, highMean, lowTot
 use Rattle.setchain.specs.Promise.{shareInParts, Promise}
 use Rattle.setchain.specs.Theorems.{share-promise, mean-promise, total-promise, some-picks}
 use Rattle.scheme.specs.declared.Scheme.{Scheme}
-use Rattle.scheme.specs.Tables.{tab}
 use Rattle.scheme.specs.Access.{premiumAt}
 use Rattle.scheme.specs.Accepted.{Accepted}
 use Rattle.scheme.specs.Cause.{causeOf, orElse, classCause, yearCause}
@@ -22,10 +21,9 @@ use Rattle.scheme.specs.Laws.Cause.{first-cause, declined, answered}
 use Rattle.scheme.specs.Laws.Judged.{accepted-cause}
 use Rattle.scheme.specs.Laws.Sound.{accepted-sound}
 use Rattle.scheme.specs.Laws.Tab.{getD-tab}
-use Rattle.bounds.specs.declared.Bounds.{Bounds}
 use Rattle.bounds.specs.declared.Bounds.the-variants.{Answered, Refused}
 use Rattle.bounds.specs.Answers.{numberOf, lowOf, highOf, answerBy, startOf, shareCause, shareAnswer, moneyCause, meanAnswer, totalAnswer, sheetCause, sliceCause, sheetSlice, lowShares, highShares}
-use Rattle.bounds.specs.Promises.{SomeNear, Kept, startShare, startMean, startTotal, SharePromise, MeanPromise, TotalPromise, SheetPromise, TableKept, FiguresPromise}
+use Rattle.bounds.specs.Promises.{Kept, startShare, startMean, startTotal, SharePromise, MeanPromise, TotalPromise, SheetPromise, TableKept, FiguresPromise}
 use Rattle.bounds.specs.Table.{tableSize, lowTable, highTable, tableCause}
 use Rattle.bounds.specs.Laws.Table.{low-share-at, high-share-at, low-mean-at, high-mean-at, low-total-at, high-total-at}
 

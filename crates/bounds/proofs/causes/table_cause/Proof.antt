@@ -1,6 +1,6 @@
 -- `table_cause` meets its contract: the causes are the definition's, in its order.
-use Prim.Native.Nat.{ℕ, _+_, _*_}
-use mathlib.Core.Path.{_≡_, ap, ap₂, sym, _∙_}
+use Prim.Native.Nat.{_+_, _*_}
+use mathlib.Core.Path.{_≡_, ap, ap₂, _∙_}
 use mathlib.Core.Bool.{cond, not, _||_}
 use lib.Dec.{eqb}
 use native.Mathlib.Omega.{arith}

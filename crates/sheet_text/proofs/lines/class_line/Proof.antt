@@ -1,0 +1,72 @@
+-- `lines::class_line` meets its contract: each part stands after the last.
+use Rattle.sheet_text.specs.Text.{field, classWord}
+use Prim.Native.Nat.{suc}
+use Rattle.sheet_text.specs.Sheet.{classLine}
+use Rattle.sheet_text.specs.Laws.Put.{put-then, room-first, room-next}
+use Rattle.sheet_text.specs.Laws.Lines.{endsText, classHead, ends-room, ends-put, class-field-room, class-field-put}
+use borrow.Author.Needs.{needs}
+use Rattle.sheet_text.proofs.lines.class_line.Statement.{statement}
+use Rattle.sheet_text.proofs.lines.class_line.Tie as tie
+
+slice-aggregate-put-word : tie.Need-slice-aggregate-put-word
+slice-aggregate-put-word c = search needs
+
+put-word-requires : tie.Need-put-word-requires
+unfolding classLine
+put-word-requires c κs =
+    let start = c .before .before .before .args in
+    room-first (field (start .year)) (room-first classWord (room-first (field (suc (start .j))) (room-first (endsText (start .low) (start .high)) (ends-room (classHead (start .year) (start .j)) (start .low) (start .high) (c .before .before .before .pre .0)))))
+
+put-field-requires : tie.Need-put-field-requires
+unfolding classLine
+put-field-requires c κs =
+    let start = c .before .before .before .before .before .before .before .args in
+    room-next (c .before .before .before .put-word .ensures) (room-first classWord (room-first (field (suc (start .j))) (room-first (endsText (start .low) (start .high)) (ends-room (classHead (start .year) (start .j)) (start .low) (start .high) (c .before .before .before .before .before .before .before .pre .0)))))
+
+slice-aggregate-put-word-2 : tie.Need-slice-aggregate-put-word-2
+slice-aggregate-put-word-2 c = search needs
+
+put-word-requires-2 : tie.Need-put-word-requires-2
+unfolding classLine
+put-word-requires-2 c κs =
+    let start = c .before .before .before .before .before .before .before .before .before .before .before .before .args in
+    room-next (put-then (c .before .before .before .before .before .before .before .before .put-word .ensures) (c .before .before .before .before .put-field .ensures)) (room-first (field (suc (start .j))) (room-first (endsText (start .low) (start .high)) (ends-room (classHead (start .year) (start .j)) (start .low) (start .high) (c .before .before .before .before .before .before .before .before .before .before .before .before .pre .0))))
+
+add-put-field : tie.Need-add-put-field
+add-put-field c = search needs
+
+put-field-requires-2 : tie.Need-put-field-requires-2
+unfolding classLine
+put-field-requires-2 c κs =
+    let start = c .before .before .before .before .before .before .before .before .before .before .before .before .before .before .before .before .args in
+    class-field-room (start .j) (room-next (put-then (put-then (c .before .before .before .before .before .before .before .before .before .before .before .before .put-word .ensures) (c .before .before .before .before .before .before .before .before .put-field .ensures)) (c .before .before .before .put-word2 .ensures)) (room-first (endsText (start .low) (start .high)) (ends-room (classHead (start .year) (start .j)) (start .low) (start .high) (c .before .before .before .before .before .before .before .before .before .before .before .before .before .before .before .before .pre .0))))
+
+ends-requires : tie.Need-ends-requires
+unfolding classLine
+ends-requires c κs =
+    let start = c .before .before .before .before .before .before .before .before .before .before .before .before .before .before .before .before .before .before .before .before .args in
+    room-next (put-then (put-then (put-then (c .before .before .before .before .before .before .before .before .before .before .before .before .before .before .before .before .put-word .ensures) (c .before .before .before .before .before .before .before .before .before .before .before .before .put-field .ensures)) (c .before .before .before .before .before .before .before .put-word2 .ensures)) (class-field-put (start .j) (c .before .before .before .put-field2 .ensures))) (ends-room (classHead (start .year) (start .j)) (start .low) (start .high) (c .before .before .before .before .before .before .before .before .before .before .before .before .before .before .before .before .before .before .before .before .pre .0))
+
+same-length : tie.Need-same-length
+same-length c = search needs
+
+returns : tie.Need-returns
+unfolding classLine
+returns c =
+    let start = c .before .before .before .before .before .before .before .before .before .before .before .before .before .before .before .before .before .before .before .before .before .before .before .args in
+    ends-put (classHead (start .year) (start .j)) (start .low) (start .high) (put-then (put-then (put-then (put-then (c .before .before .before .before .before .before .before .before .before .before .before .before .before .before .before .before .before .before .before .put-word .ensures) (c .before .before .before .before .before .before .before .before .before .before .before .before .before .before .before .put-field .ensures)) (c .before .before .before .before .before .before .before .before .before .before .put-word2 .ensures)) (class-field-put (start .j) (c .before .before .before .before .before .before .put-field2 .ensures))) (c .before .before .ends .ensures))
+
+pub class-line-spec : {M : Type 1} → statement M
+class-line-spec =
+    tie.close
+    (tie.spec
+    slice-aggregate-put-word
+    put-word-requires
+    put-field-requires
+    slice-aggregate-put-word-2
+    put-word-requires-2
+    add-put-field
+    put-field-requires-2
+    ends-requires
+    same-length
+    returns)

@@ -1,0 +1,26 @@
+-- `lines::ends` meets its contract: each part stands after the last.
+use Rattle.sheet_text.specs.Text.{field, newline}
+use Rattle.sheet_text.specs.Laws.Put.{put-then, room-first, room-next}
+use borrow.Author.Needs.{needs}
+use Rattle.sheet_text.proofs.lines.ends.Statement.{statement}
+use Rattle.sheet_text.proofs.lines.ends.Tie as tie
+
+put-field-requires : tie.Need-put-field-requires
+put-field-requires c κs = room-first (field (c .before .before .args .high)) (room-first newline (c .before .before .pre))
+
+put-field-requires-2 : tie.Need-put-field-requires-2
+put-field-requires-2 c κs = room-next (c .before .before .before .put-field .ensures) (room-first newline (c .before .before .before .before .before .before .pre))
+
+put-newline-requires : tie.Need-put-newline-requires
+put-newline-requires c κs = room-next (put-then (c .before .before .before .before .before .before .before .put-field .ensures) (c .before .before .before .put-field2 .ensures)) (c .before .before .before .before .before .before .before .before .before .before .pre)
+
+same-length : tie.Need-same-length
+same-length c = search needs
+
+returns : tie.Need-returns
+returns c = put-then (put-then (c .before .before .before .before .before .before .before .before .before .before .put-field .ensures) (c .before .before .before .before .before .before .put-field2 .ensures)) (c .before .before .put-newline .ensures)
+
+pub ends-spec : {M : Type 1} → statement M
+ends-spec =
+    tie.close
+    (tie.spec put-field-requires put-field-requires-2 put-newline-requires same-length returns)

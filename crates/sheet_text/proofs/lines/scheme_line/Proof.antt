@@ -1,0 +1,82 @@
+-- `lines::scheme_line` meets its contract: each part stands after the last.
+use Rattle.sheet_text.specs.Text.{field, newline}
+use Rattle.sheet_text.specs.Sheet.{schemeLine}
+use Rattle.sheet_text.specs.Laws.Put.{put-then, put-kept, room-first, room-next}
+use borrow.Author.Needs.{needs}
+use Rattle.sheet_text.proofs.lines.scheme_line.Statement.{statement}
+use Rattle.sheet_text.proofs.lines.scheme_line.Tie as tie
+
+slice-aggregate-put-word : tie.Need-slice-aggregate-put-word
+slice-aggregate-put-word c = search needs
+
+put-word-requires : tie.Need-put-word-requires
+unfolding schemeLine
+put-word-requires c κs =
+    let scheme = c .before .before .before .args .scheme in
+    room-first (field (scheme .classes)) (room-first (field (scheme .columns)) (room-first (field (scheme .start)) (room-first (field (scheme .horizon)) (room-first newline (c .before .before .before .pre)))))
+
+cast-put-field : tie.Need-cast-put-field
+cast-put-field c = search needs
+
+put-field-requires : tie.Need-put-field-requires
+unfolding schemeLine
+put-field-requires c κs =
+    let scheme = c .before .before .before .before .before .before .before .before .args .scheme in
+    room-next (c .before .before .before .before .put-word .ensures) (room-first (field (scheme .columns)) (room-first (field (scheme .start)) (room-first (field (scheme .horizon)) (room-first newline (c .before .before .before .before .before .before .before .before .pre)))))
+
+cast-put-field-2 : tie.Need-cast-put-field-2
+cast-put-field-2 c = search needs
+
+put-field-requires-2 : tie.Need-put-field-requires-2
+unfolding schemeLine
+put-field-requires-2 c κs =
+    let scheme = c .before .before .before .before .before .before .before .before .before .before .before .before .before .args .scheme in
+    room-next (put-then (c .before .before .before .before .before .before .before .before .before .put-word .ensures) (c .before .before .before .before .put-field .ensures)) (room-first (field (scheme .start)) (room-first (field (scheme .horizon)) (room-first newline (c .before .before .before .before .before .before .before .before .before .before .before .before .before .pre))))
+
+cast-put-field-3 : tie.Need-cast-put-field-3
+cast-put-field-3 c = search needs
+
+put-field-requires-3 : tie.Need-put-field-requires-3
+unfolding schemeLine
+put-field-requires-3 c κs =
+    let scheme = c .before .before .before .before .before .before .before .before .before .before .before .before .before .before .before .before .before .before .args .scheme in
+    room-next (put-then (put-then (c .before .before .before .before .before .before .before .before .before .before .before .before .before .before .put-word .ensures) (c .before .before .before .before .before .before .before .before .before .put-field .ensures)) (c .before .before .before .before .put-field2 .ensures)) (room-first (field (scheme .horizon)) (room-first newline (c .before .before .before .before .before .before .before .before .before .before .before .before .before .before .before .before .before .before .pre)))
+
+cast-put-field-4 : tie.Need-cast-put-field-4
+cast-put-field-4 c = search needs
+
+put-field-requires-4 : tie.Need-put-field-requires-4
+unfolding schemeLine
+put-field-requires-4 c κs =
+    room-next (put-then (put-then (put-then (c .before .before .before .before .before .before .before .before .before .before .before .before .before .before .before .before .before .before .before .put-word .ensures) (c .before .before .before .before .before .before .before .before .before .before .before .before .before .before .put-field .ensures)) (c .before .before .before .before .before .before .before .before .before .put-field2 .ensures)) (c .before .before .before .before .put-field3 .ensures)) (room-first newline (c .before .before .before .before .before .before .before .before .before .before .before .before .before .before .before .before .before .before .before .before .before .before .before .pre))
+
+put-newline-requires : tie.Need-put-newline-requires
+unfolding schemeLine
+put-newline-requires c κs =
+    room-next (put-then (put-then (put-then (put-then (c .before .before .before .before .before .before .before .before .before .before .before .before .before .before .before .before .before .before .before .before .before .before .before .put-word .ensures) (c .before .before .before .before .before .before .before .before .before .before .before .before .before .before .before .before .before .before .put-field .ensures)) (c .before .before .before .before .before .before .before .before .before .before .before .before .before .put-field2 .ensures)) (c .before .before .before .before .before .before .before .before .put-field3 .ensures)) (c .before .before .before .put-field4 .ensures)) (c .before .before .before .before .before .before .before .before .before .before .before .before .before .before .before .before .before .before .before .before .before .before .before .before .before .before .before .pre)
+
+same-length : tie.Need-same-length
+same-length c = put-kept (put-then (put-then (put-then (put-then (put-then (c .before .before .before .before .before .before .before .before .before .before .before .before .before .before .before .before .before .before .before .before .before .before .before .before .before .before .put-word .ensures) (c .before .before .before .before .before .before .before .before .before .before .before .before .before .before .before .before .before .before .before .before .before .put-field .ensures)) (c .before .before .before .before .before .before .before .before .before .before .before .before .before .before .before .before .put-field2 .ensures)) (c .before .before .before .before .before .before .before .before .before .before .before .put-field3 .ensures)) (c .before .before .before .before .before .before .put-field4 .ensures)) (c .before .before .put-newline .ensures))
+
+returns : tie.Need-returns
+unfolding schemeLine
+returns c =
+    put-then (put-then (put-then (put-then (put-then (c .before .before .before .before .before .before .before .before .before .before .before .before .before .before .before .before .before .before .before .before .before .before .before .before .before .before .put-word .ensures) (c .before .before .before .before .before .before .before .before .before .before .before .before .before .before .before .before .before .before .before .before .before .put-field .ensures)) (c .before .before .before .before .before .before .before .before .before .before .before .before .before .before .before .before .put-field2 .ensures)) (c .before .before .before .before .before .before .before .before .before .before .before .put-field3 .ensures)) (c .before .before .before .before .before .before .put-field4 .ensures)) (c .before .before .put-newline .ensures)
+
+pub scheme-line-spec : {M : Type 1} → statement M
+scheme-line-spec =
+    tie.close
+    (tie.spec
+    slice-aggregate-put-word
+    put-word-requires
+    cast-put-field
+    put-field-requires
+    cast-put-field-2
+    put-field-requires-2
+    cast-put-field-3
+    put-field-requires-3
+    cast-put-field-4
+    put-field-requires-4
+    put-newline-requires
+    same-length
+    returns)

@@ -1,0 +1,31 @@
+-- `lines::total_line` meets its contract: the word, then the figures.
+use Rattle.sheet_text.specs.Text.{totalWord}
+use Rattle.sheet_text.specs.Sheet.{totalLine}
+use Rattle.sheet_text.specs.Laws.Put.{put-then, room-first, room-next}
+use Rattle.sheet_text.specs.Laws.Lines.{endsText, ends-room, ends-put}
+use borrow.Author.Needs.{needs}
+use Rattle.sheet_text.proofs.lines.total_line.Statement.{statement}
+use Rattle.sheet_text.proofs.lines.total_line.Tie as tie
+
+slice-aggregate-put-word : tie.Need-slice-aggregate-put-word
+slice-aggregate-put-word c = search needs
+
+put-word-requires : tie.Need-put-word-requires
+unfolding totalLine
+put-word-requires c κs = room-first (endsText (c .before .before .before .args .low) (c .before .before .before .args .high)) (ends-room totalWord (c .before .before .before .args .low) (c .before .before .before .args .high) (c .before .before .before .pre))
+
+ends-requires : tie.Need-ends-requires
+unfolding totalLine
+ends-requires c κs = room-next (c .before .before .before .put-word .ensures) (ends-room totalWord (c .before .before .before .before .before .before .before .args .low) (c .before .before .before .before .before .before .before .args .high) (c .before .before .before .before .before .before .before .pre))
+
+same-length : tie.Need-same-length
+same-length c = search needs
+
+returns : tie.Need-returns
+unfolding totalLine
+returns c = ends-put totalWord (c .before .before .before .before .before .before .before .before .before .before .args .low) (c .before .before .before .before .before .before .before .before .before .before .args .high) (put-then (c .before .before .before .before .before .before .put-word .ensures) (c .before .before .ends .ensures))
+
+pub total-line-spec : {M : Type 1} → statement M
+total-line-spec =
+    tie.close
+    (tie.spec slice-aggregate-put-word put-word-requires ends-requires same-length returns)

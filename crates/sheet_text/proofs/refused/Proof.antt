@@ -1,0 +1,22 @@
+-- `refused` meets its contract: declined for want of room, or the line.
+use native.Mathlib.Omega.{arith}
+use Rattle.sheet_text.specs.Laws.Widths.{refused-line-within}
+use Rattle.sheet_text.specs.Laws.Answer.{told-declined, told-written, told-room}
+use borrow.Author.Needs.{needs}
+use Rattle.sheet_text.proofs.refused.Statement.{statement}
+use Rattle.sheet_text.proofs.refused.Tie as tie
+
+returns : tie.Need-returns
+returns c = told-declined (c .if1 .taken)
+
+refused-line-requires : tie.Need-refused-line-requires
+refused-line-requires c κs = told-room {room = 11} (omega arith) (refused-line-within _ (c .before .before .before .pre) .fits)
+
+same-length : tie.Need-same-length
+same-length c = search needs
+
+returns-2 : tie.Need-returns-2
+returns-2 c = told-written (omega arith) (refused-line-within _ (c .before .before .before .before .before .before .pre) .fits) (c .before .before .refused-line .ensures)
+
+pub refused-spec : {M : Type 1} → statement M
+refused-spec = tie.close (tie.spec returns refused-line-requires same-length returns-2)

@@ -1,0 +1,54 @@
+-- `sheet` meets its contract: the refusal of the bytes, or their sheet.
+use mathlib.Core.Path.{_≡_, ap, sym, _∙_}
+use native.Mathlib.Omega.{arith}
+use Rattle.record.specs.Read.{readCause}
+use Rattle.record.specs.Layout.{version1, schemeIn}
+use Rattle.sheet_text.specs.Laws.Room.{read-cause-most, read-accepted}
+use Rattle.sheet_text.specs.Laws.Answer.{read-number, read-scheme, sheet-refused, sheet-accepted}
+use borrow.Author.Needs.{needs}
+use Rattle.sheet_text.proofs.sheet.Statement.{statement}
+use Rattle.sheet_text.proofs.sheet.Tie as tie
+
+-- the answer's number is the bytes' cause
+number : (c : tie.After-read) → c .read .result .number ≡ readCause (c .before .before .before .args .bytes .now)
+number c = ap (λ r. r .number) (c .read .ensures) ∙ read-number _
+
+-- without a cause the answer's scheme is the bytes' scheme
+none : (c : tie.Else1) → readCause (c .before .before .before .before .args .bytes .now) ≡ 0
+none c = sym (number (c .before)) ∙ c .if1 .left
+
+scheme-in : (c : tie.Else1) → c .before .read .result .scheme ≡ schemeIn version1 (c .before .before .before .before .args .bytes .now)
+scheme-in c = ap (λ r. r .scheme) (c .before .read .ensures) ∙ read-scheme _ (none c)
+
+read-requires : tie.Need-read-requires
+read-requires c κs = search needs
+
+refused-requires : tie.Need-refused-requires
+refused-requires c κs = omega (arith, number (c .before .before), read-cause-most (c .before .before .before .before .before .args .bytes .now))
+
+same-length : tie.Need-same-length
+same-length c = search needs
+
+returns : tie.Need-returns
+returns c = sheet-refused _ (number (c .before .before .before .before .before)) (c .before .before .before .before .if1 .taken) (c .before .before .refused .ensures)
+
+accepted-requires : tie.Need-accepted-requires
+accepted-requires c κs = rw (scheme-in (c .before)) (read-accepted _ (none (c .before)))
+
+same-length-2 : tie.Need-same-length-2
+same-length-2 c = search needs
+
+returns-2 : tie.Need-returns-2
+returns-2 c = sheet-accepted _ (none (c .before .before .before .before)) (scheme-in (c .before .before .before .before)) (c .before .before .accepted .ensures)
+
+pub sheet-spec : {M : Type 1} → statement M
+sheet-spec =
+    tie.close
+    (tie.spec
+    read-requires
+    refused-requires
+    same-length
+    returns
+    accepted-requires
+    same-length-2
+    returns-2)

@@ -1,0 +1,59 @@
+-- `years::year_lines` meets its contract: the classes, then the premium.
+use native.Mathlib.Omega.{arith}
+use Rattle.sheet_text.specs.Laws.Years.{year-room-classes, year-room-premium, year-put}
+use borrow.Author.Needs.{needs}
+use Rattle.sheet_text.proofs.years.year_lines.Statement.{statement}
+use Rattle.sheet_text.proofs.years.year_lines.Tie as tie
+
+add-base : tie.Need-add-base
+add-base c = search needs
+
+mul-base : tie.Need-mul-base
+mul-base c = search needs
+
+class-lines-requires : tie.Need-class-lines-requires
+class-lines-requires c κs = (year-room-classes _ _ _ _ (c .before .before .before .before .pre .0), omega arith, omega arith, omega arith)
+
+add-premium-line : tie.Need-add-premium-line
+add-premium-line c = search needs
+
+mul-premium-line : tie.Need-mul-premium-line
+mul-premium-line c = search needs
+
+shared-slice-read-premium-line : tie.Need-shared-slice-read-premium-line
+shared-slice-read-premium-line c = search needs
+
+add-premium-line-2 : tie.Need-add-premium-line-2
+add-premium-line-2 c = search needs
+
+mul-premium-line-2 : tie.Need-mul-premium-line-2
+mul-premium-line-2 c = search needs
+
+shared-slice-read-premium-line-2 : tie.Need-shared-slice-read-premium-line-2
+shared-slice-read-premium-line-2 c = search needs
+
+premium-line-requires : tie.Need-premium-line-requires
+premium-line-requires c κs = year-room-premium _ _ _ _ (c .before .before .before .before .before .class-lines .ensures) (c .before .before .before .before .before .before .before .before .before .before .pre .0)
+
+same-length : tie.Need-same-length
+same-length c = search needs
+
+returns : tie.Need-returns
+returns c = year-put (c .before .before .before .before .before .before .before .before .before .before .before .before .before .args .low .now) (c .before .before .before .before .before .before .before .before .before .before .before .before .before .args .high .now) (c .before .before .before .before .before .before .before .before .before .before .before .before .before .args .s) (c .before .before .before .before .before .before .before .before .before .before .before .before .before .args .year) (c .before .before .before .before .before .before .before .before .class-lines .ensures) (c .before .before .premium-line .ensures)
+
+pub year-lines-spec : {M : Type 1} → statement M
+year-lines-spec =
+    tie.close
+    (tie.spec
+    add-base
+    mul-base
+    class-lines-requires
+    add-premium-line
+    mul-premium-line
+    shared-slice-read-premium-line
+    add-premium-line-2
+    mul-premium-line-2
+    shared-slice-read-premium-line-2
+    premium-line-requires
+    same-length
+    returns)

@@ -1,0 +1,9 @@
+-- The lemmas behind the contracts, by subject.
+pub mod Put
+pub mod Lines
+pub mod Years
+pub mod Tabled
+pub mod Widths
+pub mod Figures
+pub mod Room
+pub mod Answer

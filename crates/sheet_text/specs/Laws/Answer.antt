@@ -1,0 +1,76 @@
+-- The answer for a text, and for any bytes, by cases.
+use Prim.Native.Nat.{ℕ, _≤_, _<_}
+use mathlib.Core.Path.{_≡_, sym, _∙_}
+use mathlib.Core.List.{List}
+use native.Mathlib.Omega.{arith}
+use native.Mathlib.Decide.{ℕ-discrete}
+use borrow.Author.Tests.{eq-eqb, ne-eqb, lt-ltb, le-ltb}
+use lib.ListN.{length}
+use Rattle.scheme.specs.declared.Scheme.{Scheme}
+use Rattle.scheme.specs.Accepted.{Accepted}
+use Rattle.scheme.specs.Cause.{causeOf}
+use Rattle.scheme.specs.Laws.Cause.{second-cause}
+use Rattle.scheme.specs.Laws.Judged.{cause-accepted}
+use Rattle.record.specs.Layout.{version1, schemeIn}
+use Rattle.record.specs.Read.{readCause, readAnswer}
+use Rattle.record.specs.Laws.Lists.{sets-front}
+use Rattle.bounds.specs.Answers.{sheetSlice}
+use Rattle.bounds.specs.Table.{tableSize, tableCause}
+use Rattle.sheet_text.specs.declared.SheetAnswer.{SheetAnswer}
+use Rattle.sheet_text.specs.declared.SheetAnswer.the-variants.{Written, Declined}
+use Rattle.sheet_text.specs.Sheet.{sheetOf, refusedLine}
+use Rattle.sheet_text.specs.Put.{Room, Put}
+use Rattle.sheet_text.specs.Answer.{roomOf, Told, sheetAnswer, sheetLeaves}
+use Rattle.sheet_text.specs.Laws.Room.{text-accepted, room-accepted, text-refused, room-refused}
+
+-- a slice that is too short, and one that is not
+pub told-declined : {room : ℕ} {text out : List ℕ} → length out < room → Told room text out out (Declined 13)
+told-declined {room} {text} {out} short = record { answer = rw (lt-ltb (length out) room short); leaves = rw (lt-ltb (length out) room short) }
+
+pub told-written : {room : ℕ} {text out after : List ℕ} {to : ℕ} → room ≤ length out → length text ≤ room → Put out 0 text after to → Told room text out after (Written to)
+told-written {room} {text} {out} {after} {to} enough fits p =
+    let place : to ≡ length text = omega (arith, p .place) in
+    record {
+      answer = rw (le-ltb (length out) room enough, place);
+      leaves = rw (le-ltb (length out) room enough) (p .holds ∙ sets-front out text (omega arith));
+    }
+
+pub told-room : {room : ℕ} {text out : List ℕ} → room ≤ length out → length text ≤ room → Room out 0 text
+told-room enough fits = record { fits = omega arith }
+
+-- what a reading answers
+module _ (bytes : List ℕ) where
+  pub read-number : readAnswer bytes .number ≡ readCause bytes
+  unfolding readAnswer
+  read-number = by (ℕ-discrete (readCause bytes) 0)
+    where
+      by : Dec (readCause bytes ≡ 0) → readAnswer bytes .number ≡ readCause bytes
+      by (yes none) = rw (eq-eqb (readCause bytes) 0 none) (sym none)
+      by (no some) = rw (ne-eqb (readCause bytes) 0 some)
+
+  pub read-scheme : readCause bytes ≡ 0 → readAnswer bytes .scheme ≡ schemeIn version1 bytes
+  unfolding readAnswer
+  read-scheme none = rw (eq-eqb (readCause bytes) 0 none)
+
+  -- the answer for bytes with a cause, and without
+  pub sheet-refused : {n : ℕ} {out after : List ℕ} {r : SheetAnswer} → n ≡ readCause bytes → (n ≡ 0 → ⊥) → Told 11 (refusedLine n) out after r
+      → (r ≡ sheetAnswer bytes out) × (after ≡ sheetLeaves bytes out)
+  unfolding sheetAnswer sheetLeaves
+  sheet-refused e some told =
+      let cause : readCause bytes ≡ 0 → ⊥ = λ z. some (e ∙ z) in
+      (rw (text-refused bytes cause, room-refused bytes cause, ← e) (told .answer), rw (text-refused bytes cause, room-refused bytes cause, ← e) (told .leaves))
+
+  pub sheet-accepted : {s : Scheme} {out after : List ℕ} {r : SheetAnswer} → readCause bytes ≡ 0 → s ≡ schemeIn version1 bytes → Told (roomOf s) (sheetOf s) out after r
+      → (r ≡ sheetAnswer bytes out) × (after ≡ sheetLeaves bytes out)
+  unfolding sheetAnswer sheetLeaves
+  sheet-accepted none e told =
+      (rw (text-accepted bytes none, room-accepted bytes none, ← e) (told .answer), rw (text-accepted bytes none, room-accepted bytes none, ← e) (told .leaves))
+
+-- the tables of an accepted scheme are written into slices of their size
+pub table-clear : (s : Scheme) (low high : List ℕ) → Accepted s → length low ≡ tableSize s → length high ≡ tableSize s → tableCause s low high ≡ 0
+unfolding tableCause
+table-clear s low high ok el eh =
+    second-cause (causeOf s) _ (cause-accepted s ok) ∙ rw (eq-eqb (length low) (tableSize s) el, eq-eqb (length high) (tableSize s) eh)
+
+pub slice-written : {n : ℕ} {table : List ℕ} (before : List ℕ) {after : List ℕ} → n ≡ 0 → after ≡ sheetSlice n table before → after ≡ table
+slice-written {n} before none e = rw (eq-eqb n 0 none) at e

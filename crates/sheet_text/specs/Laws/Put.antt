@@ -1,0 +1,113 @@
+-- Texts put one after another.
+use Prim.Native.Nat.{ℕ, zero, suc, _+_, _-_, _/_, _%_, _≤_, _<_}
+use mathlib.Core.Path.{_≡_, refl, ap, _∙_}
+use mathlib.Core.List.{List, [], _∷_, _++_}
+use native.Mathlib.Omega.{arith}
+use native.Mathlib.Numerals.{add-one}
+use mathlib.Core.Logic.{⊎-elim}
+use native.Mathlib.Nat.{le-refl, eq-or-lt-of-le}
+use borrow.Author.Tests.{lt-ltb, le-ltb}
+use lib.ListN.{length, getD, take, set, length-append}
+use lib.Seq.{sets, length-sets, length-take-le, take-length, take-suc}
+use Rattle.record.specs.Joined.{joined}
+use Rattle.record.specs.Laws.Lists.{sets-append, sets-more}
+use Rattle.sheet_text.specs.Text.{digitsWithin}
+use Rattle.sheet_text.specs.Put.{Room, Put}
+
+-- the slice keeps its length
+pub put-kept : {l : List ℕ} {at : ℕ} {a m : List ℕ} {k : ℕ} → Put l at a m k → length m ≡ length l
+put-kept {l} {at} {a} p = rw (p .holds) (length-sets l at a)
+
+-- no text
+pub put-none : (l : List ℕ) (at : ℕ) → Put l at [] l at
+put-none l at = record { holds = refl; place = omega arith }
+
+-- one byte
+pub put-one : (l : List ℕ) (at x : ℕ) → Put l at (x ∷ []) (set l at x) (at + 1)
+put-one l at x = record { holds = refl; place = omega arith }
+
+-- one text and then the next
+pub put-then : {l : List ℕ} {at : ℕ} {a m : List ℕ} {k : ℕ} {b n : List ℕ} {to : ℕ} → Put l at a m k → Put m k b n to → Put l at (a ++ b) n to
+put-then {l} {at} {a} {m} {k} {b} {n} {to} p q =
+    record {
+      holds = q .holds ∙ rw (p .holds, p .place) (sets-append l at a b);
+      place = omega (arith, p .place, q .place, length-append a b);
+    }
+
+-- room for the first of two texts, and after it for the second
+pub room-first : {l : List ℕ} {at : ℕ} {a : List ℕ} (b : List ℕ) → Room l at (a ++ b) → Room l at a
+room-first {l} {at} {a} b r = record { fits = omega (arith, r .fits, length-append a b) }
+
+pub room-next : {l : List ℕ} {at : ℕ} {a m : List ℕ} {k : ℕ} {b : List ℕ} → Put l at a m k → Room l at (a ++ b) → Room m k b
+room-next {l} {at} {a} {m} {k} {b} p r = record { fits = omega (arith, r .fits, p .place, put-kept p, length-append a b) }
+
+-- a word byte by byte: k bytes stand, one more, all
+pub word-more : (word l : List ℕ) (at k : ℕ) → k < length word → set (sets l at (take k word)) (at + k) (getD word k 0) ≡ sets l at (take (k + 1) word)
+word-more word l at k h =
+    let size : at + k ≡ at + length (take k word) = omega (arith, length-take-le k word (omega arith)) in
+    rw (add-one, take-suc word k 0 h, size) (sets-more l at (take k word) (getD word k 0))
+
+pub word-all : {l : List ℕ} {at : ℕ} {word m : List ℕ} {k : ℕ} → m ≡ sets l at (take k word) → k ≡ length word → Put l at word m (at + k)
+word-all {l} {at} {word} {m} {k} e end =
+    let all : take k word ≡ word = ap (λ n. take n word) end ∙ take-length word in
+    record { holds = rw all at e; place = omega (arith, end) }
+
+-- the digits of a number, by cases
+digits-one : (most x : ℕ) → 0 < most → x < 10 → digitsWithin most x ≡ (48 + x) ∷ []
+unfolding digitsWithin
+digits-one (suc most) x h l = simp (lt-ltb x 10 l)
+
+digits-more : (most x : ℕ) → 0 < most → 10 ≤ x → digitsWithin most x ≡ digitsWithin (most - 1) (x / 10) ++ ((48 + x % 10) ∷ [])
+unfolding digitsWithin
+digits-more (suc most) x h l = let e : suc most - 1 ≡ most = omega arith in rw e (simp (le-ltb x 10 l))
+
+-- no digit, one digit, and a digit after the others
+module _ {l : List ℕ} {at : ℕ} (most x : ℕ) where
+  pub digits-put-none : most ≡ 0 → Put l at (digitsWithin most x) l at
+  unfolding digitsWithin
+  digits-put-none e = rw e (put-none l at)
+
+  pub digits-put-one : {d : ℕ} → 0 < most → x < 10 → d ≡ 48 + x → Put l at (digitsWithin most x) (set l at d) (at + 1)
+  digits-put-one h k e = rw (digits-one most x h k, e) (put-one l at (48 + x))
+
+  pub digits-room-one : 0 < most → x < 10 → Room l at (digitsWithin most x) → at < length l
+  digits-room-one h k r = let size : length (digitsWithin most x) ≡ 1 = ap length (digits-one most x h k) in omega (arith, size, r .fits)
+
+  pub digits-room : 0 < most → 10 ≤ x → Room l at (digitsWithin most x) → Room l at (digitsWithin (most - 1) (x / 10))
+  digits-room h k r = room-first ((48 + x % 10) ∷ []) (rw (digits-more most x h k) at r)
+
+  pub digits-room-more : {m : List ℕ} {to : ℕ} → 0 < most → 10 ≤ x → Room l at (digitsWithin most x) → Put l at (digitsWithin (most - 1) (x / 10)) m to → to < length m
+  digits-room-more h k r p =
+      let last : Room _ _ ((48 + x % 10) ∷ []) = room-next p (rw (digits-more most x h k) at r) in omega (arith, last .fits)
+
+  pub digits-put-more : {m : List ℕ} {to d : ℕ} → 0 < most → 10 ≤ x → Put l at (digitsWithin (most - 1) (x / 10)) m to → d ≡ 48 + x % 10
+      → Put l at (digitsWithin most x) (set m to d) (to + 1)
+  digits-put-more {m} {to} h k p e = rw (digits-more most x h k, e) (put-then p (put-one m to (48 + x % 10)))
+
+-- lists one after another: none, one more, and room for it
+pub joined-none : (f : ℕ → List ℕ) (l : List ℕ) (at : ℕ) → Put l at (joined 0 f) l at
+unfolding joined
+joined-none f l at = put-none l at
+
+pub joined-more : {l : List ℕ} {at : ℕ} {m : List ℕ} {k : ℕ} {n : List ℕ} {to : ℕ} (f : ℕ → List ℕ) (i : ℕ)
+    → Put l at (joined i f) m k → Put m k (f i) n to → Put l at (joined (i + 1) f) n to
+unfolding joined
+joined-more f i p q = rw add-one (put-then p q)
+
+pub joined-longer : (f : ℕ → List ℕ) (i n : ℕ) → i ≤ n → length (joined i f) ≤ length (joined n f)
+unfolding joined
+joined-longer f i zero h = let e : i ≡ 0 = omega arith in rw e (le-refl 0)
+joined-longer f i (suc n) h =
+    ⊎-elim
+    (λ e. rw e (le-refl (length (joined n f ++ f n))))
+    (λ less. omega (arith, joined-longer f i n (omega arith), length-append (joined n f) (f n)))
+    (eq-or-lt-of-le h)
+
+pub joined-room : {l : List ℕ} {at : ℕ} {m : List ℕ} {k : ℕ} (f : ℕ → List ℕ) (i n : ℕ) → i < n
+    → Put l at (joined i f) m k → Room l at (joined n f) → Room m k (f i)
+unfolding joined
+joined-room f i n h p r =
+    record { fits = omega (arith, r .fits, p .place, put-kept p, joined-longer f (suc i) n h, length-append (joined i f) (f i)) }
+
+pub joined-all : {l : List ℕ} {at : ℕ} {m : List ℕ} {k i n : ℕ} (f : ℕ → List ℕ) → i ≡ n → Put l at (joined i f) m k → Put l at (joined n f) m k
+joined-all f e p = rw e at p

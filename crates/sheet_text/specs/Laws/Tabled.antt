@@ -1,0 +1,64 @@
+-- The lines by the tables of a scheme's figures are the sheet's lines.
+use Prim.Native.Nat.{ℕ, suc, _+_, _*_, _≤_, _<_}
+use mathlib.Core.Path.{_≡_, ap, _∙_}
+use mathlib.Core.List.{List, _++_}
+use native.Mathlib.Omega.{arith}
+use native.Mathlib.Numerals.{add-one}
+use lib.ListN.{length, getD}
+use Rattle.scheme.specs.declared.Scheme.{Scheme}
+use Rattle.scheme.specs.Rows.{chainOf}
+use Rattle.scheme.specs.Laws.Tab.{length-tab}
+use Rattle.record.specs.Joined.{joined}
+use Rattle.record.specs.Laws.Lists.{joined-eq}
+use Rattle.setchain.specs.Years.{lowShare, highShare}
+use Rattle.bounds.specs.Answers.{startOf}
+use Rattle.bounds.specs.Table.{tableSize, lowTable, highTable}
+use Rattle.bounds.specs.Laws.Table.{low-share-at, high-share-at, low-mean-at, high-mean-at, low-total-at, high-total-at}
+use Rattle.sheet_text.specs.Sheet.{schemeLine, classLine, yearLines, totalLine, sheetOf}
+use Rattle.sheet_text.specs.Put.{Room, Put}
+use Rattle.sheet_text.specs.Tabled.{classText, yearText}
+
+-- how long the tables are
+pub low-size : {low : List ℕ} (s : Scheme) → low ≡ lowTable s → length low ≡ tableSize s
+unfolding lowTable
+low-size s e = ap length e ∙ length-tab (tableSize s) _
+
+pub high-size : {high : List ℕ} (s : Scheme) → high ≡ highTable s → length high ≡ tableSize s
+unfolding highTable
+high-size s e = ap length e ∙ length-tab (tableSize s) _
+
+-- a year's lines
+module _ (s : Scheme) (t : ℕ) (h : t ≤ s .horizon) where
+  class-tabled : (j : ℕ) → j < s .classes
+      → classText (lowTable s) (highTable s) t (t * suc (s .classes)) j
+      ≡ classLine t j (lowShare (chainOf s) j t (startOf s)) (highShare (chainOf s) j t (startOf s))
+  class-tabled j l = rw (low-share-at s t h j l, high-share-at s t h j l)
+
+  pub year-tabled : yearText (lowTable s) (highTable s) (s .classes) t ≡ yearLines s t
+  unfolding yearText yearLines
+  year-tabled = rw (joined-eq (s .classes) _ _ class-tabled, low-mean-at s t h, high-mean-at s t h)
+
+-- the total's line, by the code's place
+abbrev pub totalText : (low high : List ℕ) (n s : ℕ) → List ℕ
+totalText low high n s = totalLine (getD low (n * (s + 1)) 0) (getD high (n * (s + 1)) 0)
+
+-- the whole sheet's text by two tables
+abbrev pub tabledText : (s : Scheme) (low high : List ℕ) → List ℕ
+tabledText s low high = schemeLine s ++ joined (s .horizon + 1) (yearText low high (s .classes)) ++ totalText low high (s .horizon + 1) (s .classes)
+
+-- the whole sheet
+pub sheet-tabled : (s : Scheme) (low high : List ℕ) → low ≡ lowTable s → high ≡ highTable s
+    → sheetOf s ≡ tabledText s low high
+unfolding sheetOf
+sheet-tabled s low high el eh =
+    let years : joined (suc (s .horizon)) (yearText (lowTable s) (highTable s) (s .classes)) ≡ joined (suc (s .horizon)) (yearLines s) =
+    joined-eq (suc (s .horizon)) _ _ (λ t l. year-tabled s t (omega arith)) in
+    rw (el, eh, add-one, add-one, years, low-total-at s, high-total-at s)
+
+-- room for them, and them put
+pub sheet-room : {l : List ℕ} {at : ℕ} {low high : List ℕ} (s : Scheme) → low ≡ lowTable s → high ≡ highTable s → Room l at (sheetOf s) → Room l at (tabledText s low high)
+sheet-room {low = low} {high = high} s el eh r = rw (sheet-tabled s low high el eh) at r
+
+pub sheet-put : {l : List ℕ} {at : ℕ} {low high m : List ℕ} {to : ℕ} (s : Scheme) → low ≡ lowTable s → high ≡ highTable s
+    → Put l at (tabledText s low high) m to → Put l at (sheetOf s) m to
+sheet-put {low = low} {high = high} s el eh p = rw (sheet-tabled s low high el eh) p

@@ -1,0 +1,73 @@
+// The lines of a sheet put into a lent slice: each function answers the place after its line.
+ghost use Prim.Native.Nat.{_+_, _<_};
+ghost use mathlib.Core.List.{_++_};
+ghost use Rattle.sheet_text.specs.Text.{field, newline, yearWord};
+ghost use Rattle.sheet_text.specs.Sheet.{schemeLine, classLine, premiumLine, totalLine, refusedLine};
+ghost use Rattle.sheet_text.specs.Put.{Put, Room};
+use crate::text;
+use scheme::Scheme;
+
+// puts the two figures that end a line
+fn ends(out: &mut [u8], at: usize, low: u64, high: u64) -> usize
+    requires { ⌜ Room (now out) at (field low ++ field high ++ newline) ⌝ }
+    ensures { λ r. ⌜ Put (now (out .entry)) at (field low ++ field high ++ newline) (now (out .exit)) r ⌝ }
+{
+    let a = text::put_field(out, at, low);
+    let b = text::put_field(out, a, high);
+    text::put_newline(out, b)
+}
+
+// puts the SCHEME line
+pub fn scheme_line(out: &mut [u8], at: usize, scheme: Scheme) -> usize
+    requires { ⌜ Room (now out) at (schemeLine scheme) ⌝ }
+    ensures { λ r. ⌜ Put (now (out .entry)) at (schemeLine scheme) (now (out .exit)) r ⌝ }
+{
+    let a = text::put_word(out, at, b"SCHEME");
+    let b = text::put_field(out, a, scheme.classes as u64);
+    let c = text::put_field(out, b, scheme.columns as u64);
+    let d = text::put_field(out, c, scheme.start as u64);
+    let e = text::put_field(out, d, scheme.horizon as u64);
+    text::put_newline(out, e)
+}
+
+// puts the line of a class in a year: class j + 1
+pub fn class_line(out: &mut [u8], at: usize, year: usize, j: usize, low: u64, high: u64) -> usize
+    requires { ⌜ Room (now out) at (classLine year j low high) × (j < 256) ⌝ }
+    ensures { λ r. ⌜ Put (now (out .entry)) at (classLine year j low high) (now (out .exit)) r ⌝ }
+{
+    let a = text::put_word(out, at, b"YEAR");
+    let b = text::put_field(out, a, year as u64);
+    let c = text::put_word(out, b, b" CLASS");
+    let d = text::put_field(out, c, (j + 1) as u64);
+    ends(out, d, low, high)
+}
+
+// puts the PREMIUM line of a year
+pub fn premium_line(out: &mut [u8], at: usize, year: usize, low: u64, high: u64) -> usize
+    requires { ⌜ Room (now out) at (premiumLine year low high) ⌝ }
+    ensures { λ r. ⌜ Put (now (out .entry)) at (premiumLine year low high) (now (out .exit)) r ⌝ }
+{
+    let a = text::put_word(out, at, b"YEAR");
+    let b = text::put_field(out, a, year as u64);
+    let c = text::put_word(out, b, b" PREMIUM");
+    ends(out, c, low, high)
+}
+
+// puts the TOTAL line
+pub fn total_line(out: &mut [u8], at: usize, low: u64, high: u64) -> usize
+    requires { ⌜ Room (now out) at (totalLine low high) ⌝ }
+    ensures { λ r. ⌜ Put (now (out .entry)) at (totalLine low high) (now (out .exit)) r ⌝ }
+{
+    let a = text::put_word(out, at, b"TOTAL");
+    ends(out, a, low, high)
+}
+
+// puts the line of a refusal
+pub fn refused_line(out: &mut [u8], at: usize, number: u8) -> usize
+    requires { ⌜ Room (now out) at (refusedLine number) ⌝ }
+    ensures { λ r. ⌜ Put (now (out .entry)) at (refusedLine number) (now (out .exit)) r ⌝ }
+{
+    let a = text::put_word(out, at, b"REFUSED");
+    let b = text::put_field(out, a, number as u64);
+    text::put_newline(out, b)
+}
