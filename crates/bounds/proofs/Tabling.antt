@@ -169,6 +169,10 @@ unfolding lowTable highTable
 tabled s false e = e
 tabled s true e = e
 
+-- a slice with its last number written is as long as it was
+pub last-length : (after : List ℕ) (v : ℕ) {n : ℕ} → length after ≡ n → length (set after (length after - 1) v) ≡ n
+last-length after v e = length-set after (length after - 1) v ∙ e
+
 -- the mean's column and the total, after the shares
 module _ (s : Scheme) (ok : Accepted s) {premiums : List ℕ} (are : premiums ≡ s .premiums) where
   pub total-starts : Ready s premiums zeros (s .horizon)
@@ -195,13 +199,10 @@ module _ (s : Scheme) (ok : Accepted s) {premiums : List ℕ} (are : premiums �
           let k : suc t * suc (s .classes) ≤ suc (s .horizon) * suc (s .classes) = mul-le-mul-right (suc (s .classes)) (omega arith) in
           omega (arith, last-place))
 
-      pub table-size : (v : ℕ) → length (set after (length after - 1) v) ≡ tableSize s
-      table-size v = length-set after (length after - 1) v ∙ m .size ∙ w .size
-
       pub table-made : (v : ℕ) → v ≡ startFigure falling s premiums zeros (s .horizon) → set after (length after - 1) v ≡ figureTable falling s
       table-made v f =
           tabled s falling
-          (table-pinned s _ _ _ (set after (length after - 1) v) (table-size v)
+          (table-pinned s _ _ _ (set after (length after - 1) v) (last-length after v (m .size ∙ w .size))
           (λ t j h l. kept v t j h (omega arith) ∙ column-other s (omega arith) m t j (omega arith) (λ g. omega arith) ∙ w .done j l t h)
           (λ t h.
           kept v t (s .classes) h (omega arith)

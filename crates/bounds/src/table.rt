@@ -106,14 +106,9 @@ pub fn write_table(scheme: Scheme, falling: bool, out: &mut [u64])
     let none = [0u64; 32];
     let stored = scheme.premiums;
     let premiums = widened(stored);
-    column(
-        scheme,
-        none,
-        falling,
-        premiums,
-        scheme.classes as usize,
-        out,
-    );
+    let mean = scheme.classes as usize;
+    column(scheme, none, falling, premiums, mean, out);
     let last = out.len() - 1;
-    out[last] = start_figure(scheme, premiums, falling, none, scheme.horizon as u64);
+    let years = scheme.horizon as u64;
+    out[last] = start_figure(scheme, premiums, falling, none, years);
 }

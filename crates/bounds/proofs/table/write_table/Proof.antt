@@ -1,7 +1,7 @@
 -- `write_table` writes the shares, then the mean's column, then the total at the last place.
 -- Assumes nothing.
 use mathlib.Core.Path.{sym, _∙_}
-use Rattle.bounds.proofs.Tabling.{total-starts, mean-column, table-size, table-made}
+use Rattle.bounds.proofs.Tabling.{total-starts, mean-column, last-length, table-made}
 use borrow.Author.Needs.{needs}
 use Rattle.bounds.proofs.table.write_table.Statement.{statement}
 use Rattle.bounds.proofs.table.write_table.Tie as tie
@@ -12,8 +12,8 @@ share-columns-requires c κs = search needs
 widened-requires : tie.Need-widened-requires
 widened-requires c κs = search needs
 
-cast-column : tie.Need-cast-column
-cast-column c = search needs
+cast-mean : tie.Need-cast-mean
+cast-mean c = search needs
 
 column-requires : tie.Need-column-requires
 column-requires c κs = mean-column (c .before .before .before .before .before .before .before .before .before .args .scheme) (c .before .before .before .before .before .before .before .before .before .pre .accepted) (c .before .before .widened .ensures) (c .before .before .before .before .before .before .share-columns .ensures)
@@ -21,8 +21,8 @@ column-requires c κs = mean-column (c .before .before .before .before .before .
 sub-last : tie.Need-sub-last
 sub-last c = search needs
 
-cast-start-figure : tie.Need-cast-start-figure
-cast-start-figure c = search needs
+cast-years : tie.Need-cast-years
+cast-years c = search needs
 
 start-figure-requires : tie.Need-start-figure-requires
 start-figure-requires c κs = total-starts (c .before .before .before .before .before .before .before .before .before .before .before .before .before .args .scheme) (c .before .before .before .before .before .before .before .before .before .before .before .before .before .pre .accepted) (c .before .before .before .before .before .before .widened .ensures)
@@ -34,7 +34,7 @@ slice-write-out : tie.Need-slice-write-out
 slice-write-out c = search needs
 
 same-length : tie.Need-same-length
-same-length c = table-size (c .before .before .before .before .before .before .before .before .before .before .before .before .before .before .args .scheme) (c .before .before .before .before .before .before .before .before .before .before .before .before .before .before .pre .accepted) (c .before .before .before .before .before .before .before .widened .ensures) (c .before .before .before .before .before .before .before .before .before .before .before .share-columns .ensures) (c .before .before .before .before .column .ensures) (c .start-figure .result) ∙ sym (c .before .before .before .before .before .before .before .before .before .before .before .before .before .before .pre .size)
+same-length c = last-length (c .before .before .before .before .column .last .1 .1 .1 .1 .1 .0) (c .start-figure .result) (c .before .before .before .before .column .ensures .size ∙ c .before .before .before .before .before .before .before .before .before .before .before .share-columns .ensures .size ∙ sym (c .before .before .before .before .before .before .before .before .before .before .before .before .before .before .pre .size))
 
 returns : tie.Need-returns
 returns c = table-made (c .before .before .before .before .before .before .before .before .before .before .before .before .before .before .args .scheme) (c .before .before .before .before .before .before .before .before .before .before .before .before .before .before .pre .accepted) (c .before .before .before .before .before .before .before .widened .ensures) (c .before .before .before .before .before .before .before .before .before .before .before .share-columns .ensures) (c .before .before .before .before .column .ensures) (c .start-figure .result) (c .start-figure .ensures)
@@ -45,10 +45,10 @@ write-table-spec =
     (tie.spec
     share-columns-requires
     widened-requires
-    cast-column
+    cast-mean
     column-requires
     sub-last
-    cast-start-figure
+    cast-years
     start-figure-requires
     mul-out
     slice-write-out
