@@ -1,4 +1,4 @@
-// The record of document 01: bytes to a scheme and back, and the rule row of a class.
+// The record of document 01: bytes to a scheme and back, the rule row of a class, and the band reader (in bands).
 ghost use mathlib.Core.Path.{_≡_};
 ghost use Rattle.record.specs.Read.{readCause, declinedWith, readAnswer};
 ghost use Rattle.record.specs.RuleRow.{rowCause, ruleRow};

@@ -122,7 +122,7 @@ module _ {M : Type 1} (𝓤 : URA M) (H : Heap 𝓤) (A : Atoms 𝓤) (W : Given
   kept-said : (p : RefT (List ℕ)) → ent 𝓤 (ensured 𝓤 H A kept.ended (kept.clauses 𝓤 H A mem run) (κ, tt) (s, tt) tt p) (fact 𝓤 (Is-kept p))
   kept-said p = exE 𝓤 _ (λ ws. snd∗ 𝓤 (sem 𝓤 H A (lasts kept.ended (κ, tt) (s, tt) ws)) (fact 𝓤 (Is-kept p)))
 
-  -- the machine value of the part, and what holds it to the local's type
+  -- the machine value of the part
   abbrev w : RefT (List ℕ) → Val
   w p = sliceVal (p .ptr) (length (p .now))
 
