@@ -1,8 +1,19 @@
 -- Worked texts: numbers, and lines of Example A.
 use mathlib.Core.Path.{_≡_, refl}
 use mathlib.Core.List.{[], _∷_}
+use Rattle.setchain.specs.Sums.{sumTo, onlyIf}
+use Rattle.setchain.specs.Step.{lowStep, highStep, fillRow, roomBefore}
+use Rattle.setchain.specs.Years.{lowYears, highYears}
+use Rattle.scheme.specs.Examples.{schemeA}
+use Rattle.scheme.specs.Tables.{tab, anyBelow}
+use Rattle.scheme.specs.Cause.{sizeOut, startOut, horizonOut, ruleOut, bandOut, sumOut, premiumOut, causeWhere}
+use Rattle.record.specs.Joined.{joined}
+use Rattle.record.specs.Numbers.{beAt}
+use Rattle.scheme.specs.Stored.{upTo, schemeOf}
+use Rattle.record.specs.Read.{frameCause}
+use Rattle.record.specs.Examples.{exampleA}
 use Rattle.sheet_text.specs.Text.{digitsWithin, decimal}
-use Rattle.sheet_text.specs.Sheet.{classLine, premiumLine, totalLine, refusedLine}
+use Rattle.sheet_text.specs.Sheet.{classLine, premiumLine, yearLines, totalLine, refusedLine, schemeLine, sheetOf, sheetText}
 
 -- 0, 10 and the largest 64-bit number, 18446744073709551615
 pub decimal-zero : decimal 0 ≡ 48 ∷ []
@@ -37,3 +48,15 @@ total-line-A = refl
 pub refused-line-10 : refusedLine 10 ≡ 82 ∷ 69 ∷ 70 ∷ 85 ∷ 83 ∷ 69 ∷ 68 ∷ 32 ∷ 49 ∷ 48 ∷ 10 ∷ []
 unfolding digitsWithin refusedLine
 refused-line-10 = refl
+
+-- Example A, year 0: its classes in order, then its premium
+pub year-A : yearLines schemeA 0
+    ≡ 89 ∷ 69 ∷ 65 ∷ 82 ∷ 32 ∷ 48 ∷ 32 ∷ 67 ∷ 76 ∷ 65 ∷ 83 ∷ 83 ∷ 32 ∷ 49 ∷ 32 ∷ 48 ∷ 32 ∷ 48 ∷ 10 ∷ 89 ∷ 69 ∷ 65 ∷ 82 ∷ 32 ∷ 48 ∷ 32 ∷ 67 ∷ 76 ∷ 65 ∷ 83 ∷ 83 ∷ 32 ∷ 50 ∷ 32 ∷ 49 ∷ 48 ∷ 48 ∷ 48 ∷ 48 ∷ 48 ∷ 48 ∷ 48 ∷ 48 ∷ 48 ∷ 32 ∷ 49 ∷ 48 ∷ 48 ∷ 48 ∷ 48 ∷ 48 ∷ 48 ∷ 48 ∷ 48 ∷ 48 ∷ 10 ∷ 89 ∷ 69 ∷ 65 ∷ 82 ∷ 32 ∷ 48 ∷ 32 ∷ 80 ∷ 82 ∷ 69 ∷ 77 ∷ 73 ∷ 85 ∷ 77 ∷ 32 ∷ 49 ∷ 53 ∷ 48 ∷ 48 ∷ 48 ∷ 32 ∷ 49 ∷ 53 ∷ 48 ∷ 48 ∷ 48 ∷ 10 ∷ []
+unfolding digitsWithin classLine premiumLine yearLines joined lowYears highYears onlyIf
+year-A = refl
+
+-- Example A: the whole sheet of its bytes
+pub sheet-A : sheetText exampleA
+    ≡ 83 ∷ 67 ∷ 72 ∷ 69 ∷ 77 ∷ 69 ∷ 32 ∷ 50 ∷ 32 ∷ 51 ∷ 32 ∷ 50 ∷ 32 ∷ 50 ∷ 10 ∷ 89 ∷ 69 ∷ 65 ∷ 82 ∷ 32 ∷ 48 ∷ 32 ∷ 67 ∷ 76 ∷ 65 ∷ 83 ∷ 83 ∷ 32 ∷ 49 ∷ 32 ∷ 48 ∷ 32 ∷ 48 ∷ 10 ∷ 89 ∷ 69 ∷ 65 ∷ 82 ∷ 32 ∷ 48 ∷ 32 ∷ 67 ∷ 76 ∷ 65 ∷ 83 ∷ 83 ∷ 32 ∷ 50 ∷ 32 ∷ 49 ∷ 48 ∷ 48 ∷ 48 ∷ 48 ∷ 48 ∷ 48 ∷ 48 ∷ 48 ∷ 48 ∷ 32 ∷ 49 ∷ 48 ∷ 48 ∷ 48 ∷ 48 ∷ 48 ∷ 48 ∷ 48 ∷ 48 ∷ 48 ∷ 10 ∷ 89 ∷ 69 ∷ 65 ∷ 82 ∷ 32 ∷ 48 ∷ 32 ∷ 80 ∷ 82 ∷ 69 ∷ 77 ∷ 73 ∷ 85 ∷ 77 ∷ 32 ∷ 49 ∷ 53 ∷ 48 ∷ 48 ∷ 48 ∷ 32 ∷ 49 ∷ 53 ∷ 48 ∷ 48 ∷ 48 ∷ 10 ∷ 89 ∷ 69 ∷ 65 ∷ 82 ∷ 32 ∷ 49 ∷ 32 ∷ 67 ∷ 76 ∷ 65 ∷ 83 ∷ 83 ∷ 32 ∷ 49 ∷ 32 ∷ 56 ∷ 48 ∷ 48 ∷ 48 ∷ 48 ∷ 48 ∷ 48 ∷ 48 ∷ 48 ∷ 32 ∷ 57 ∷ 48 ∷ 48 ∷ 48 ∷ 48 ∷ 48 ∷ 48 ∷ 48 ∷ 48 ∷ 10 ∷ 89 ∷ 69 ∷ 65 ∷ 82 ∷ 32 ∷ 49 ∷ 32 ∷ 67 ∷ 76 ∷ 65 ∷ 83 ∷ 83 ∷ 32 ∷ 50 ∷ 32 ∷ 49 ∷ 48 ∷ 48 ∷ 48 ∷ 48 ∷ 48 ∷ 48 ∷ 48 ∷ 48 ∷ 32 ∷ 50 ∷ 48 ∷ 48 ∷ 48 ∷ 48 ∷ 48 ∷ 48 ∷ 48 ∷ 48 ∷ 10 ∷ 89 ∷ 69 ∷ 65 ∷ 82 ∷ 32 ∷ 49 ∷ 32 ∷ 80 ∷ 82 ∷ 69 ∷ 77 ∷ 73 ∷ 85 ∷ 77 ∷ 32 ∷ 49 ∷ 48 ∷ 53 ∷ 48 ∷ 48 ∷ 32 ∷ 49 ∷ 49 ∷ 48 ∷ 48 ∷ 48 ∷ 10 ∷ 89 ∷ 69 ∷ 65 ∷ 82 ∷ 32 ∷ 50 ∷ 32 ∷ 67 ∷ 76 ∷ 65 ∷ 83 ∷ 83 ∷ 32 ∷ 49 ∷ 32 ∷ 57 ∷ 50 ∷ 48 ∷ 48 ∷ 48 ∷ 48 ∷ 48 ∷ 48 ∷ 48 ∷ 32 ∷ 57 ∷ 57 ∷ 48 ∷ 48 ∷ 48 ∷ 48 ∷ 48 ∷ 48 ∷ 48 ∷ 10 ∷ 89 ∷ 69 ∷ 65 ∷ 82 ∷ 32 ∷ 50 ∷ 32 ∷ 67 ∷ 76 ∷ 65 ∷ 83 ∷ 83 ∷ 32 ∷ 50 ∷ 32 ∷ 49 ∷ 48 ∷ 48 ∷ 48 ∷ 48 ∷ 48 ∷ 48 ∷ 48 ∷ 32 ∷ 56 ∷ 48 ∷ 48 ∷ 48 ∷ 48 ∷ 48 ∷ 48 ∷ 48 ∷ 10 ∷ 89 ∷ 69 ∷ 65 ∷ 82 ∷ 32 ∷ 50 ∷ 32 ∷ 80 ∷ 82 ∷ 69 ∷ 77 ∷ 73 ∷ 85 ∷ 77 ∷ 32 ∷ 49 ∷ 48 ∷ 48 ∷ 53 ∷ 48 ∷ 32 ∷ 49 ∷ 48 ∷ 52 ∷ 48 ∷ 48 ∷ 10 ∷ 84 ∷ 79 ∷ 84 ∷ 65 ∷ 76 ∷ 32 ∷ 50 ∷ 53 ∷ 53 ∷ 48 ∷ 48 ∷ 32 ∷ 50 ∷ 54 ∷ 48 ∷ 48 ∷ 48 ∷ 10 ∷ []
+unfolding sheetText frameCause beAt schemeOf upTo tab causeWhere sizeOut startOut horizonOut ruleOut bandOut sumOut premiumOut anyBelow digitsWithin schemeLine classLine premiumLine yearLines totalLine sheetOf joined lowYears highYears lowStep highStep fillRow roomBefore sumTo onlyIf
+sheet-A = refl

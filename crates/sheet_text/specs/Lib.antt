@@ -5,5 +5,5 @@ pub mod Sheet
 pub mod Put
 pub mod Tabled
 pub mod Answer
-pub mod Laws
 pub mod Examples
+pub mod Laws

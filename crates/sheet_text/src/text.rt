@@ -1,6 +1,5 @@
 // Words and numbers put into a lent slice: each function answers the place after its text.
 ghost use mathlib.Core.Path.{_≡_};
-ghost use mathlib.Core.List.{_++_, _∷_};
 ghost use Prim.Native.Nat.{_+_, _<_};
 ghost use Rattle.sheet_text.specs.Text.{digitsWithin, decimal, field, newline};
 ghost use Rattle.sheet_text.specs.Put.{Put, Room};

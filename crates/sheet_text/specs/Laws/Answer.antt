@@ -18,9 +18,9 @@ use Rattle.bounds.specs.Answers.{sheetSlice}
 use Rattle.bounds.specs.Table.{tableSize, tableCause}
 use Rattle.sheet_text.specs.declared.SheetAnswer.{SheetAnswer}
 use Rattle.sheet_text.specs.declared.SheetAnswer.the-variants.{Written, Declined}
-use Rattle.sheet_text.specs.Sheet.{sheetOf, refusedLine}
+use Rattle.sheet_text.specs.Sheet.{sheetOf, refusedLine, sheetText}
 use Rattle.sheet_text.specs.Put.{Room, Put}
-use Rattle.sheet_text.specs.Answer.{roomOf, Told, sheetAnswer, sheetLeaves}
+use Rattle.sheet_text.specs.Answer.{numberOf, valueOf, roomOf, roomFor, Told, sheetAnswer, sheetLeaves}
 use Rattle.sheet_text.specs.Laws.Room.{text-accepted, room-accepted, text-refused, room-refused}
 
 -- a slice that is too short, and one that is not
@@ -65,6 +65,15 @@ module _ (bytes : List ℕ) where
   unfolding sheetAnswer sheetLeaves
   sheet-accepted none e told =
       (rw (text-accepted bytes none, room-accepted bytes none, ← e) (told .answer), rw (text-accepted bytes none, room-accepted bytes none, ← e) (told .leaves))
+
+  -- the number and the value of the answer
+  pub answer-short : (out : List ℕ) → length out < roomFor bytes → numberOf (sheetAnswer bytes out) ≡ 13
+  unfolding sheetAnswer
+  answer-short out short = rw (lt-ltb (length out) (roomFor bytes) short)
+
+  pub answer-written : (out : List ℕ) → roomFor bytes ≤ length out → (numberOf (sheetAnswer bytes out) ≡ 0) × (valueOf (sheetAnswer bytes out) ≡ length (sheetText bytes))
+  unfolding sheetAnswer
+  answer-written out enough = (rw (le-ltb (length out) (roomFor bytes) enough), rw (le-ltb (length out) (roomFor bytes) enough))
 
 -- the tables of an accepted scheme are written into slices of their size
 pub table-clear : (s : Scheme) (low high : List ℕ) → Accepted s → length low ≡ tableSize s → length high ≡ tableSize s → tableCause s low high ≡ 0

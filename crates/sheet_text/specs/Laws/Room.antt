@@ -1,8 +1,8 @@
 -- The sheet of any bytes has room where the answer says so.
 use Prim.Native.Nat.{ℕ, suc, _+_, _*_, _≤_}
-use mathlib.Core.Path.{_≡_}
+use mathlib.Core.Path.{_≡_, refl}
 use mathlib.Core.Bool.{Bool, true, false, cond, not, _||_}
-use mathlib.Core.List.{List}
+use mathlib.Core.List.{List, _++_}
 use native.Mathlib.Omega.{arith}
 use native.Mathlib.Nat.{mul-le-mul}
 use native.Mathlib.Decide.{ℕ-discrete}
@@ -18,20 +18,25 @@ use Rattle.record.specs.Numbers.{beAt}
 use Rattle.record.specs.Layout.{version1, lengthOf, classesIn, columnsIn, schemeIn}
 use Rattle.record.specs.Read.{versionCause, fieldCause, sizeCause, lengthCause, frameCause, readCause}
 use Rattle.record.specs.Laws.Frame.{no-cause}
-use Rattle.sheet_text.specs.Sheet.{yearLines, sheetOf, refusedLine, sheetText}
+use Rattle.sheet_text.specs.Sheet.{classLines, yearPremium, yearLines, sheetOf, refusedLine, sheetText}
 use Rattle.sheet_text.specs.Answer.{roomOf, roomFor}
 use Rattle.sheet_text.specs.Laws.Figures.{low-share-at-most, high-share-at-most, low-mean-at-most, high-mean-at-most, low-total-at-most, high-total-at-most}
 use Rattle.sheet_text.specs.Laws.Widths.{Within, within-append, within-joined, scheme-line-within, class-line-within, premium-line-within, total-line-within, refused-line-within}
 
 -- the lines of a year, and the sheet of an accepted scheme
 module _ (s : Scheme) (ok : Accepted s) where
-  year-within : (t : ℕ) → t ≤ s .horizon → Within (s .classes * 40 + 35) (yearLines s t)
+  -- "a line for each class in order …, and its PREMIUM line"
+  year-order : (t : ℕ) → yearLines s t ≡ classLines s t ++ yearPremium s t
   unfolding yearLines
+  year-order t = refl
+
+  year-within : (t : ℕ) → t ≤ s .horizon → Within (s .classes * 40 + 35) (yearLines s t)
   year-within t h =
-      within-append
+      rw (year-order t)
+      (within-append
       (within-joined 40 (s .classes) _ (λ j l.
       class-line-within t j _ _ (omega (arith, ok .horizon .within)) (omega (arith, ok .size .classes)) (low-share-at-most s ok j t) (high-share-at-most s ok j t)))
-      (premium-line-within t _ _ (omega (arith, ok .horizon .within)) (low-mean-at-most s ok t) (high-mean-at-most s ok t))
+      (premium-line-within t _ _ (omega (arith, ok .horizon .within)) (low-mean-at-most s ok t) (high-mean-at-most s ok t)))
 
   pub sheet-within : Within (roomOf s) (sheetOf s)
   unfolding roomOf sheetOf

@@ -1,6 +1,6 @@
 -- How many bytes numbers and lines have at most.
 use Prim.Native.Nat.{ℕ, zero, suc, _+_, _*_, _/_, _%_, _≤_, _<_}
-use mathlib.Core.Path.{_≡_}
+use mathlib.Core.Path.{_≡_, refl}
 use mathlib.Core.List.{List, [], _∷_, _++_}
 use native.Mathlib.Omega.{arith}
 use native.Mathlib.Nat.{le-refl}
@@ -121,11 +121,20 @@ premium-line-within year low high y l h =
     (field-9 high (omega arith)))
     (exactly newline)
 
-pub total-line-within : (low high : ℕ) → low ≤ 1000000000 → high ≤ 1000000000 → Within 28 (totalLine low high)
+-- "every line, REFUSED too, ends in byte 0A"
+pub total-ends : (low high : ℕ) → totalLine low high ≡ totalWord ++ field low ++ field high ++ (10 ∷ [])
 unfolding totalLine
+total-ends low high = refl
+
+pub refused-ends : (number : ℕ) → refusedLine number ≡ refusedWord ++ field number ++ (10 ∷ [])
+unfolding refusedLine
+refused-ends number = refl
+
+pub total-line-within : (low high : ℕ) → low ≤ 1000000000 → high ≤ 1000000000 → Within 28 (totalLine low high)
 total-line-within low high l h =
-    within-append (within-append (within-append (exactly totalWord) (field-11 low (omega arith))) (field-11 high (omega arith))) (exactly newline)
+    rw (total-ends low high)
+    (within-append (within-append (within-append (exactly totalWord) (field-11 low (omega arith))) (field-11 high (omega arith))) (exactly newline))
 
 pub refused-line-within : (number : ℕ) → number ≤ 99 → Within 11 (refusedLine number)
-unfolding refusedLine
-refused-line-within number h = within-append (within-append (exactly refusedWord) (field-3 number h)) (exactly newline)
+refused-line-within number h =
+    rw (refused-ends number) (within-append (within-append (exactly refusedWord) (field-3 number h)) (exactly newline))

@@ -36,19 +36,19 @@ add-last : tie.Need-add-last
 add-last c = search needs
 
 mul-last : tie.Need-mul-last
-mul-last c = omega (arith, low-size (c .before .before .before .before .before .before .before .before .before .before .before .before .before .args .scheme) (c .before .before .before .before .before .before .before .before .before .before .before .before .before .pre .2))
+mul-last c = omega (arith, low-size (c .before .before .before .before .before .before .before .before .before .before .before .before .before .args .scheme) (c .before .before .before .before .before .before .before .before .before .before .before .before .before .pre .2), high-size (c .before .before .before .before .before .before .before .before .before .before .before .before .before .args .scheme) (c .before .before .before .before .before .before .before .before .before .before .before .before .before .pre .3))
 
 mul-total-line : tie.Need-mul-total-line
-mul-total-line c = omega (arith, low-size (c .before .before .before .before .before .before .before .before .before .before .before .before .before .before .args .scheme) (c .before .before .before .before .before .before .before .before .before .before .before .before .before .before .pre .2))
+mul-total-line c = omega (arith, low-size (c .before .before .before .before .before .before .before .before .before .before .before .before .before .before .args .scheme) (c .before .before .before .before .before .before .before .before .before .before .before .before .before .before .pre .2), high-size (c .before .before .before .before .before .before .before .before .before .before .before .before .before .before .args .scheme) (c .before .before .before .before .before .before .before .before .before .before .before .before .before .before .pre .3))
 
 shared-slice-read-total-line : tie.Need-shared-slice-read-total-line
-shared-slice-read-total-line c = omega (arith, low-size (c .before .before .before .before .before .before .before .before .before .before .before .before .before .before .before .args .scheme) (c .before .before .before .before .before .before .before .before .before .before .before .before .before .before .before .pre .2))
+shared-slice-read-total-line c = omega (arith, low-size (c .before .before .before .before .before .before .before .before .before .before .before .before .before .before .before .args .scheme) (c .before .before .before .before .before .before .before .before .before .before .before .before .before .before .before .pre .2), high-size (c .before .before .before .before .before .before .before .before .before .before .before .before .before .before .before .args .scheme) (c .before .before .before .before .before .before .before .before .before .before .before .before .before .before .before .pre .3))
 
 mul-total-line-2 : tie.Need-mul-total-line-2
-mul-total-line-2 c = omega (arith, high-size (c .before .before .before .before .before .before .before .before .before .before .before .before .before .before .before .args .scheme) (c .before .before .before .before .before .before .before .before .before .before .before .before .before .before .before .pre .3))
+mul-total-line-2 c = omega (arith, low-size (c .before .before .before .before .before .before .before .before .before .before .before .before .before .before .before .args .scheme) (c .before .before .before .before .before .before .before .before .before .before .before .before .before .before .before .pre .2), high-size (c .before .before .before .before .before .before .before .before .before .before .before .before .before .before .before .args .scheme) (c .before .before .before .before .before .before .before .before .before .before .before .before .before .before .before .pre .3))
 
 shared-slice-read-total-line-2 : tie.Need-shared-slice-read-total-line-2
-shared-slice-read-total-line-2 c = omega (arith, high-size (c .before .before .before .before .before .before .before .before .before .before .before .before .before .before .before .before .args .scheme) (c .before .before .before .before .before .before .before .before .before .before .before .before .before .before .before .before .pre .3))
+shared-slice-read-total-line-2 c = omega (arith, low-size (c .before .before .before .before .before .before .before .before .before .before .before .before .before .before .before .before .args .scheme) (c .before .before .before .before .before .before .before .before .before .before .before .before .before .before .before .before .pre .2), high-size (c .before .before .before .before .before .before .before .before .before .before .before .before .before .before .before .before .args .scheme) (c .before .before .before .before .before .before .before .before .before .before .before .before .before .before .before .before .pre .3))
 
 total-line-requires : tie.Need-total-line-requires
 total-line-requires c κs = room-next (put-then (c .before .before .before .before .before .before .before .before .before .scheme-line .ensures) (c .before .before .before .before .before .all-years .ensures)) (sheet-room (c .before .before .before .before .before .before .before .before .before .before .before .before .before .before .before .before .args .scheme) (c .before .before .before .before .before .before .before .before .before .before .before .before .before .before .before .before .pre .2) (c .before .before .before .before .before .before .before .before .before .before .before .before .before .before .before .before .pre .3) (c .before .before .before .before .before .before .before .before .before .before .before .before .before .before .before .before .pre .0))
