@@ -21,7 +21,7 @@ fn payoff_out(payoff: &[u64; 32], classes: u8) -> bool
     let n = classes as usize;
     let mut i: usize = 0;
     while i < n {
-        if 1_000_000_000 < payoff[i] {
+        if crate::MOST_PAYOFF < payoff[i] {
             return true;
         }
         i += 1;

@@ -22,6 +22,9 @@ mod track;
 mod year;
 mod years;
 
+// The limit of a payoff in the one-year step.
+pub const MOST_PAYOFF: u64 = 1_000_000_000;
+
 // What a call for bounds answers: low and high, or the number of the cause for which it is declined.
 pub enum Bounds {
     Answered { low: u64, high: u64 },

@@ -12,8 +12,8 @@ fn add_capped(a: u64, b: u32) -> u64
     ensures { λ r. ⌜ r ≡ min ONE (a + b) ⌝ }
 {
     let sum = a + b as u64;
-    if 1_000_000_000 < sum {
-        1_000_000_000
+    if setchain::ONE < sum {
+        setchain::ONE
     } else {
         sum
     }

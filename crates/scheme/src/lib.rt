@@ -7,8 +7,17 @@ pub mod gathering;
 mod rows;
 mod tests;
 
-// ONE, a billion parts: the whole of a share.
-pub const ONE: u64 = 1_000_000_000;
+// The limits of document 01, "Units and the scheme"; ONE is setchain's.
+pub const MOST_CLASSES: u8 = 32;
+
+pub const MOST_COLUMNS: u8 = 8;
+
+pub const MOST_YEARS: u8 = 100;
+
+pub const MOST_PREMIUM: u32 = 10_000_000;
+
+// ONE as a band's end.
+pub const MOST_BAND: u32 = 1_000_000_000;
 
 // The refusal numbers of document 01, "When a call is declined", that a scheme, a class or a year can bring.
 pub const SIZE_OUT: u8 = 3;

@@ -21,16 +21,16 @@ fn outside(x: u8, max: u8) -> bool
 pub fn form_cause(classes: u8, columns: u8, start: u8, horizon: u8) -> u8
     ensures { λ r. ⌜ r ≡ formCause classes columns start horizon ⌝ }
 {
-    if outside(classes, 32) {
+    if outside(classes, crate::MOST_CLASSES) {
         return crate::SIZE_OUT;
     }
-    if outside(columns, 8) {
+    if outside(columns, crate::MOST_COLUMNS) {
         return crate::SIZE_OUT;
     }
     if outside(start, classes) {
         return crate::START_OUT;
     }
-    if 100 < horizon {
+    if crate::MOST_YEARS < horizon {
         return crate::HORIZON_OUT;
     }
     0
@@ -72,7 +72,7 @@ pub fn rule_out(rules: &[u8; 256], classes: u8, columns: u8) -> bool
 fn band_bad(lower: u32, upper: u32) -> bool
     ensures { λ r. ⌜ r ≡ bandTest lower upper ⌝ }
 {
-    upper < lower || 1_000_000_000 < upper
+    upper < lower || crate::MOST_BAND < upper
 }
 
 // some column's band is bad
@@ -118,7 +118,7 @@ fn sum_out(lowers: &[u32; 8], uppers: &[u32; 8], columns: u8) -> bool
     requires { ⌜ columns ≤ 8 ⌝ }
     ensures { λ r. ⌜ r ≡ (ltb ONE (sumTo columns (λ k. getD (now (lowers .entry)) k 0)) || ltb (sumTo columns (λ k. getD (now (uppers .entry)) k 0)) ONE) ⌝ }
 {
-    1_000_000_000 < sum(lowers, columns) || sum(uppers, columns) < 1_000_000_000
+    setchain::ONE < sum(lowers, columns) || sum(uppers, columns) < setchain::ONE
 }
 
 // the first of causes 8 and 9, or 0
@@ -143,7 +143,7 @@ pub fn premium_out(premiums: &[u32; 32], classes: u8) -> bool
     let n = classes as usize;
     let mut i: usize = 0;
     while i < n {
-        if 10_000_000 < premiums[i] {
+        if crate::MOST_PREMIUM < premiums[i] {
             return true;
         }
         i += 1;
