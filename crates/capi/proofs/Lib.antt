@@ -1,0 +1,5 @@
+-- Laws over plain lists, which the functions' proofs cite.
+pub mod Putting
+pub mod Texting
+pub mod SheetTexts
+pub mod RecordTexts

@@ -1,0 +1,71 @@
+/* The operations of the library over records and plain buffers (crate capi).
+ *
+ * Each function answers 0, or the number of the first cause for which it
+ * declines: 1 no byte or another version, 2 too short or a wrong length field,
+ * 3 s or m out of range, 4 a wrong length, 5 start, 6 horizon, 7 a rule,
+ * 8 a band, 9 the bands' sums, 10 a premium, 11 the class asked for, 12 the
+ * year asked for, 13 a lent buffer, 14 the ready scheme's number, 15 the base.
+ *
+ * Lent buffers are filled only where the answer is 0, and otherwise left as
+ * they were. A buffer passes as a pointer and its length in elements. A
+ * pointer is never null, also where the length is 0; u64 buffers are aligned;
+ * a buffer that is filled overlaps no other. */
+#ifndef JOGUYVI_H
+#define JOGUYVI_H
+
+#include <stddef.h>
+#include <stdint.h>
+
+#ifdef __cplusplus
+extern "C" {
+#endif
+
+/* The cause for which a record is not read, or 0. */
+uint8_t joguyvi_check(const uint8_t *bytes, size_t bytes_length);
+
+/* The share of a class, 1 to s, after a number of years, in parts of
+ * 1,000,000,000: low and high into `out`, of 2 numbers. */
+uint8_t joguyvi_share(const uint8_t *bytes, size_t bytes_length,
+                      uint64_t class_number, uint64_t year,
+                      uint64_t *out, size_t out_length);
+
+/* The mean premium of a year, in cents: low and high into `out`, of 2 numbers. */
+uint8_t joguyvi_mean(const uint8_t *bytes, size_t bytes_length, uint64_t year,
+                     uint64_t *out, size_t out_length);
+
+/* The total of as many premiums as there are years, in cents: low and high
+ * into `out`, of 2 numbers. */
+uint8_t joguyvi_total(const uint8_t *bytes, size_t bytes_length, uint64_t year,
+                      uint64_t *out, size_t out_length);
+
+/* The shares of all classes after a number of years, in parts: `low` and
+ * `high` are of s numbers each. */
+uint8_t joguyvi_share_sheet(const uint8_t *bytes, size_t bytes_length,
+                            uint64_t year,
+                            uint64_t *low, size_t low_length,
+                            uint64_t *high, size_t high_length);
+
+/* The sheet's text of any bytes into `out`, from the front on, and its length
+ * into `length`, of 1 number. The line REFUSED of bytes that are not read is a
+ * text too: the answer is then 0. Room for any sheet: 132,862 bytes. */
+uint8_t joguyvi_sheet(const uint8_t *bytes, size_t bytes_length,
+                      uint8_t *out, size_t out_length,
+                      uint64_t *length, size_t length_length);
+
+/* A record read and written again into `out`, from the front on, and its
+ * length into `length`, of 1 number. Room for any record: 455 bytes. */
+uint8_t joguyvi_rewrite(const uint8_t *bytes, size_t bytes_length,
+                        uint8_t *out, size_t out_length,
+                        uint64_t *length, size_t length_length);
+
+/* The ready scheme 1, 2 or 3, with premiums from a base of 0 to 2,500,000
+ * cents, as a record into `out`, and its length into `length`, of 1 number. */
+uint8_t joguyvi_ready(uint64_t number, uint64_t base,
+                      uint8_t *out, size_t out_length,
+                      uint64_t *length, size_t length_length);
+
+#ifdef __cplusplus
+}
+#endif
+
+#endif
