@@ -3,13 +3,14 @@
  * Each function answers 0, or the number of the first cause for which it
  * declines: 1 no byte or another version, 2 too short or a wrong length field,
  * 3 s or m out of range, 4 a wrong length, 5 start, 6 horizon, 7 a rule,
- * 8 a band, 9 the bands' sums, 10 a premium, 11 the class asked for, 12 the
- * year asked for, 13 a lent buffer, 14 the ready scheme's number, 15 the base.
+ * 8 a band, 9 the bands' sums, 10 a premium or a payoff, 11 the class asked
+ * for, 12 the year asked for, 13 a lent buffer, 14 the ready scheme's number,
+ * 15 the base.
  *
  * Lent buffers are filled only where the answer is 0, and otherwise left as
  * they were. A buffer passes as a pointer and its length in elements. A
- * pointer is never null, also where the length is 0; u64 buffers are aligned;
- * a buffer that is filled overlaps no other. */
+ * pointer is never null, also where the length is 0; buffers of numbers are
+ * aligned; a buffer that is filled overlaps no other. */
 #ifndef JOGUYVI_H
 #define JOGUYVI_H
 
@@ -63,6 +64,44 @@ uint8_t joguyvi_rewrite(const uint8_t *bytes, size_t bytes_length,
 uint8_t joguyvi_ready(uint64_t number, uint64_t base,
                       uint8_t *out, size_t out_length,
                       uint64_t *length, size_t length_length);
+
+/* The interval row of a class, 1 to s, in parts of 1,000,000,000: `lower` and
+ * `upper` are of 32 numbers each, with 0 beyond s. Another length is 13. */
+uint8_t joguyvi_row(const uint8_t *bytes, size_t bytes_length,
+                    uint64_t class_number,
+                    uint64_t *lower, size_t lower_length,
+                    uint64_t *upper, size_t upper_length);
+
+/* The low step of a class: its least figure one year on, rounded down, into
+ * `figure`, of 1 number, and a row of parts that reaches it unrounded into
+ * `row`, of 32 numbers, with 0 beyond s. `payoff` is of 32 numbers; those
+ * beyond s are ignored, and one above 1,000,000,000 is 10. Another length of
+ * `payoff`, `figure` or `row` is 13. */
+uint8_t joguyvi_low_step(const uint8_t *bytes, size_t bytes_length,
+                         const uint64_t *payoff, size_t payoff_length,
+                         uint64_t class_number,
+                         uint64_t *figure, size_t figure_length,
+                         uint64_t *row, size_t row_length);
+
+/* The high step of a class: its greatest figure one year on, rounded up, and a
+ * row that reaches it; `payoff`, `figure` and `row` as for the low step. */
+uint8_t joguyvi_high_step(const uint8_t *bytes, size_t bytes_length,
+                          const uint64_t *payoff, size_t payoff_length,
+                          uint64_t class_number,
+                          uint64_t *figure, size_t figure_length,
+                          uint64_t *row, size_t row_length);
+
+/* The rule row of a class, 1 to s: the next class for each claim column, as
+ * the record holds it, into `out`, of exactly m bytes. Another length is 13. */
+uint8_t joguyvi_rule_row(const uint8_t *bytes, size_t bytes_length,
+                         uint64_t class_number,
+                         uint8_t *out, size_t out_length);
+
+/* The bands of all claim columns, in parts: `lower` and `upper` are of exactly
+ * m numbers each. Another length is 13. */
+uint8_t joguyvi_bands(const uint8_t *bytes, size_t bytes_length,
+                      uint32_t *lower, size_t lower_length,
+                      uint32_t *upper, size_t upper_length);
 
 #ifdef __cplusplus
 }

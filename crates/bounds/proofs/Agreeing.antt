@@ -9,6 +9,7 @@ use Rattle.setchain.specs.Step.{Parts, lowStep, highStep}
 use Rattle.setchain.specs.Years.{lowYears, highYears}
 use Rattle.setchain.specs.Laws.Sums.{sumTo-eq}
 use Rattle.setchain.specs.Laws.Step.{low-figure, high-figure, low-figure-only, high-figure-only, low-step-same, high-step-same, low-step-at-most, high-step-at-most}
+use Rattle.bounds.specs.Lists.{Agree}
 use Rattle.bounds.specs.Figure.{stepFigure}
 use Rattle.bounds.specs.Years.{yearFigure, yearsFigure}
 
@@ -23,11 +24,6 @@ pub years-more : (falling : Bool) (c : SetChain) (payoff gain : ℕ → ℕ) (t 
 unfolding lowYears highYears
 years-more false c payoff gain t i = refl
 years-more true c payoff gain t i = refl
-
--- two rows have the same entries for the first n states
-pub record Agree (n : ℕ) (r q : IntervalRow) : Type 0 where
-  pub lower : (j : ℕ) → j < n → r .lower j ≡ q .lower j
-  pub upper : (j : ℕ) → j < n → r .upper j ≡ q .upper j
 
 module _ (n : ℕ) (r q : IntervalRow) (same : Agree n r q) where
   pub sound-same : SoundRow n r → SoundRow n q

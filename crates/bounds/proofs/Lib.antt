@@ -4,7 +4,14 @@ pub mod Sorting
 pub mod Summing
 pub mod Filling
 pub mod Reaching
+pub mod Walking
+pub mod Giving
+pub mod Passing
 pub mod Agreeing
+pub mod Entering
+pub mod Gathering
+pub mod Listing
+pub mod Storing
 pub mod Forming
 pub mod Running
 pub mod Starting

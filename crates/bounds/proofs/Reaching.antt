@@ -92,7 +92,7 @@ high-cert {payoff = payoff} {order = order} {stop = stop} s w =
     }
 
 -- the figure of a filled row is the step's
-step-reached : (d : Bool) {lower upper payoff order row₀ row : List ℕ} {stop : ℕ}
+pub step-reached : (d : Bool) {lower upper payoff order row₀ row : List ℕ} {stop : ℕ}
     → Steppable lower upper payoff order d row₀ → Filled lower upper order row stop
     → rounded d (dot (length lower) (at row) (at payoff)) ≡ stepFigure d (length lower) (rowIn lower upper) (at payoff)
 step-reached false {lower} {upper} {payoff} {order} {row₀} {row} {stop} s w =

@@ -16,12 +16,12 @@ use Rattle.setchain.specs.Laws.Step.{low-figure-only, high-figure-only}
 use Rattle.scheme.specs.Tables.{tab}
 use Rattle.scheme.specs.Rows.{gathered}
 use Rattle.scheme.specs.Laws.Tab.{length-tab, getD-tab}
-use Rattle.bounds.specs.Lists.{at, rowIn}
+use Rattle.bounds.specs.Lists.{at, rowIn, gatheredRow}
 use Rattle.bounds.specs.Order.{NotAfter, Arranged, Orderable}
 use Rattle.bounds.specs.Figure.{rounded, stepFigure}
 use Rattle.bounds.specs.Step.{Steppable, Stepped}
 use Rattle.bounds.specs.StepAnswer.{Reaches}
-use Rattle.bounds.specs.Solve.{gatheredRow, rowFromParts, Solvable, Solved, Answerable, Made}
+use Rattle.bounds.specs.Solve.{rowFromParts, Solvable, Solved, Answerable, Made}
 
 -- two intervals have the same ends at each state below n
 pub record SameRow (n : ℕ) (r r′ : IntervalRow) : Type 0 where

@@ -3,10 +3,12 @@
 use Prim.Native.Nat.{ℕ, suc, _+_, _-_, _*_, _/_, _%_, _≤_, _<_}
 use mathlib.Core.Path.{_≡_, ap, sym, _∙_, subst}
 use mathlib.Core.Bool.{Bool, true, false}
-use mathlib.Core.List.{List}
+use mathlib.Core.List.{List, _++_}
 use native.Mathlib.Omega.{arith}
 use native.Mathlib.Decide.{decLt}
 use native.Mathlib.Nat.{mul-le-mul, mul-le-mul-right, div-add-mod', div-lt-iff-lt-mul, mod-lt, mod-eq-of-lt, mul-add-mod-self-right}
+use mir.Syntax.{w64}
+use mir.Val.{Fits}
 use lib.ListN.{length, set, take, length-set}
 use lib.Seq.{getD-set-same, getD-set-other}
 use borrow.Author.Count.{below-none, below-more}
@@ -18,9 +20,11 @@ use Rattle.scheme.specs.Rows.{chainOf}
 use Rattle.scheme.specs.Laws.Tab.{as-tab}
 use Rattle.scheme.specs.declared.Scheme.{Scheme}
 use Rattle.bounds.specs.Lists.{at}
+use Rattle.bounds.specs.Order.{Placed}
 use Rattle.bounds.specs.Figure.{LARGEST}
-use Rattle.bounds.specs.Years.{chainIn, yearsFigure}
-use Rattle.bounds.specs.Start.{chainStored, Ready, startFigure, ShareHeld}
+use Rattle.bounds.specs.Entries.{chainListed}
+use Rattle.bounds.specs.Years.{yearsFigure}
+use Rattle.bounds.specs.Start.{Entered, Ready, startFigure, ShareHeld}
 use Rattle.bounds.specs.Answers.{startOf}
 use Rattle.bounds.specs.Table.{placeOf, totalPlace, tableSize, tableEntry, lowTable, highTable}
 use Rattle.bounds.specs.Tracks.{Trackable, Tracked, Columnable, ColumnReady, TableReady, SharesIn, figureTable}
@@ -30,29 +34,29 @@ use Rattle.bounds.proofs.Forming.{zeros}
 use Rattle.bounds.proofs.Answering.{share-ready, share-figure, mean-ready, mean-figure, total-ready, total-figure}
 
 -- figures that are equal in each year
-tracked-same : {f g : ℕ → ℕ} {from stride years : ℕ} {before after : List ℕ} → ((u : ℕ) → f u ≡ g u)
-    → Tracked f from stride years before after → Tracked g from stride years before after
+tracked-same : {f g : ℕ → ℕ} {first stride years : ℕ} {before after : List ℕ} → ((u : ℕ) → f u ≡ g u)
+    → Tracked f first stride years before after → Tracked g first stride years before after
 tracked-same h w = record { size = w .size; done = λ u l. w .done u l ∙ h u; other = w .other }
 
--- from the stored parts to the slices that go down
-module _ {rules lowers uppers : List ℕ} {columns classes start : ℕ} {gain payoff : List ℕ} {horizon from : ℕ} {out : List ℕ}
-    (w : Columnable rules lowers uppers columns classes start gain payoff horizon from out)
-    (rulesStored : 256 ≤ length rules) (lowersStored : 8 ≤ length lowers) (gainStored : 32 ≤ length gain)
+-- from arrays to the slices that go down
+module _ {from lows rooms counts spare : List ℕ} {classes start : ℕ} {gain payoff : List ℕ} {horizon first : ℕ} {out : List ℕ}
+    (w : Columnable from lows rooms counts spare classes start gain payoff horizon first out) (gainStored : 32 ≤ length gain)
     (i : ℕ) (state : i ≡ start - 1) where
-  pub column-tracks : Trackable rules (take columns lowers) (take columns uppers) (take classes gain) payoff i from (classes + 1) horizon out
-  column-tracks =
+  pub column-tracks : (order rest : List ℕ) → Placed (length (take classes zeros)) order
+      → Trackable from lows rooms counts spare (take classes gain) (take classes (order ++ rest)) payoff i first (classes + 1) horizon out
+  column-tracks order rest placed =
       record {
-        runs = start-runs (w .starts) rulesStored lowersStored gainStored;
-        within = start-within (w .starts) rulesStored lowersStored gainStored i state;
+        runs = start-runs (w .starts) gainStored order rest placed;
+        within = start-within (w .starts) gainStored i state;
         apart = omega arith;
         fits = w .fits;
         few = w .few;
       }
 
   pub column-tracked : (falling : Bool) {after : List ℕ}
-      → Tracked (λ u. yearsFigure falling (chainIn (length (take classes gain)) rules (take columns lowers) (take columns uppers)) (at payoff) (at (take classes gain)) u i) from (classes + 1) horizon out after
-      → Tracked (λ t. yearsFigure falling (chainStored columns classes rules lowers uppers) (at payoff) (at gain) t (start - 1)) from (classes + 1) horizon out after
-  column-tracked falling t = tracked-same (λ u. start-years (w .starts) rulesStored lowersStored gainStored falling u i state) t
+      → Tracked (λ u. yearsFigure falling (chainListed (length (take classes gain)) from lows rooms counts) (at payoff) (at (take classes gain)) u i) first (classes + 1) horizon out after
+      → Tracked (λ t. yearsFigure falling (chainListed classes from lows rooms counts) (at payoff) (at gain) t (start - 1)) first (classes + 1) horizon out after
+  column-tracked falling t = tracked-same (λ u. start-years (w .starts) gainStored falling u i state) t
 
 -- a table's numbers are few
 table-few : (s : Scheme) → s .horizon ≤ 100 → s .classes ≤ 32 → tableSize s ≤ LARGEST
@@ -60,20 +64,25 @@ table-few s h c =
     let k : suc (s .horizon) * suc (s .classes) ≤ 101 * 33 = mul-le-mul {n₂ = 101} {m₂ = 33} (omega arith) (omega arith) in
     omega arith
 
--- from a scheme to its parts
-module _ (s : Scheme) {gain payoff : List ℕ} {from : ℕ} {out : List ℕ} (w : ColumnReady s gain payoff from out) where
-  pub scheme-columns : Columnable (s .rules) (s .lowers) (s .uppers) (s .columns) (s .classes) (s .start) gain payoff (s .horizon) from out
+-- so its last place fits
+pub last-fits : (s : Scheme) → Accepted s → {n : ℕ} → n ≡ tableSize s → Fits w64 ((n - 1) * 8)
+last-fits s ok e = omega (arith, table-few s (ok .horizon .within) (ok .size .classes))
+
+-- from a scheme to the lists of its entries
+module _ (s : Scheme) {from lows rooms counts spare gain payoff : List ℕ} {first : ℕ} {out : List ℕ} (w : ColumnReady s gain payoff first out)
+    (e : Entered s from lows rooms counts spare) where
+  pub scheme-columns : Columnable from lows rooms counts spare (s .classes) (s .start) gain payoff (s .horizon) first out
   scheme-columns =
       record {
-        starts = scheme-starts s (w .ready);
+        starts = scheme-starts s (w .ready) e;
         fits = omega (arith, w .within, w .size);
         few = omega (arith, w .size, table-few s (w .ready .accepted .horizon .within) (w .ready .accepted .size .classes));
       }
 
   pub scheme-column : (falling : Bool) {after : List ℕ}
-      → Tracked (λ t. yearsFigure falling (chainStored (s .columns) (s .classes) (s .rules) (s .lowers) (s .uppers)) (at payoff) (at gain) t (s .start - 1)) from (s .classes + 1) (s .horizon) out after
-      → Tracked (startFigure falling s gain payoff) from (s .classes + 1) (s .horizon) out after
-  scheme-column falling t = tracked-same (scheme-years s (w .ready) falling) t
+      → Tracked (λ t. yearsFigure falling (chainListed (s .classes) from lows rooms counts) (at payoff) (at gain) t (s .start - 1)) first (s .classes + 1) (s .horizon) out after
+      → Tracked (startFigure falling s gain payoff) first (s .classes + 1) (s .horizon) out after
+  scheme-column falling t = tracked-same (scheme-years s (w .ready) e falling) t
 
 -- a place tells its number in the row
 number-is : (c t j : ℕ) → j ≤ c → (t * suc c + j) % suc c ≡ j

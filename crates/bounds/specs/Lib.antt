@@ -4,6 +4,8 @@ pub mod Order
 pub mod Fill
 pub mod Figure
 pub mod Step
+pub mod Entries
+pub mod Walk
 pub mod Years
 pub mod Answers
 pub mod Start

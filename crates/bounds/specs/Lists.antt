@@ -1,8 +1,10 @@
 -- Lists read as functions of the state: state j is class j + 1.
-use Prim.Native.Nat.{ℕ}
+use Prim.Native.Nat.{ℕ, _*_, _<_}
+use mathlib.Core.Path.{_≡_}
 use mathlib.Core.List.{List}
-use lib.ListN.{getD}
+use lib.ListN.{getD, take, drop}
 use Rattle.setchain.specs.Rows.{IntervalRow}
+use Rattle.scheme.specs.Rows.{gathered}
 
 -- what the list has for state j, and 0 past its end
 abbrev pub at : List ℕ → ℕ → ℕ
@@ -11,3 +13,16 @@ at l j = getD l j 0
 -- the interval row that two lists hold
 abbrev pub rowIn : List ℕ → List ℕ → IntervalRow
 rowIn lower upper = record { lower = at lower; upper = at upper }
+
+-- the interval row that some rules make with their bands' ends
+abbrev pub gatheredRow : List ℕ → List ℕ → List ℕ → IntervalRow
+gatheredRow rules lowers uppers = record { lower = gathered rules lowers; upper = gathered rules uppers }
+
+-- the rules of state i: eight stand for each class, of which as many count as there are bands
+abbrev pub rulesOf : ℕ → List ℕ → ℕ → List ℕ
+rulesOf columns rules i = take columns (drop (i * 8) rules)
+
+-- two rows have the same entries for the first n states
+pub record Agree (n : ℕ) (r q : IntervalRow) : Type 0 where
+  pub lower : (j : ℕ) → j < n → r .lower j ≡ q .lower j
+  pub upper : (j : ℕ) → j < n → r .upper j ≡ q .upper j

@@ -5,15 +5,10 @@ use mathlib.Core.Bool.{Bool}
 use mathlib.Core.List.{List}
 use lib.ListN.{length, take, drop}
 use Rattle.setchain.specs.Rows.{IntervalRow, SoundRow}
-use Rattle.scheme.specs.Rows.{gathered}
 use Rattle.bounds.specs.declared.StepAnswer.{StepAnswer}
-use Rattle.bounds.specs.Lists.{at}
+use Rattle.bounds.specs.Lists.{at, gatheredRow}
 use Rattle.bounds.specs.Figure.{LARGEST}
 use Rattle.bounds.specs.StepAnswer.{Reaches}
-
--- the interval row that some rules make with their bands' ends
-abbrev pub gatheredRow : List ℕ → List ℕ → List ℕ → IntervalRow
-gatheredRow rules lowers uppers = record { lower = gathered rules lowers; upper = gathered rules uppers }
 
 -- the interval row of a class from a scheme's parts
 abbrev pub rowFromParts : List ℕ → List ℕ → List ℕ → ℕ → ℕ → IntervalRow

@@ -1,44 +1,33 @@
--- The start class's figure (document 01, "Years"): what it takes from a scheme's parts, and from a scheme.
+-- The start class's figure (document 01, "Years"): what it takes and what it is.
 use Prim.Native.Nat.{ℕ, _+_, _-_, _*_, _≤_, _<_}
 use mathlib.Core.Path.{_≡_}
 use mathlib.Core.Bool.{Bool, true, false}
 use mathlib.Core.List.{List}
-use lib.ListN.{length, take}
-use Rattle.setchain.specs.Rows.{SetChain, SoundChain}
+use lib.ListN.{length}
 use Rattle.setchain.specs.Years.{sharePayoff}
 use Rattle.scheme.specs.declared.Scheme.{Scheme}
 use Rattle.scheme.specs.Accepted.{Accepted}
 use Rattle.scheme.specs.Rows.{chainOf}
 use Rattle.bounds.specs.declared.Bounds.{Bounds}
 use Rattle.bounds.specs.declared.Bounds.the-variants.{Answered}
-use Rattle.bounds.specs.Lists.{at}
-use Rattle.bounds.specs.Figure.{LARGEST}
-use Rattle.bounds.specs.Years.{chainBy, yearsFigure}
+use Rattle.bounds.specs.Lists.{at, Agree}
+use Rattle.bounds.specs.Entries.{listedRow, Held}
+use Rattle.bounds.specs.Years.{yearsFigure, Roomy}
 use Rattle.bounds.specs.Answers.{startOf}
 
--- the payoffs and gains of n classes leave room for t years
-pub record Roomy (n : ℕ) (gain payoff : List ℕ) (t : ℕ) : Type 0 where
-  pub top : ℕ
-  pub rise : ℕ
-  pub payoffs : (j : ℕ) → j < n → at payoff j ≤ top
-  pub gains : (j : ℕ) → j < n → at gain j ≤ rise
-  pub room : top + t * rise ≤ LARGEST
-  pub rises : rise ≤ LARGEST
+-- the lists hold the interval rows of an accepted scheme
+pub record Entered (s : Scheme) (from lows rooms counts spare : List ℕ) : Type 0 where
+  pub held : Held (s .classes) from lows rooms counts spare
+  pub agrees : (i : ℕ) → i < s .classes → Agree (s .classes) (listedRow from lows rooms counts i) (chainOf s .row i)
 
--- the chain of a scheme's stored parts
-abbrev pub chainStored : ℕ → ℕ → List ℕ → List ℕ → List ℕ → SetChain
-chainStored columns classes rules lowers uppers = chainBy columns classes rules (take columns lowers) (take columns uppers)
-
--- what the start class's figure takes from the stored parts
-pub record Startable (rules lowers uppers : List ℕ) (columns classes start : ℕ) (gain payoff : List ℕ) (t : ℕ) : Type 0 where
-  pub columnsFit : columns ≤ 8
-  pub classesFit : classes ≤ 32
+-- what the start class's figure takes
+pub record Startable (from lows rooms counts spare : List ℕ) (classes start : ℕ) (gain payoff : List ℕ) (t : ℕ) : Type 0 where
+  pub held : Held classes from lows rooms counts spare
   pub positive : 1 ≤ start
   pub within : start ≤ classes
-  pub sound : SoundChain (chainStored columns classes rules lowers uppers)
   pub roomy : Roomy classes gain payoff t
 
--- and from a scheme
+-- an accepted scheme, with payoffs and gains that leave room for t years
 pub record Ready (s : Scheme) (gain payoff : List ℕ) (t : ℕ) : Type 0 where
   pub accepted : Accepted s
   pub roomy : Roomy (s .classes) gain payoff t

@@ -16,29 +16,29 @@ use Rattle.bounds.specs.Answers.{startOf}
 use Rattle.bounds.specs.Table.{placeOf, tableSize, lowTable, highTable}
 
 -- years that can be run, a state of the chain, and a slice that has the last year's place
-pub record Trackable (rules lowers uppers gain payoff : List ℕ) (state from stride years : ℕ) (out : List ℕ) : Type 0 where
-  pub runs : Runnable rules lowers uppers gain payoff years
+pub record Trackable (from lows rooms counts spare gain order payoff : List ℕ) (state first stride years : ℕ) (out : List ℕ) : Type 0 where
+  pub runs : Runnable from lows rooms counts spare gain order payoff years
   pub within : state < length gain
   pub apart : 1 ≤ stride
-  pub fits : from + years * stride < length out
+  pub fits : first + years * stride < length out
   pub few : length out ≤ LARGEST
 
 -- the figures of year 0 to `years` stand in `after`, and nothing else has changed
-pub record Tracked (figure : ℕ → ℕ) (from stride years : ℕ) (before after : List ℕ) : Type 0 where
+pub record Tracked (figure : ℕ → ℕ) (first stride years : ℕ) (before after : List ℕ) : Type 0 where
   pub size : length after ≡ length before
-  pub done : (u : ℕ) → u < years + 1 → at after (from + u * stride) ≡ figure u
-  pub other : (p : ℕ) → ((u : ℕ) → p ≡ from + u * stride → ⊥) → at after p ≡ at before p
+  pub done : (u : ℕ) → u < years + 1 → at after (first + u * stride) ≡ figure u
+  pub other : (p : ℕ) → ((u : ℕ) → p ≡ first + u * stride → ⊥) → at after p ≡ at before p
 
--- what a column of the start class's figures takes from the stored parts
-pub record Columnable (rules lowers uppers : List ℕ) (columns classes start : ℕ) (gain payoff : List ℕ) (horizon from : ℕ) (out : List ℕ) : Type 0 where
-  pub starts : Startable rules lowers uppers columns classes start gain payoff horizon
-  pub fits : from + horizon * (classes + 1) < length out
+-- what a column of the start class's figures takes
+pub record Columnable (from lows rooms counts spare : List ℕ) (classes start : ℕ) (gain payoff : List ℕ) (horizon first : ℕ) (out : List ℕ) : Type 0 where
+  pub starts : Startable from lows rooms counts spare classes start gain payoff horizon
+  pub fits : first + horizon * (classes + 1) < length out
   pub few : length out ≤ LARGEST
 
 -- and from a scheme: a place in a year's row, and a slice of the table's size
-pub record ColumnReady (s : Scheme) (gain payoff : List ℕ) (from : ℕ) (out : List ℕ) : Type 0 where
+pub record ColumnReady (s : Scheme) (gain payoff : List ℕ) (first : ℕ) (out : List ℕ) : Type 0 where
   pub ready : Ready s gain payoff (s .horizon)
-  pub within : from ≤ s .classes
+  pub within : first ≤ s .classes
   pub size : length out ≡ tableSize s
 
 -- what a table takes: an accepted scheme, and a slice of its size

@@ -22,7 +22,7 @@ fn weigh(row: &[u64], payoff: &[u64]) -> u64
 }
 
 // Parts in units, rounded down, or up where payoffs fall.
-fn round(parts: u64, falling: bool) -> u64
+pub fn round(parts: u64, falling: bool) -> u64
     requires { ⌜ parts ≤ LARGEST * ONE ⌝ }
     ensures { λ r. ⌜ r ≡ rounded falling parts ⌝ }
 {

@@ -9,7 +9,7 @@ ghost use Rattle.bounds.specs.Lists.{at};
 ghost use Rattle.bounds.specs.Fill.{Fillable, Filled, Pourable};
 
 // The sum of a row that is at most ONE.
-fn total(a: &[u64]) -> u64
+pub fn total(a: &[u64]) -> u64
     requires { ⌜ sumTo (length (now a)) (at (now a)) ≤ ONE ⌝ }
     ensures { λ r. ⌜ r ≡ sumTo (length (now (a .entry))) (at (now (a .entry))) ⌝ }
 {

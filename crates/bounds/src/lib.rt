@@ -10,6 +10,7 @@ ghost use Rattle.bounds.specs.Promises.{FiguresPromise};
 
 mod answer_step;
 mod causes;
+mod entries;
 mod figure;
 mod fill;
 mod order;
@@ -102,8 +103,7 @@ pub fn figures(scheme: Scheme, low: &mut [u64], high: &mut [u64]) -> u8
     if number != 0 {
         return number;
     }
-    table::write_table(scheme, false, low);
-    table::write_table(scheme, true, high);
+    table::write_tables(scheme, low, high);
     0
 }
 

@@ -1,39 +1,47 @@
 // The start class's figures of t years (document 01, "Years": "The answer is the start class's figure").
 use crate::Bounds;
+use crate::entries::list_scheme;
+use crate::order::number;
 use crate::order::state;
 use crate::years::years;
 use scheme::Scheme;
 ghost use mathlib.Core.Path.{_≡_};
 ghost use Prim.Native.Nat.{_-_};
 ghost use Rattle.bounds.specs.Lists.{at};
+ghost use Rattle.bounds.specs.Entries.{chainListed};
 ghost use Rattle.bounds.specs.Years.{yearsFigure};
-ghost use Rattle.bounds.specs.Start.{Ready, Startable, chainStored, startBounds, startFigure};
+ghost use Rattle.bounds.specs.Start.{Entered, Ready, Startable, startBounds, startFigure};
 
-// The start class's figure from a scheme's parts.
+// The start class's figure from the lists of entries.
 fn figure_in(
-    rules: [u8; 256],
-    lowers: [u32; 8],
-    uppers: [u32; 8],
-    columns: u8,
+    from: &[u8; 1024],
+    lows: &[u32; 1024],
+    rooms: &[u32; 1024],
+    counts: &[usize; 32],
+    spare: &[u64; 32],
     classes: u8,
     start: u8,
     gain: [u64; 32],
     falling: bool,
-    payoff: [u64; 32],
+    payoff: &[u64; 32],
     t: u64,
 ) -> u64
-    requires { ⌜ Startable rules lowers uppers columns classes start gain payoff t ⌝ }
-    ensures { λ r. ⌜ r ≡ yearsFigure falling (chainStored columns classes rules lowers uppers) (at payoff) (at gain) t (start - 1) ⌝ }
+    requires { ⌜ Startable (now from) (now lows) (now rooms) (now counts) (now spare) classes start gain (now payoff) t ⌝ }
+    ensures { λ r. ⌜ r ≡ yearsFigure falling (chainListed classes (now (from .entry)) (now (lows .entry)) (now (rooms .entry)) (now (counts .entry))) (at (now (payoff .entry))) (at gain) t (start - 1) ⌝ }
 {
-    let m = columns as usize;
     let n = classes as usize;
+    let mut order = [0u8; 32];
+    number(&mut order[..n]);
     let figures = years(
-        &rules,
-        &lowers[..m],
-        &uppers[..m],
+        from,
+        lows,
+        rooms,
+        counts,
+        spare,
         &gain[..n],
         falling,
-        &payoff,
+        &mut order[..n],
+        payoff,
         t,
     );
     figures[state(start)]
@@ -42,30 +50,30 @@ fn figure_in(
 // The low figure of a scheme's start class, or the high one where payoffs fall along the order.
 pub fn start_figure(
     scheme: Scheme,
+    from: &[u8; 1024],
+    lows: &[u32; 1024],
+    rooms: &[u32; 1024],
+    counts: &[usize; 32],
+    spare: &[u64; 32],
     gain: [u64; 32],
     falling: bool,
     payoff: [u64; 32],
     t: u64,
 ) -> u64
-    requires { ⌜ Ready scheme gain payoff t ⌝ }
+    requires { ⌜ (Ready scheme gain payoff t) × Entered scheme (now from) (now lows) (now rooms) (now counts) (now spare) ⌝ }
     ensures { λ r. ⌜ r ≡ startFigure falling scheme gain payoff t ⌝ }
 {
-    let rules = scheme.rules;
-    let lowers = scheme.lowers;
-    let uppers = scheme.uppers;
-    let columns = scheme.columns;
-    let classes = scheme.classes;
-    let start = scheme.start;
     figure_in(
-        rules,
-        lowers,
-        uppers,
-        columns,
-        classes,
-        start,
+        from,
+        lows,
+        rooms,
+        counts,
+        spare,
+        scheme.classes,
+        scheme.start,
         gain,
         falling,
-        payoff,
+        &payoff,
         t,
     )
 }
@@ -75,7 +83,42 @@ pub fn start_bounds(scheme: Scheme, gain: [u64; 32], payoff: [u64; 32], t: u64) 
     requires { ⌜ Ready scheme gain payoff t ⌝ }
     ensures { λ r. ⌜ r ≡ startBounds scheme gain payoff t ⌝ }
 {
-    let low = start_figure(scheme, gain, false, payoff, t);
-    let high = start_figure(scheme, gain, true, payoff, t);
+    let mut from = [0u8; 1024];
+    let mut lows = [0u32; 1024];
+    let mut rooms = [0u32; 1024];
+    let mut counts = [0usize; 32];
+    let mut spare = [0u64; 32];
+    list_scheme(
+        scheme,
+        &mut from,
+        &mut lows,
+        &mut rooms,
+        &mut counts,
+        &mut spare,
+    );
+    let low = start_figure(
+        scheme,
+        &from,
+        &lows,
+        &rooms,
+        &counts,
+        &spare,
+        gain,
+        false,
+        payoff,
+        t,
+    );
+    let high = start_figure(
+        scheme,
+        &from,
+        &lows,
+        &rooms,
+        &counts,
+        &spare,
+        gain,
+        true,
+        payoff,
+        t,
+    );
     Bounds::Answered { low, high }
 }

@@ -1,4 +1,6 @@
 // All figures of a sheet in one table, each column's figures carried from year to year (document 01, "Sheet program and examples").
+use crate::entries::list_scheme;
+use crate::order::number;
 use crate::order::state;
 use crate::payoffs::share_payoff;
 use crate::payoffs::widened;
@@ -6,41 +8,48 @@ use crate::start::start_figure;
 use crate::track::track;
 use scheme::Scheme;
 ghost use mathlib.Core.Path.{_≡_};
+ghost use mathlib.Core.Bool.{true, false};
 ghost use Prim.Native.Nat.{_+_, _-_};
 ghost use Rattle.bounds.specs.Lists.{at};
+ghost use Rattle.bounds.specs.Entries.{chainListed};
 ghost use Rattle.bounds.specs.Years.{yearsFigure};
-ghost use Rattle.bounds.specs.Start.{chainStored, startFigure};
+ghost use Rattle.bounds.specs.Start.{Entered, startFigure};
 ghost use Rattle.bounds.specs.Tracks.{Columnable, ColumnReady, SharesIn, TableReady, Tracked, figureTable};
 
 // Writes the start class's figures of all years from a scheme's parts.
 fn column_in(
-    rules: [u8; 256],
-    lowers: [u32; 8],
-    uppers: [u32; 8],
-    columns: u8,
+    from: &[u8; 1024],
+    lows: &[u32; 1024],
+    rooms: &[u32; 1024],
+    counts: &[usize; 32],
+    spare: &[u64; 32],
     classes: u8,
     start: u8,
     horizon: u8,
     gain: [u64; 32],
     falling: bool,
     payoff: [u64; 32],
-    from: usize,
+    first: usize,
     out: &mut [u64],
 )
-    requires { ⌜ Columnable rules lowers uppers columns classes start gain payoff horizon from (now out) ⌝ }
-    ensures { λ _. ⌜ Tracked (λ t. yearsFigure falling (chainStored columns classes rules lowers uppers) (at payoff) (at gain) t (start - 1)) from (classes + 1) horizon (now (out .entry)) (now (out .exit)) ⌝ }
+    requires { ⌜ Columnable (now from) (now lows) (now rooms) (now counts) (now spare) classes start gain payoff horizon first (now out) ⌝ }
+    ensures { λ _. ⌜ Tracked (λ t. yearsFigure falling (chainListed classes (now (from .entry)) (now (lows .entry)) (now (rooms .entry)) (now (counts .entry))) (at payoff) (at gain) t (start - 1)) first (classes + 1) horizon (now (out .entry)) (now (out .exit)) ⌝ }
 {
-    let m = columns as usize;
     let n = classes as usize;
+    let mut order = [0u8; 32];
+    number(&mut order[..n]);
     track(
-        &rules,
-        &lowers[..m],
-        &uppers[..m],
+        from,
+        lows,
+        rooms,
+        counts,
+        spare,
         &gain[..n],
         falling,
+        &mut order[..n],
         payoff,
         state(start),
-        from,
+        first,
         n + 1,
         horizon as usize,
         out,
@@ -50,41 +59,49 @@ fn column_in(
 // Writes the start class's figures of all years at one place of each year's row.
 fn column(
     scheme: Scheme,
+    from: &[u8; 1024],
+    lows: &[u32; 1024],
+    rooms: &[u32; 1024],
+    counts: &[usize; 32],
+    spare: &[u64; 32],
     gain: [u64; 32],
     falling: bool,
     payoff: [u64; 32],
-    from: usize,
+    first: usize,
     out: &mut [u64],
 )
-    requires { ⌜ ColumnReady scheme gain payoff from (now out) ⌝ }
-    ensures { λ _. ⌜ Tracked (startFigure falling scheme gain payoff) from (scheme .classes + 1) (scheme .horizon) (now (out .entry)) (now (out .exit)) ⌝ }
+    requires { ⌜ (ColumnReady scheme gain payoff first (now out)) × Entered scheme (now from) (now lows) (now rooms) (now counts) (now spare) ⌝ }
+    ensures { λ _. ⌜ Tracked (startFigure falling scheme gain payoff) first (scheme .classes + 1) (scheme .horizon) (now (out .entry)) (now (out .exit)) ⌝ }
 {
-    let rules = scheme.rules;
-    let lowers = scheme.lowers;
-    let uppers = scheme.uppers;
-    let columns = scheme.columns;
-    let classes = scheme.classes;
-    let start = scheme.start;
-    let horizon = scheme.horizon;
     column_in(
-        rules,
-        lowers,
-        uppers,
-        columns,
-        classes,
-        start,
-        horizon,
+        from,
+        lows,
+        rooms,
+        counts,
+        spare,
+        scheme.classes,
+        scheme.start,
+        scheme.horizon,
         gain,
         falling,
         payoff,
-        from,
+        first,
         out,
     );
 }
 
 // Writes the shares of all classes, a column for each.
-fn share_columns(scheme: Scheme, falling: bool, out: &mut [u64])
-    requires { ⌜ TableReady scheme (now out) ⌝ }
+fn share_columns(
+    scheme: Scheme,
+    from: &[u8; 1024],
+    lows: &[u32; 1024],
+    rooms: &[u32; 1024],
+    counts: &[usize; 32],
+    spare: &[u64; 32],
+    falling: bool,
+    out: &mut [u64],
+)
+    requires { ⌜ (TableReady scheme (now out)) × Entered scheme (now from) (now lows) (now rooms) (now counts) (now spare) ⌝ }
     ensures { λ _. ⌜ SharesIn falling scheme (now (out .exit)) (scheme .classes) ⌝ }
 {
     let gain = [0u64; 32];
@@ -92,23 +109,90 @@ fn share_columns(scheme: Scheme, falling: bool, out: &mut [u64])
     let mut j: usize = 0;
     while j < classes {
         let payoff = share_payoff((j + 1) as u64);
-        column(scheme, gain, falling, payoff, j, out);
+        column(
+            scheme,
+            from,
+            lows,
+            rooms,
+            counts,
+            spare,
+            gain,
+            falling,
+            payoff,
+            j,
+            out,
+        );
         j += 1;
     }
 }
 
 // Writes the low figures, or the high ones where payoffs fall along the order: shares, means and the total.
-pub fn write_table(scheme: Scheme, falling: bool, out: &mut [u64])
-    requires { ⌜ TableReady scheme (now out) ⌝ }
+fn write_figures(
+    scheme: Scheme,
+    from: &[u8; 1024],
+    lows: &[u32; 1024],
+    rooms: &[u32; 1024],
+    counts: &[usize; 32],
+    spare: &[u64; 32],
+    falling: bool,
+    out: &mut [u64],
+)
+    requires { ⌜ (TableReady scheme (now out)) × Entered scheme (now from) (now lows) (now rooms) (now counts) (now spare) ⌝ }
     ensures { λ _. ⌜ now (out .exit) ≡ figureTable falling scheme ⌝ }
 {
-    share_columns(scheme, falling, out);
+    share_columns(scheme, from, lows, rooms, counts, spare, falling, out);
     let none = [0u64; 32];
     let stored = scheme.premiums;
     let premiums = widened(stored);
     let mean = scheme.classes as usize;
-    column(scheme, none, falling, premiums, mean, out);
+    column(
+        scheme,
+        from,
+        lows,
+        rooms,
+        counts,
+        spare,
+        none,
+        falling,
+        premiums,
+        mean,
+        out,
+    );
     let last = out.len() - 1;
     let years = scheme.horizon as u64;
-    out[last] = start_figure(scheme, premiums, falling, none, years);
+    out[last] = start_figure(
+        scheme,
+        from,
+        lows,
+        rooms,
+        counts,
+        spare,
+        premiums,
+        falling,
+        none,
+        years,
+    );
+}
+
+// Writes both tables of a scheme.
+pub fn write_tables(scheme: Scheme, low: &mut [u64], high: &mut [u64])
+    requires { ⌜ (TableReady scheme (now low)) × TableReady scheme (now high) ⌝ }
+    ensures lows { λ _. ⌜ now (low .exit) ≡ figureTable false scheme ⌝ }
+    ensures highs { λ _. ⌜ now (high .exit) ≡ figureTable true scheme ⌝ }
+{
+    let mut from = [0u8; 1024];
+    let mut lows = [0u32; 1024];
+    let mut rooms = [0u32; 1024];
+    let mut counts = [0usize; 32];
+    let mut spare = [0u64; 32];
+    list_scheme(
+        scheme,
+        &mut from,
+        &mut lows,
+        &mut rooms,
+        &mut counts,
+        &mut spare,
+    );
+    write_figures(scheme, &from, &lows, &rooms, &counts, &spare, false, low);
+    write_figures(scheme, &from, &lows, &rooms, &counts, &spare, true, high);
 }

@@ -1,33 +1,47 @@
 // One figure vector carried through the years, a year's figures from those of the year before (document 01, "Years").
-use crate::year::year;
+use crate::years::advance;
 ghost use lib.ListN.{length};
 ghost use Rattle.bounds.specs.Lists.{at};
-ghost use Rattle.bounds.specs.Years.{chainIn, yearsFigure};
+ghost use Rattle.bounds.specs.Entries.{chainListed};
+ghost use Rattle.bounds.specs.Years.{yearsFigure};
 ghost use Rattle.bounds.specs.Tracks.{Trackable, Tracked};
 
-// Writes the state's figure of each year from 0 on, the first at `from` and each next `stride` places on.
+// Writes the state's figure of each year from 0 on, the first at `first` and each next `stride` places on.
 pub fn track(
-    rules: &[u8],
-    lowers: &[u32],
-    uppers: &[u32],
+    from: &[u8; 1024],
+    lows: &[u32; 1024],
+    rooms: &[u32; 1024],
+    counts: &[usize; 32],
+    spare: &[u64; 32],
     gain: &[u64],
     falling: bool,
+    order: &mut [u8],
     payoff: [u64; 32],
     state: usize,
-    from: usize,
+    first: usize,
     stride: usize,
     years: usize,
     out: &mut [u64],
 )
-    requires { ⌜ Trackable (now rules) (now lowers) (now uppers) (now gain) payoff state from stride years (now out) ⌝ }
-    ensures { λ _. ⌜ Tracked (λ u. yearsFigure falling (chainIn (length (now (gain .entry))) (now (rules .entry)) (now (lowers .entry)) (now (uppers .entry))) (at payoff) (at (now (gain .entry))) u state) from stride years (now (out .entry)) (now (out .exit)) ⌝ }
+    requires { ⌜ Trackable (now from) (now lows) (now rooms) (now counts) (now spare) (now gain) (now order) payoff state first stride years (now out) ⌝ }
+    ensures { λ _. ⌜ Tracked (λ u. yearsFigure falling (chainListed (length (now (gain .entry))) (now (from .entry)) (now (lows .entry)) (now (rooms .entry)) (now (counts .entry))) (at payoff) (at (now (gain .entry))) u state) first stride years (now (out .entry)) (now (out .exit)) ⌝ }
 {
     let mut figures = payoff;
-    out[from] = figures[state];
-    let mut place = from;
+    out[first] = figures[state];
+    let mut place = first;
     let mut u: usize = 0;
     while u < years {
-        figures = year(rules, lowers, uppers, gain, falling, figures);
+        advance(
+            from,
+            lows,
+            rooms,
+            counts,
+            spare,
+            gain,
+            falling,
+            order,
+            &mut figures,
+        );
         place += stride;
         out[place] = figures[state];
         u += 1;

@@ -1,88 +1,135 @@
 // One year: the figures of all classes from those of the year before (document 01, "Years").
-use crate::order::arrange;
-use crate::step::step;
-use scheme::gathering::gather;
+use crate::figure::round;
+use crate::order::sort;
+use crate::order::state;
+ghost use mathlib.Core.Path.{_≡_};
+ghost use Prim.Native.Nat.{min, _≤_};
 ghost use lib.ListN.{length};
-ghost use Rattle.bounds.specs.Years.{Figurable, Figured, Formable, Formed, Yearly};
+ghost use Rattle.bounds.specs.Order.{Placed};
+ghost use Rattle.bounds.specs.Entries.{chainListed};
+ghost use Rattle.bounds.specs.Walk.{Givable, Given, Settleable, Settled, Walkable, Walked};
+ghost use Rattle.bounds.specs.Years.{Formed, Yearly};
 
-// The step's figure of one class, from its rules and their bands.
-fn class_figure(
-    rules: &[u8],
-    lowers: &[u32],
-    uppers: &[u32],
-    before: &[u64],
-    order: &[u8],
-    falling: bool,
-) -> u64
-    requires { ⌜ Figurable (now rules) (now lowers) (now uppers) (now before) (now order) falling ⌝ }
-    ensures { λ r. ⌜ Figured (now (rules .entry)) (now (lowers .entry)) (now (uppers .entry)) (now (before .entry)) falling r ⌝ }
+// A state's number as an index.
+fn index(x: u8) -> usize
+    ensures { λ r. ⌜ r ≡ x ⌝ }
 {
-    let n = before.len();
-    let mut lower = [0u64; 32];
-    gather(rules, lowers, &mut lower[..n]);
-    let mut upper = [0u64; 32];
-    gather(rules, uppers, &mut upper[..n]);
-    let mut row = [0u64; 32];
-    step(
-        &lower[..n],
-        &upper[..n],
-        before,
-        order,
-        falling,
-        &mut row[..n],
-    )
+    x as usize
 }
 
-// Writes the figure of each class: its gain and its step's figure.
-fn form(
-    rules: &[u8],
-    lowers: &[u32],
-    uppers: &[u32],
-    gain: &[u64],
-    before: &[u64],
-    order: &[u8],
-    falling: bool,
-    figures: &mut [u64],
-)
-    requires { ⌜ Formable (now rules) (now lowers) (now uppers) (now gain) (now before) (now order) falling (now figures) ⌝ }
-    ensures { λ _. ⌜ Formed (length (now (before .entry))) (now (rules .entry)) (now (lowers .entry)) (now (uppers .entry)) (now (gain .entry)) (now (before .entry)) falling (now (figures .exit)) ⌝ }
+// A 32-bit number in 64 bits.
+fn wide(x: u32) -> u64
+    ensures { λ r. ⌜ (r ≡ x) × (r ≤ 4294967295) ⌝ }
 {
-    let m = lowers.len();
+    x as u64
+}
+
+// The smaller of two numbers of parts.
+fn smaller(a: u64, b: u64) -> u64
+    ensures { λ r. ⌜ r ≡ min a b ⌝ }
+{
+    if a < b { a } else { b }
+}
+
+// Gives the entries that lead to one state, listed from place `first` to `end`: each row its lower parts and, as far as it has them left, its spare ones.
+fn give(
+    from: &[u8; 1024],
+    lows: &[u32; 1024],
+    rooms: &[u32; 1024],
+    first: usize,
+    end: usize,
+    pays: u64,
+    left: &mut [u64],
+    sums: &mut [u64],
+)
+    requires { ⌜ Givable (now from) (now lows) (now rooms) first end pays (now left) (now sums) ⌝ }
+    ensures { λ _. ⌜ Given (now (from .entry)) (now (lows .entry)) (now (rooms .entry)) first end pays (now (left .entry)) (now (sums .entry)) (now (left .exit)) (now (sums .exit)) ⌝ }
+{
+    let mut e = first;
+    while e < end {
+        let i = index(from[e]);
+        let given = smaller(wide(rooms[e]), left[i]);
+        left[i] -= given;
+        sums[i] += (wide(lows[e]) + given) * pays;
+        e += 1;
+    }
+}
+
+// Passes all entries along the order, and leaves in `sums` for each row the sum of part times payoff.
+fn walk(
+    from: &[u8; 1024],
+    lows: &[u32; 1024],
+    rooms: &[u32; 1024],
+    counts: &[usize; 32],
+    payoff: &[u64],
+    order: &[u8],
+    left: &mut [u64],
+    sums: &mut [u64],
+)
+    requires { ⌜ Walkable (now from) (now lows) (now rooms) (now counts) (now payoff) (now order) (now left) (now sums) ⌝ }
+    ensures { λ _. ⌜ Walked (now (from .entry)) (now (lows .entry)) (now (rooms .entry)) (now (counts .entry)) (now (payoff .entry)) (now (order .entry)) (now (left .entry)) (now (sums .exit)) ⌝ }
+{
+    let mut k: usize = 0;
+    while k < order.len() {
+        let j = state(order[k]);
+        let first = j * 32;
+        give(
+            from,
+            lows,
+            rooms,
+            first,
+            first + counts[j],
+            payoff[j],
+            left,
+            sums,
+        );
+        k += 1;
+    }
+}
+
+// Makes each sum of part times payoff a figure: rounded, and with the row's gain.
+fn settle(gain: &[u64], falling: bool, sums: &mut [u64])
+    requires { ⌜ Settleable (now gain) (now sums) ⌝ }
+    ensures { λ _. ⌜ Settled (now (gain .entry)) falling (now (sums .entry)) (now (sums .exit)) ⌝ }
+{
     let mut i: usize = 0;
-    while i < before.len() {
-        let from = i * 8;
-        let to = from + m;
-        let figure = class_figure(&rules[from..to], lowers, uppers, before, order, falling);
-        figures[i] = gain[i] + figure;
+    while i < gain.len() {
+        sums[i] = gain[i] + round(sums[i], falling);
         i += 1;
     }
 }
 
 // The figures of a year: those of the year before are kept whole while they are formed.
+// The order stays from year to year, since payoffs that were in order mostly are so again.
 pub fn year(
-    rules: &[u8],
-    lowers: &[u32],
-    uppers: &[u32],
+    from: &[u8; 1024],
+    lows: &[u32; 1024],
+    rooms: &[u32; 1024],
+    counts: &[usize; 32],
+    spare: &[u64; 32],
     gain: &[u64],
     falling: bool,
+    order: &mut [u8],
     before: [u64; 32],
 ) -> [u64; 32]
-    requires { ⌜ Yearly (now rules) (now lowers) (now uppers) (now gain) before ⌝ }
-    ensures { λ r. ⌜ Formed (length (now (gain .entry))) (now (rules .entry)) (now (lowers .entry)) (now (uppers .entry)) (now (gain .entry)) before falling r ⌝ }
+    requires { ⌜ Yearly (now from) (now lows) (now rooms) (now counts) (now spare) (now gain) (now order) before ⌝ }
+    ensures figures { λ r. ⌜ Formed (chainListed (length (now (gain .entry))) (now (from .entry)) (now (lows .entry)) (now (rooms .entry)) (now (counts .entry))) (now (gain .entry)) before falling r ⌝ }
+    ensures order { λ _. ⌜ Placed (length (now (gain .entry))) (now (order .exit)) ⌝ }
 {
     let n = gain.len();
-    let mut order = [0u8; 32];
-    arrange(&before[..n], falling, &mut order[..n]);
-    let mut figures = before;
-    form(
-        rules,
-        lowers,
-        uppers,
-        gain,
+    sort(&before[..n], falling, order);
+    let mut left = *spare;
+    let mut sums = [0u64; 32];
+    walk(
+        from,
+        lows,
+        rooms,
+        counts,
         &before[..n],
-        &order[..n],
-        falling,
-        &mut figures[..n],
+        order,
+        &mut left[..n],
+        &mut sums[..n],
     );
-    figures
+    settle(gain, falling, &mut sums[..n]);
+    sums
 }

@@ -1,41 +1,82 @@
 // The figures of t years, by recursion on the year count (document 01, "Years").
 use crate::year::year;
 ghost use lib.ListN.{length};
+ghost use Rattle.bounds.specs.Order.{Placed};
+ghost use Rattle.bounds.specs.Entries.{chainListed};
 ghost use Rattle.bounds.specs.Years.{Formed, Ran, Runnable, Yearly};
 
 // One year more, in place.
-fn advance(
-    rules: &[u8],
-    lowers: &[u32],
-    uppers: &[u32],
+pub fn advance(
+    from: &[u8; 1024],
+    lows: &[u32; 1024],
+    rooms: &[u32; 1024],
+    counts: &[usize; 32],
+    spare: &[u64; 32],
     gain: &[u64],
     falling: bool,
+    order: &mut [u8],
     figures: &mut [u64; 32],
 )
-    requires { ⌜ Yearly (now rules) (now lowers) (now uppers) (now gain) (now figures) ⌝ }
-    ensures { λ _. ⌜ Formed (length (now (gain .entry))) (now (rules .entry)) (now (lowers .entry)) (now (uppers .entry)) (now (gain .entry)) (now (figures .entry)) falling (now (figures .exit)) ⌝ }
+    requires { ⌜ Yearly (now from) (now lows) (now rooms) (now counts) (now spare) (now gain) (now order) (now figures) ⌝ }
+    ensures figures { λ _. ⌜ Formed (chainListed (length (now (gain .entry))) (now (from .entry)) (now (lows .entry)) (now (rooms .entry)) (now (counts .entry))) (now (gain .entry)) (now (figures .entry)) falling (now (figures .exit)) ⌝ }
+    ensures order { λ _. ⌜ Placed (length (now (gain .entry))) (now (order .exit)) ⌝ }
 {
     let before = *figures;
-    *figures = year(rules, lowers, uppers, gain, falling, before);
+    *figures = year(
+        from,
+        lows,
+        rooms,
+        counts,
+        spare,
+        gain,
+        falling,
+        order,
+        before,
+    );
 }
 
 // The figures of t years rest on those of t - 1, down to the payoff.
 pub fn years(
-    rules: &[u8],
-    lowers: &[u32],
-    uppers: &[u32],
+    from: &[u8; 1024],
+    lows: &[u32; 1024],
+    rooms: &[u32; 1024],
+    counts: &[usize; 32],
+    spare: &[u64; 32],
     gain: &[u64],
     falling: bool,
+    order: &mut [u8],
     payoff: &[u64; 32],
     t: u64,
 ) -> [u64; 32]
-    requires { ⌜ Runnable (now rules) (now lowers) (now uppers) (now gain) (now payoff) t ⌝ }
-    ensures { λ r. ⌜ Ran (length (now (gain .entry))) (now (rules .entry)) (now (lowers .entry)) (now (uppers .entry)) (now (gain .entry)) (now (payoff .entry)) falling t r ⌝ }
+    requires { ⌜ Runnable (now from) (now lows) (now rooms) (now counts) (now spare) (now gain) (now order) (now payoff) t ⌝ }
+    ensures figures { λ r. ⌜ Ran (chainListed (length (now (gain .entry))) (now (from .entry)) (now (lows .entry)) (now (rooms .entry)) (now (counts .entry))) (now (gain .entry)) (now (payoff .entry)) falling t r ⌝ }
+    ensures order { λ _. ⌜ Placed (length (now (gain .entry))) (now (order .exit)) ⌝ }
 {
     if t == 0 {
         return *payoff;
     }
-    let mut figures = years(rules, lowers, uppers, gain, falling, payoff, t - 1);
-    advance(rules, lowers, uppers, gain, falling, &mut figures);
+    let mut figures = years(
+        from,
+        lows,
+        rooms,
+        counts,
+        spare,
+        gain,
+        falling,
+        order,
+        payoff,
+        t - 1,
+    );
+    advance(
+        from,
+        lows,
+        rooms,
+        counts,
+        spare,
+        gain,
+        falling,
+        order,
+        &mut figures,
+    );
     figures
 }

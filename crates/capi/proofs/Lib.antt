@@ -3,3 +3,7 @@ pub mod Putting
 pub mod Texting
 pub mod SheetTexts
 pub mod RecordTexts
+pub mod Copying
+pub mod Pairs
+pub mod Parts
+pub mod Stepping

@@ -12,7 +12,7 @@ use Rattle.capi.specs.Buffers.{bufferCause, filledWhere}
 use Rattle.capi.proofs.Putting.{buffer-out, buffer-fits, thirteen}
 
 -- one number written into a buffer of 1
-one : (size : List ℕ) (v : ℕ) → length size ≡ 1 → set size 0 v ≡ v ∷ []
+pub one : (size : List ℕ) (v : ℕ) → length size ≡ 1 → set size 0 v ≡ v ∷ []
 one [] v e = absurd (omega arith)
 one (x ∷ []) v e = refl
 one (x ∷ y ∷ l) v e = absurd (omega arith)

@@ -16,6 +16,10 @@ use Rattle.bounds.specs.Promises.{Kept, startShare, startMean, startTotal}
 abbrev pub bufferCause : ℕ → List ℕ → ℕ
 bufferCause size out = cond (not (eqb (length out) size)) 13 0
 
+-- cause 13 of two buffers of the same size
+abbrev pub buffersCause : ℕ → (one other : List ℕ) → ℕ
+buffersCause size one other = orElse (bufferCause size one) (bufferCause size other)
+
 -- a buffer after a call that answers `number`: filled where it is 0, and left as it was otherwise
 abbrev pub filledWhere : (number : ℕ) (full before : List ℕ) → List ℕ
 filledWhere number full before = cond (eqb number 0) full before

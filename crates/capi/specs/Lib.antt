@@ -3,3 +3,5 @@ pub mod Buffers
 pub mod Shares
 pub mod Texts
 pub mod Records
+pub mod Rows
+pub mod Steps

@@ -1,8 +1,11 @@
 // The operations over records and plain buffers, for C and for Rust: each answers 0 or the cause's number, and fills the lent buffers only where it answers 0.
 use bounds::Bounds;
 ghost use mathlib.Core.Path.{_≡_};
+ghost use mathlib.Core.Bool.{false, true};
+ghost use lib.ListN.{getD};
 ghost use Rattle.scheme.specs.Cause.{orElse};
 ghost use Rattle.record.specs.Read.{readCause};
+ghost use Rattle.record.specs.RuleRow.{ruleRow};
 ghost use Rattle.record.specs.Write.{writeLeaves};
 ghost use Rattle.ready.specs.Answer.{readyAnswer};
 ghost use Rattle.record.specs.Layout.{schemeIn, version1};
@@ -13,9 +16,14 @@ ghost use Rattle.capi.specs.Buffers.{boundsLeaves, boundsNumber, BufferK
 ghost use Rattle.capi.specs.Shares.{sharesNumber};
 ghost use Rattle.capi.specs.Texts.{sheetLength, sheetNumber};
 ghost use Rattle.capi.specs.Records.{recordLength, recordNumber};
+ghost use Rattle.capi.specs.Rows.{bandsNumber, lowerBands, rowIn, rowNumber, ruleRowNumber, upperBands};
+ghost use Rattle.capi.specs.Steps.{figureOf, RowKept, stepNumber};
 
 mod buffers;
+mod copies;
 mod records;
+mod rows;
+mod steps;
 mod texts;
 
 // The cause for which a record is not read, or 0.
@@ -140,4 +148,79 @@ pub extern "C" fn joguyvi_ready(number: u64, base: u64, out: &mut [u8], length: 
         return refused;
     }
     records::put_record(answer.scheme, out, length)
+}
+
+// The interval row of a class, in parts, into two buffers of 32 numbers, with 0 beyond the classes.
+#[no_mangle]
+pub extern "C" fn joguyvi_row(bytes: &[u8], class: u64, lower: &mut [u64], upper: &mut [u64]) -> u8
+    ensures answer { λ r. ⌜ r ≡ rowNumber (now (bytes .entry)) class (now (lower .entry)) (now (upper .entry)) ⌝ }
+    ensures lowers { λ r. ⌜ now (lower .exit) ≡ filledWhere r (rowIn (now (bytes .entry)) class .lower) (now (lower .entry)) ⌝ }
+    ensures uppers { λ r. ⌜ now (upper .exit) ≡ filledWhere r (rowIn (now (bytes .entry)) class .upper) (now (upper .entry)) ⌝ }
+{
+    let answer = record::read(bytes);
+    let number = answer.number;
+    if number != 0 {
+        return number;
+    }
+    rows::put_row(scheme::row(answer.scheme, class), lower, upper)
+}
+
+// The low step of a class: its figure into a buffer of 1 number, and a row that reaches it into one of 32; the payoff is of 32 numbers.
+#[no_mangle]
+pub extern "C" fn joguyvi_low_step(
+    bytes: &[u8],
+    payoff: &[u64],
+    class: u64,
+    figure: &mut [u64],
+    row: &mut [u64],
+) -> u8
+    ensures answer { λ r. ⌜ r ≡ stepNumber (now (bytes .entry)) (now (payoff .entry)) class (now (figure .entry)) (now (row .entry)) ⌝ }
+    ensures figures { λ r. ⌜ now (figure .exit) ≡ filledWhere r (figureOf false (schemeIn version1 (now (bytes .entry))) (now (payoff .entry)) class) (now (figure .entry)) ⌝ }
+    ensures rows { λ r. ⌜ RowKept false (schemeIn version1 (now (bytes .entry))) (now (payoff .entry)) class r (getD (now (figure .exit)) 0 0) (now (row .entry)) (now (row .exit)) ⌝ }
+{
+    steps::step(bytes, payoff, class, false, figure, row)
+}
+
+// The high step of a class: its figure into a buffer of 1 number, and a row that reaches it into one of 32; the payoff is of 32 numbers.
+#[no_mangle]
+pub extern "C" fn joguyvi_high_step(
+    bytes: &[u8],
+    payoff: &[u64],
+    class: u64,
+    figure: &mut [u64],
+    row: &mut [u64],
+) -> u8
+    ensures answer { λ r. ⌜ r ≡ stepNumber (now (bytes .entry)) (now (payoff .entry)) class (now (figure .entry)) (now (row .entry)) ⌝ }
+    ensures figures { λ r. ⌜ now (figure .exit) ≡ filledWhere r (figureOf true (schemeIn version1 (now (bytes .entry))) (now (payoff .entry)) class) (now (figure .entry)) ⌝ }
+    ensures rows { λ r. ⌜ RowKept true (schemeIn version1 (now (bytes .entry))) (now (payoff .entry)) class r (getD (now (figure .exit)) 0 0) (now (row .entry)) (now (row .exit)) ⌝ }
+{
+    steps::step(bytes, payoff, class, true, figure, row)
+}
+
+// The rule row of a class, as the record shows it, into a buffer of as many bytes as there are columns.
+#[no_mangle]
+pub extern "C" fn joguyvi_rule_row(bytes: &[u8], class: u64, out: &mut [u8]) -> u8
+    ensures answer { λ r. ⌜ r ≡ ruleRowNumber (now (bytes .entry)) class (now (out .entry)) ⌝ }
+    ensures leaves { λ r. ⌜ now (out .exit) ≡ filledWhere r (ruleRow (now (bytes .entry)) class) (now (out .entry)) ⌝ }
+{
+    let number = joguyvi_check(bytes);
+    if number != 0 {
+        return number;
+    }
+    rows::put_part(record::rule_row(bytes, class), out)
+}
+
+// The bands of all columns, in parts, into two buffers of as many numbers as there are columns.
+#[no_mangle]
+pub extern "C" fn joguyvi_bands(bytes: &[u8], lower: &mut [u32], upper: &mut [u32]) -> u8
+    ensures answer { λ r. ⌜ r ≡ bandsNumber (now (bytes .entry)) (now (lower .entry)) (now (upper .entry)) ⌝ }
+    ensures lowers { λ r. ⌜ now (lower .exit) ≡ filledWhere r (lowerBands (schemeIn version1 (now (bytes .entry)))) (now (lower .entry)) ⌝ }
+    ensures uppers { λ r. ⌜ now (upper .exit) ≡ filledWhere r (upperBands (schemeIn version1 (now (bytes .entry)))) (now (upper .entry)) ⌝ }
+{
+    let answer = record::read(bytes);
+    let number = answer.number;
+    if number != 0 {
+        return number;
+    }
+    rows::put_bands(answer.scheme, lower, upper)
 }

@@ -149,14 +149,26 @@ pub fn extreme_picks(
     high: bool,
 ) -> Vec<Matrix> {
     let step = if high { high_step } else { low_step };
-    let s = usize::from(scheme.classes);
+    let one = |figures: &Figures, class| step(scheme, figures, class).expect("a step");
+    picks_by(one, scheme.classes, payoff, added, years)
+}
+
+/// The same for s classes, from any one-year step of figures and a class.
+pub fn picks_by(
+    step: impl Fn(&Figures, u64) -> (u64, Figures),
+    s: u8,
+    payoff: &Figures,
+    added: Option<&Figures>,
+    years: u64,
+) -> Vec<Matrix> {
+    let s = usize::from(s);
     let mut figures = *payoff;
     let mut picks = Vec::new();
     for _ in 0..years {
         let mut next = [0; 32];
         let mut matrix = Vec::new();
         for i in 0..s {
-            let (figure, row) = step(scheme, &figures, i as u64 + 1).expect("a step");
+            let (figure, row) = step(&figures, i as u64 + 1);
             next[i] = figure + added.map_or(0, |added| added[i]);
             matrix.push(Row {
                 parts: row[..s].to_vec(),

@@ -1,81 +1,25 @@
--- `write_shares` writes both slices class by class.
+-- `write_shares` lists the scheme's entries and writes both slices.
 -- Assumes nothing.
-use Prim.Native.Nat.{_-_}
-use native.Mathlib.Omega.{arith}
-use Rattle.bounds.proofs.Answering.{share-ready}
-use Rattle.bounds.proofs.Sheeting.{Sheeting, sheeting-none, sheeting-more, sheeting-all}
+use Rattle.bounds.proofs.Storing.{empty-listed}
+use borrow.Author.Needs.{needs}
 use Rattle.bounds.proofs.sheet.write_shares.Statement.{statement}
 use Rattle.bounds.proofs.sheet.write_shares.Tie as tie
 
-abbrev Inv-loop : tie.InvT-loop
-Inv-loop scheme year low₀ high₀ gain j₀ low high j = Sheeting scheme year low high j
+list-scheme-requires : tie.Need-list-scheme-requires
+list-scheme-requires c κs = (c .before .before .before .before .before .before .before .pre .accepted, empty-listed)
 
-abbrev μ-loop : tie.MeasureT-loop
-μ-loop scheme year low₀ high₀ gain j₀ low high j = scheme .classes - j
+write-each-requires : tie.Need-write-each-requires
+write-each-requires c κs = search needs
 
-loop-holds : tie.Need-loop-holds Inv-loop μ-loop
-loop-holds c = sheeting-none (c .before .before .pre)
+same-length : tie.Need-same-length
+same-length c = search needs
 
-add-share-payoff : tie.Need-add-share-payoff Inv-loop μ-loop
-add-share-payoff c = omega arith
+same-length-2 : tie.Need-same-length-2
+same-length-2 c = search needs
 
-share-payoff-requires : tie.Need-share-payoff-requires Inv-loop μ-loop
-share-payoff-requires c κs = (omega arith, omega arith)
-
-start-figure-requires : tie.Need-start-figure-requires Inv-loop μ-loop
-start-figure-requires c κs = share-ready (c .before .before .before .before .before .args .scheme) (c .before .before .before .before .before .pre .accepted) (c .share-payoff .ensures) (c .before .before .before .before .before .args .year)
-
-mul-low : tie.Need-mul-low Inv-loop μ-loop
-mul-low c = omega arith
-
-slice-write-low : tie.Need-slice-write-low Inv-loop μ-loop
-slice-write-low c = omega arith
-
-start-figure-requires-2 : tie.Need-start-figure-requires-2 Inv-loop μ-loop
-start-figure-requires-2 c κs = share-ready (c .before .before .before .before .before .before .args .scheme) (c .before .before .before .before .before .before .pre .accepted) (c .before .share-payoff .ensures) (c .before .before .before .before .before .before .args .year)
-
-mul-high : tie.Need-mul-high Inv-loop μ-loop
-mul-high c = omega arith
-
-slice-write-high : tie.Need-slice-write-high Inv-loop μ-loop
-slice-write-high c = omega arith
-
-add-j : tie.Need-add-j Inv-loop μ-loop
-add-j c = omega arith
-
-loop-less : tie.Need-loop-less Inv-loop μ-loop
-loop-less c = omega arith
-
-loop-again : tie.Need-loop-again Inv-loop μ-loop
-loop-again c = sheeting-more (c .before .before .before .before .before .before .before .args .scheme) (c .before .before .before .before .before .before .before .args .year) (c .before .before .before .before .loop .low) (c .before .before .before .before .loop .high) (c .before .before .before .before .loop .j) (c .before .before .before .before .before .before .before .pre .accepted) (omega arith) (c .before .before .share-payoff .ensures) (c .before .start-figure .ensures) (c .start-figure2 .ensures) (c .before .before .before .before .loop .inv)
-
-same-length : tie.Need-same-length Inv-loop μ-loop
-same-length c = omega arith
-
-same-length-2 : tie.Need-same-length-2 Inv-loop μ-loop
-same-length-2 c = omega arith
-
-returns : tie.Need-returns Inv-loop μ-loop
-returns c = sheeting-all (omega arith) (c .before .loop .inv)
+returns : tie.Need-returns
+returns c = search needs
 
 pub write-shares-spec : {M : Type 1} → statement M
 write-shares-spec =
-    tie.close
-    (tie.spec
-    Inv-loop
-    μ-loop
-    loop-holds
-    add-share-payoff
-    share-payoff-requires
-    start-figure-requires
-    mul-low
-    slice-write-low
-    start-figure-requires-2
-    mul-high
-    slice-write-high
-    add-j
-    loop-less
-    loop-again
-    same-length
-    same-length-2
-    returns)
+    tie.close (tie.spec list-scheme-requires write-each-requires same-length same-length-2 returns)

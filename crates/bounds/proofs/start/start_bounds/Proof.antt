@@ -1,10 +1,12 @@
--- `start_bounds` answers the low and the high figure.
+-- `start_bounds` lists the scheme's entries and takes the low and the high figure.
 -- Assumes nothing.
-use mathlib.Core.Path.{ap₂}
+use Rattle.bounds.proofs.Storing.{empty-listed}
 use borrow.Author.Needs.{needs}
-use Rattle.bounds.specs.declared.Bounds.the-variants.{Answered}
 use Rattle.bounds.proofs.start.start_bounds.Statement.{statement}
 use Rattle.bounds.proofs.start.start_bounds.Tie as tie
+
+list-scheme-requires : tie.Need-list-scheme-requires
+list-scheme-requires c κs = (c .before .before .before .before .before .pre .accepted, empty-listed)
 
 start-figure-requires : tie.Need-start-figure-requires
 start-figure-requires c κs = search needs
@@ -13,7 +15,8 @@ start-figure-requires-2 : tie.Need-start-figure-requires-2
 start-figure-requires-2 c κs = search needs
 
 returns : tie.Need-returns
-returns c = ap₂ Answered (c .before .start-figure .ensures) (c .start-figure2 .ensures)
+returns c = search needs
 
 pub start-bounds-spec : {M : Type 1} → statement M
-start-bounds-spec = tie.close (tie.spec start-figure-requires start-figure-requires-2 returns)
+start-bounds-spec =
+    tie.close (tie.spec list-scheme-requires start-figure-requires start-figure-requires-2 returns)

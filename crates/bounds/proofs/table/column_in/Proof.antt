@@ -1,32 +1,36 @@
--- `column_in` tracks the years on the parts in use, at the start class's state.
+-- `column_in` numbers the classes and carries a figure vector through the years on the parts in use.
 -- Assumes nothing.
 use mathlib.Core.Path.{sym}
+use native.Mathlib.Omega.{arith}
+use lib.ListN.{drop}
 use lib.Seq.{length-take-le}
+use Rattle.bounds.proofs.Forming.{zeros}
+use Rattle.bounds.proofs.Starting.{order-fits, order-size}
 use Rattle.bounds.proofs.Tabling.{column-tracks, column-tracked}
 use borrow.Author.Needs.{needs}
 use Rattle.bounds.proofs.table.column_in.Statement.{statement}
 use Rattle.bounds.proofs.table.column_in.Tie as tie
 
-slice-aggregate-track : tie.Need-slice-aggregate-track
-slice-aggregate-track c = search needs
+array-borrow-prefix-order : tie.Need-array-borrow-prefix-order
+array-borrow-prefix-order c = search needs
 
-array-share-prefix-lowers : tie.Need-array-share-prefix-lowers
-array-share-prefix-lowers c = search needs
+slice-aggregate-number : tie.Need-slice-aggregate-number
+slice-aggregate-number c = sym (length-take-le (c .before .before .args .classes) zeros (c .before .before .pre .starts .held .few))
 
-slice-aggregate-track-2 : tie.Need-slice-aggregate-track-2
-slice-aggregate-track-2 c = sym (length-take-le (c .before .before .before .args .columns) (c .before .before .before .args .t2) (search needs))
-
-array-share-prefix-uppers : tie.Need-array-share-prefix-uppers
-array-share-prefix-uppers c = search needs
-
-slice-aggregate-track-3 : tie.Need-slice-aggregate-track-3
-slice-aggregate-track-3 c = sym (length-take-le (c .before .before .before .before .args .columns) (c .before .before .before .before .args .t3) (search needs))
+number-requires : tie.Need-number-requires
+number-requires c κs = omega (arith, length-take-le (c .before .before .args .classes) zeros (c .before .before .pre .starts .held .few), c .before .before .pre .starts .held .few)
 
 array-share-prefix-gain : tie.Need-array-share-prefix-gain
 array-share-prefix-gain c = search needs
 
-slice-aggregate-track-4 : tie.Need-slice-aggregate-track-4
-slice-aggregate-track-4 c = sym (length-take-le (c .before .before .before .before .before .args .classes) (c .before .before .before .before .before .args .t8) (search needs))
+slice-aggregate-track : tie.Need-slice-aggregate-track
+slice-aggregate-track c = sym (length-take-le (c .before .before .before .before .before .args .classes) (c .before .before .before .before .before .args .t9) (search needs))
+
+array-borrow-prefix-order-2 : tie.Need-array-borrow-prefix-order-2
+array-borrow-prefix-order-2 c = order-fits (c .before .before .before .before .before .pre .starts) (search needs) (c .before .before .number .last .0) (drop (c .before .before .before .before .before .args .classes) zeros) (c .before .before .number .ensures)
+
+slice-aggregate-track-2 : tie.Need-slice-aggregate-track-2
+slice-aggregate-track-2 c = order-size (c .before .before .before .before .before .before .pre .starts) (search needs) (c .before .before .before .number .last .0) (drop (c .before .before .before .before .before .before .args .classes) zeros) (c .before .before .before .number .ensures)
 
 state-requires : tie.Need-state-requires
 state-requires c κs = search needs
@@ -35,25 +39,25 @@ add-track : tie.Need-add-track
 add-track c = search needs
 
 track-requires : tie.Need-track-requires
-track-requires c κs = column-tracks (c .before .before .before .before .before .before .before .pre) (search needs) (search needs) (search needs) (c .before .state .result) (c .before .state .ensures)
+track-requires c κs = column-tracks (c .before .before .before .before .before .before .before .before .pre) (search needs) (c .before .state .result) (c .before .state .ensures) (c .before .before .before .before .before .number .last .0) (drop (c .before .before .before .before .before .before .before .before .args .classes) zeros) (c .before .before .before .before .before .number .ensures)
 
 same-length : tie.Need-same-length
 same-length c = search needs
 
 returns : tie.Need-returns
-returns c = column-tracked (c .before .before .before .before .before .before .before .before .before .before .pre) (search needs) (search needs) (search needs) (c .before .before .before .before .state .result) (c .before .before .before .before .state .ensures) (c .before .before .before .before .before .before .before .before .before .before .args .falling) (c .before .before .track .ensures)
+returns c = column-tracked (c .before .before .before .before .before .before .before .before .before .before .before .before .pre) (search needs) (c .before .before .before .before .before .state .result) (c .before .before .before .before .before .state .ensures) (c .before .before .before .before .before .before .before .before .before .before .before .before .args .falling) (c .before .before .before .track .ensures)
 
 pub column-in-spec : {M : Type 1} → statement M
 column-in-spec =
     tie.close
     (tie.spec
-    slice-aggregate-track
-    array-share-prefix-lowers
-    slice-aggregate-track-2
-    array-share-prefix-uppers
-    slice-aggregate-track-3
+    array-borrow-prefix-order
+    slice-aggregate-number
+    number-requires
     array-share-prefix-gain
-    slice-aggregate-track-4
+    slice-aggregate-track
+    array-borrow-prefix-order-2
+    slice-aggregate-track-2
     state-requires
     add-track
     track-requires

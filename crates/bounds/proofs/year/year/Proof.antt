@@ -1,9 +1,10 @@
--- `year` arranges the classes by the figures before and forms the new ones in a copy.
+-- `year` sorts the order by the figures before, walks along it, and makes the sums figures.
 -- Assumes nothing.
-use mathlib.Core.Path.{_≡_, sym, _∙_}
+use mathlib.Core.Path.{sym}
 use lib.ListN.{length, drop}
 use lib.Seq.{length-take-le}
-use Rattle.bounds.proofs.Forming.{zeros, year-orders, order-fits, order-size, year-forms, year-formed}
+use Rattle.bounds.proofs.Forming.{zeros}
+use Rattle.bounds.proofs.Passing.{year-sorts, spare-count, year-placed, year-walks, sums-fit, sums-size, year-settles, year-formed}
 use borrow.Author.Needs.{needs}
 use Rattle.bounds.proofs.year.year.Statement.{statement}
 use Rattle.bounds.proofs.year.year.Tie as tie
@@ -11,58 +12,64 @@ use Rattle.bounds.proofs.year.year.Tie as tie
 array-share-prefix-before : tie.Need-array-share-prefix-before
 array-share-prefix-before c = search needs
 
-slice-aggregate-arrange : tie.Need-slice-aggregate-arrange
-slice-aggregate-arrange c = sym (length-take-le (length (c .before .before .before .before .before .args .gain .now)) (c .before .before .before .before .before .args .t6) (search needs))
+slice-aggregate-sort : tie.Need-slice-aggregate-sort
+slice-aggregate-sort c = sym (length-take-le (length (c .before .before .before .args .gain .now)) (c .before .before .before .args .t9) (search needs))
 
-array-borrow-prefix-order : tie.Need-array-borrow-prefix-order
-array-borrow-prefix-order c = search needs
-
-slice-aggregate-arrange-2 : tie.Need-slice-aggregate-arrange-2
-slice-aggregate-arrange-2 c = sym (length-take-le (length (c .before .before .before .before .before .before .args .gain .now)) zeros (search needs))
-
-arrange-requires : tie.Need-arrange-requires
-arrange-requires c κs = year-orders (c .before .before .before .before .before .before .pre) (search needs)
+sort-requires : tie.Need-sort-requires
+sort-requires c κs = year-sorts (c .before .before .before .before .pre) (search needs)
 
 array-share-prefix-before-2 : tie.Need-array-share-prefix-before-2
 array-share-prefix-before-2 c = search needs
 
-slice-aggregate-form : tie.Need-slice-aggregate-form
-slice-aggregate-form c = sym (length-take-le (length (c .before .before .before .before .before .before .before .before .before .args .gain .now)) (c .before .before .before .before .before .before .before .before .before .args .t6) (search needs))
+slice-aggregate-walk : tie.Need-slice-aggregate-walk
+slice-aggregate-walk c = search needs
 
-array-share-prefix-order : tie.Need-array-share-prefix-order
-array-share-prefix-order c = order-fits (c .before .before .before .before .before .before .before .before .before .pre) (search needs) (c .before .before .arrange .last .1 .1 .0) (drop (length (c .before .before .before .before .before .before .before .before .before .args .gain .now)) zeros) (c .before .before .arrange .ensures)
+array-borrow-prefix-left : tie.Need-array-borrow-prefix-left
+array-borrow-prefix-left c = c .before .before .before .before .before .before .before .before .before .before .pre .held .stored
 
-slice-aggregate-form-2 : tie.Need-slice-aggregate-form-2
-slice-aggregate-form-2 c = order-size (c .before .before .before .before .before .before .before .before .before .before .pre) (search needs) (c .before .before .before .arrange .last .1 .1 .0) (drop (length (c .before .before .before .before .before .before .before .before .before .before .args .gain .now)) zeros) (c .before .before .before .arrange .ensures)
+slice-aggregate-walk-2 : tie.Need-slice-aggregate-walk-2
+slice-aggregate-walk-2 c = sym (spare-count (c .before .before .before .before .before .before .before .before .before .before .before .pre) (search needs))
 
-array-borrow-prefix-figures : tie.Need-array-borrow-prefix-figures
-array-borrow-prefix-figures c = search needs
+array-borrow-prefix-sums : tie.Need-array-borrow-prefix-sums
+array-borrow-prefix-sums c = search needs
 
-slice-aggregate-form-3 : tie.Need-slice-aggregate-form-3
-slice-aggregate-form-3 c = sym (length-take-le (length (c .before .before .before .before .before .before .before .before .before .before .before .args .gain .now)) (c .before .before .before .before .before .before .before .before .before .before .before .args .t6) (search needs))
+slice-aggregate-walk-3 : tie.Need-slice-aggregate-walk-3
+slice-aggregate-walk-3 c = sym (length-take-le (length (c .before .before .before .before .before .before .before .before .before .before .before .before .args .gain .now)) zeros (search needs))
 
-form-requires : tie.Need-form-requires
-form-requires c κs = year-forms (c .before .before .before .before .before .before .before .before .before .before .before .pre) (search needs) (c .before .before .before .before .arrange .last .1 .1 .0) (c .before .before .before .before .arrange .ensures)
+walk-requires : tie.Need-walk-requires
+walk-requires c κs = year-walks (c .before .before .before .before .before .before .before .before .before .before .before .before .pre) (search needs) (c .before .before .before .before .before .before .before .sort .ensures)
+
+array-borrow-prefix-sums-2 : tie.Need-array-borrow-prefix-sums-2
+array-borrow-prefix-sums-2 c = sums-fit (c .before .before .before .before .before .before .before .before .before .before .before .before .before .before .before .pre) (search needs) (c .before .before .before .before .before .before .before .before .before .before .sort .ensures) (c .before .before .walk .ensures) (drop (length (c .before .before .before .before .before .before .before .before .before .before .before .before .before .before .before .args .gain .now)) zeros)
+
+slice-aggregate-settle : tie.Need-slice-aggregate-settle
+slice-aggregate-settle c = sums-size (c .before .before .before .before .before .before .before .before .before .before .before .before .before .before .before .before .pre) (search needs) (c .before .before .before .before .before .before .before .before .before .before .before .sort .ensures) (c .before .before .before .walk .ensures) (drop (length (c .before .before .before .before .before .before .before .before .before .before .before .before .before .before .before .before .args .gain .now)) zeros)
+
+settle-requires : tie.Need-settle-requires
+settle-requires c κs = year-settles (c .before .before .before .before .before .before .before .before .before .before .before .before .before .before .before .before .pre) (search needs) (c .before .before .before .before .before .before .before .before .before .before .before .sort .ensures) (c .before .before .before .walk .ensures) (drop (length (c .before .before .before .before .before .before .before .before .before .before .before .before .before .before .before .before .args .gain .now)) zeros)
+
+same-length : tie.Need-same-length
+same-length c = search needs
 
 returns : tie.Need-returns
-returns c =
-    let e : length (c .before .form .last .1 .1 .1 .1 .1 .1 .1 .0) ≡ length (c .before .before .before .before .before .before .before .before .before .before .before .before .before .args .gain .now) = c .before .form .kept .1 .1 .1 .1 .1 .1 .1 .0 ∙ length-take-le (length (c .before .before .before .before .before .before .before .before .before .before .before .before .before .args .gain .now)) (c .before .before .before .before .before .before .before .before .before .before .before .before .before .args .t6) (search needs) in
-    year-formed (c .before .before .before .before .before .before .before .before .before .before .before .before .before .pre) (search needs) (c .before .form .last .1 .1 .1 .1 .1 .1 .1 .0) (drop (length (c .before .before .before .before .before .before .before .before .before .before .before .before .before .args .gain .now)) (c .before .before .before .before .before .before .before .before .before .before .before .before .before .args .t6)) e (c .before .form .ensures)
+returns c = (year-formed (c .before .before .before .before .before .before .before .before .before .before .before .before .before .before .before .before .before .before .pre) (search needs) (c .before .before .before .before .before .before .before .before .before .before .before .before .before .sort .ensures) (c .before .before .before .before .before .walk .ensures) (drop (length (c .before .before .before .before .before .before .before .before .before .before .before .before .before .before .before .before .before .before .args .gain .now)) zeros) _ (c .before .settle .ensures), year-placed (c .before .before .before .before .before .before .before .before .before .before .before .before .before .before .before .before .before .before .pre) (search needs) (c .before .before .before .before .before .before .before .before .before .before .before .before .before .sort .ensures))
 
 pub year-spec : {M : Type 1} → statement M
 year-spec =
     tie.close
     (tie.spec
     array-share-prefix-before
-    slice-aggregate-arrange
-    array-borrow-prefix-order
-    slice-aggregate-arrange-2
-    arrange-requires
+    slice-aggregate-sort
+    sort-requires
     array-share-prefix-before-2
-    slice-aggregate-form
-    array-share-prefix-order
-    slice-aggregate-form-2
-    array-borrow-prefix-figures
-    slice-aggregate-form-3
-    form-requires
+    slice-aggregate-walk
+    array-borrow-prefix-left
+    slice-aggregate-walk-2
+    array-borrow-prefix-sums
+    slice-aggregate-walk-3
+    walk-requires
+    array-borrow-prefix-sums-2
+    slice-aggregate-settle
+    settle-requires
+    same-length
     returns)

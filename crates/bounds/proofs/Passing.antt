@@ -1,0 +1,239 @@
+-- The walk of a year over all entries, and the figures that are made of its sums.
+-- Assumes nothing.
+use Prim.Native.Nat.{ℕ, suc, min, _+_, _-_, _*_, _≤_, _<_}
+use mathlib.Core.Path.{_≡_, refl, ap, sym, _∙_, subst}
+use mathlib.Core.Bool.{Bool, true, false}
+use mathlib.Core.List.{List, _++_}
+use native.Mathlib.Decide.{ℕ-discrete}
+use native.Mathlib.Omega.{arith}
+use native.Mathlib.Numerals.{add-one}
+use lib.ListN.{length, set, length-set, take, drop, replicate, length-append, List·getD-append, getD-replicate}
+use lib.Seq.{getD-set-same, getD-set-other, length-take-le, getD-take, take-at}
+use mir.Syntax.{w64}
+use mir.Val.{Fits}
+use Rattle.setchain.specs.Sums.{sumTo}
+use Rattle.setchain.specs.Rows.{ONE, IntervalRow, SoundRow}
+use Rattle.setchain.specs.Step.{room}
+use Rattle.bounds.specs.Lists.{at}
+use Rattle.bounds.specs.Order.{Placed, Arranged}
+use Rattle.bounds.specs.Figure.{rounded, stepFigure, LARGEST}
+use Rattle.bounds.specs.Entries.{sumOf, listedRow, chainListed, Held}
+use Rattle.bounds.specs.Walk.{leftAt, sumAt, taken, Givable, Given, Walkable, Walked, Settleable, Settled}
+use Rattle.bounds.specs.Years.{yearFigure, Yearly, Formed}
+use Rattle.bounds.proofs.Agreeing.{step-same-payoff}
+use Rattle.bounds.proofs.Sorting.{arranged-placed}
+use Rattle.bounds.proofs.Walking.{sum-fits, walk-figure}
+use Rattle.bounds.proofs.Forming.{zeros}
+
+-- a rounded sum that fits is at most the largest payoff
+rounded-small : (falling : Bool) (x : ℕ) → x ≤ LARGEST * ONE → rounded falling x ≤ LARGEST
+rounded-small false x h = omega arith
+rounded-small true x h = omega arith
+
+-- the figures below i are made, and the sums from there on are as they were
+pub record Settling (gain : List ℕ) (falling : Bool) (sums figures : List ℕ) (i : ℕ) : Type 0 where
+  pub size : length figures ≡ length gain
+  pub inside : i ≤ length gain
+  pub done : (k : ℕ) → k < i → at figures k ≡ at gain k + rounded falling (at sums k)
+  pub rest : (k : ℕ) → i ≤ k → at figures k ≡ at sums k
+
+module _ {gain : List ℕ} {falling : Bool} {sums : List ℕ} (able : Settleable gain sums) where
+  pub settling-none : Settling gain falling sums sums 0
+  settling-none = record { size = able .size; inside = omega arith; done = λ k l. absurd (omega arith); rest = λ k l. refl }
+
+  module _ {figures : List ℕ} {i : ℕ} (w : Settling gain falling sums figures i) (more : i < length gain) where
+    pub settling-sum : at figures i ≤ LARGEST * ONE
+    settling-sum = omega (arith, w .rest i (omega arith), able .fits i more)
+
+    module _ {r : ℕ} (is : r ≡ rounded falling (at figures i)) where
+      figure-is : at gain i + r ≡ at gain i + rounded falling (at sums i)
+      figure-is = ap (λ x. at gain i + x) (is ∙ ap (rounded falling) (w .rest i (omega arith)))
+
+      pub settling-fits : Fits w64 (at gain i + r)
+      settling-fits = omega (arith, is, able .small i more, rounded-small falling (at figures i) settling-sum)
+
+      pub settling-more : Settling gain falling sums (set figures i (at gain i + r)) (i + 1)
+      settling-more =
+          record {
+            size = length-set figures i (at gain i + r) ∙ w .size;
+            inside = omega arith;
+            done = λ k l. by k l (ℕ-discrete k i);
+            rest = λ k l. getD-set-other figures i k (at gain i + r) 0 (λ e. omega arith) ∙ w .rest k (omega arith);
+          }
+        where
+          by : (k : ℕ) → k < i + 1 → Dec (k ≡ i) → at (set figures i (at gain i + r)) k ≡ at gain k + rounded falling (at sums k)
+          by k l (yes e) = rw e (getD-set-same figures i (at gain i + r) 0 (omega (arith, w .size)) ∙ figure-is)
+          by k l (no ne) = getD-set-other figures i k (at gain i + r) 0 ne ∙ w .done k (omega arith)
+
+  pub settling-all : {figures : List ℕ} {i : ℕ} → length gain ≤ i → Settling gain falling sums figures i → Settled gain falling sums figures
+  settling-all h w = record { size = w .size; each = λ k l. w .done k (omega arith) }
+
+-- the entries to the states at the places below k are given
+pub record Passing (from lows rooms counts payoff order left left′ sums : List ℕ) (k : ℕ) : Type 0 where
+  pub inside : k ≤ length payoff
+  pub lefts : length left′ ≡ length payoff
+  pub size : length sums ≡ length payoff
+  pub rest : (i : ℕ) → i < length payoff → at left′ i ≡ leftAt (listedRow from lows rooms counts i) order (at left i) k
+  pub sum : (i : ℕ) → i < length payoff → at sums i ≡ sumAt (listedRow from lows rooms counts i) (at payoff) order (at left i) k
+
+module _ {from lows rooms counts payoff order left sums₀ : List ℕ} (able : Walkable from lows rooms counts payoff order left sums₀) where
+  pub passing-none : Passing from lows rooms counts payoff order left left sums₀ 0
+  unfolding leftAt sumAt
+  passing-none = record { inside = omega arith; lefts = able .lefts; size = able .size; rest = λ i l. refl; sum = able .none }
+
+  fits : (i : ℕ) → i < length payoff → (k : ℕ) → k ≤ length payoff → sumAt (listedRow from lows rooms counts i) (at payoff) order (at left i) k ≤ LARGEST * ONE
+  fits i l k h = sum-fits (length payoff) (listedRow from lows rooms counts i) (at payoff) order (at left i) (able .placed) (able .held .whole i l) (able .small) k h
+
+  module _ {left′ sums : List ℕ} {k : ℕ} (w : Passing from lows rooms counts payoff order left left′ sums k) (more : k < length payoff)
+      {j : ℕ} (here : j ≡ at order k - 1) where
+    pub state-inside : j < length payoff
+    state-inside = omega (arith, able .placed .within k more)
+
+    pub list-short : at counts j ≤ 32
+    list-short = able .held .short j state-inside
+
+    count-is : j * 32 + at counts j - j * 32 ≡ at counts j
+    count-is = omega arith
+
+    -- what row i takes is what the walk's sum has
+    one-more : (i : ℕ) → i < length payoff
+        → sumAt (listedRow from lows rooms counts i) (at payoff) order (at left i) (suc k) ≡ at sums i + taken from lows rooms (j * 32) (j * 32 + at counts j) left′ i * at payoff j
+    unfolding sumAt
+    one-more i l =
+        rw (count-is, here)
+        (let r : IntervalRow = listedRow from lows rooms counts i in
+        let m : room r (at order k - 1) ≡ sumOf from rooms ((at order k - 1) * 32) (at counts (at order k - 1)) i = omega arith in
+        omega (
+          arith,
+          w .sum i l,
+          ap (λ x. (r .lower (at order k - 1) + min x (room r (at order k - 1))) * at payoff (at order k - 1)) (w .rest i l),
+          ap (λ x. (r .lower (at order k - 1) + min (at left′ i) x) * at payoff (at order k - 1)) m,
+        ))
+
+    left-more : (i : ℕ) → i < length payoff
+        → leftAt (listedRow from lows rooms counts i) order (at left i) (suc k) ≡ at left′ i - sumOf from rooms (j * 32) (j * 32 + at counts j - j * 32) i
+    unfolding leftAt
+    left-more i l = rw (count-is, here) (omega (arith, w .rest i l))
+
+    pub pass-gives : Givable from lows rooms (j * 32) (j * 32 + at counts j) (at payoff j) left′ sums
+    pass-gives =
+        record {
+          size = w .size ∙ sym (w .lefts);
+          within = λ e l. omega (arith, able .held .within e l, w .lefts);
+          rises = omega arith;
+          ends = omega (arith, state-inside, list-short, able .held .few);
+          fits = λ i l. omega (arith, one-more i (omega (arith, w .lefts)), fits i (omega (arith, w .lefts)) (suc k) more);
+        }
+
+    pub passing-more : {left″ sums″ : List ℕ} → Given from lows rooms (j * 32) (j * 32 + at counts j) (at payoff j) left′ sums left″ sums″
+        → Passing from lows rooms counts payoff order left left″ sums″ (k + 1)
+    passing-more {left″} {sums″} g =
+        record {
+          inside = omega arith;
+          lefts = g .lefts ∙ w .lefts;
+          size = g .size ∙ w .lefts;
+          rest = λ i l. rw add-one (g .rest i (omega (arith, w .lefts)) ∙ sym (left-more i l));
+          sum = λ i l. rw add-one (g .more i (omega (arith, w .lefts)) ∙ sym (one-more i l));
+        }
+
+  pub passing-all : {left′ sums : List ℕ} {k : ℕ} → length payoff ≤ k → Passing from lows rooms counts payoff order left left′ sums k
+      → Walked from lows rooms counts payoff order left sums
+  passing-all {k = k} h w =
+      let e : k ≡ length payoff = omega (arith, w .inside) in
+      let s = rw e at (w .sum) in
+      record {
+        size = w .size;
+        each = s;
+        fits = λ i l. omega (arith, s i l, fits i l (length payoff) (omega arith));
+      }
+
+-- a year of n states, where figures, spare parts and sums stand at the fronts of arrays
+module _ {from lows rooms counts spare gain order before : List ℕ} (w : Yearly from lows rooms counts spare gain order before)
+    (fits : length gain ≤ length before) where
+  front-count : length (take (length gain) before) ≡ length gain
+  front-count = length-take-le (length gain) before fits
+
+  pub year-sorts : Placed (length (take (length gain) before)) order
+  year-sorts = subst (λ n. Placed n order) (sym front-count) (w .placed)
+
+  pub spare-count : length (take (length gain) spare) ≡ length gain
+  spare-count = length-take-le (length gain) spare (w .held .stored)
+
+  zero-count : length (take (length gain) zeros) ≡ length gain
+  zero-count = length-take-le (length gain) zeros (w .held .few)
+
+  spare-at : (i : ℕ) → i < length gain → at (take (length gain) spare) i ≡ at spare i
+  spare-at i l = getD-take (length gain) spare i 0 l
+
+  module _ {falling : Bool} {order′ : List ℕ} (sorted : Arranged (take (length gain) before) falling order′) where
+    small : (j : ℕ) → j < length gain → at (take (length gain) before) j ≤ LARGEST
+    small j l = subst (λ x. x ≤ LARGEST) (sym (getD-take (length gain) before j 0 l)) (w .small j l)
+
+    pub year-placed : Placed (length gain) order′
+    year-placed = subst (λ n. Placed n order′) front-count (arranged-placed sorted)
+
+    pub year-walks : Walkable from lows rooms counts (take (length gain) before) order′ (take (length gain) spare) (take (length gain) zeros)
+    year-walks =
+        record {
+          held =
+              subst (λ n. Held n from lows rooms counts (take (length gain) spare)) (sym front-count)
+              (record {
+                few = w .held .few;
+                within = w .held .within;
+                short = w .held .short;
+                stored = omega (arith, spare-count);
+                sound = w .held .sound;
+                whole = λ i l. omega (arith, w .held .whole i l, spare-at i l);
+              });
+          placed = arranged-placed sorted;
+          small = λ j l. small j (omega (arith, front-count));
+          lefts = spare-count ∙ sym front-count;
+          size = zero-count ∙ sym front-count;
+          none = λ i l. getD-take (length gain) zeros i 0 (omega (arith, front-count)) ∙ getD-replicate 32 i 0 0 (omega (arith, front-count, w .held .few));
+        }
+
+    module _ {sums : List ℕ} (k : Walked from lows rooms counts (take (length gain) before) order′ (take (length gain) spare) sums) (rest : List ℕ) where
+      sums-count : length sums ≡ length gain
+      sums-count = k .size ∙ front-count
+
+      pub sums-fit : length gain ≤ length (sums ++ rest)
+      sums-fit = omega (arith, sums-count, length-append sums rest)
+
+      lent : take (length gain) (sums ++ rest) ≡ sums
+      lent = take-at sums rest (length gain) sums-count
+
+      pub sums-size : length gain ≡ length (take (length gain) (sums ++ rest))
+      sums-size = sym (length-take-le (length gain) (sums ++ rest) sums-fit)
+
+      pub year-settles : Settleable gain (take (length gain) (sums ++ rest))
+      year-settles =
+          rw lent
+          (record {
+            size = sums-count;
+            small = w .rises;
+            fits = λ i l. k .fits i (omega (arith, front-count));
+          })
+
+      pub year-formed : {figures : List ℕ} (rest′ : List ℕ) → Settled gain falling (take (length gain) (sums ++ rest)) figures
+          → Formed (chainListed (length gain) from lows rooms counts) gain before falling (figures ++ rest′)
+      year-formed {figures} rest′ s =
+          record {
+            each = λ i l.
+                List·getD-append figures rest′ 0 i (omega (arith, s .size))
+                ∙ s .each i l
+                ∙ ap (λ x. at gain i + rounded falling (at x i)) lent
+                ∙ ap (λ x. at gain i + rounded falling x) (k .each i (omega (arith, front-count)))
+                ∙ ap (λ x. at gain i + x) (figure i l);
+          }
+        where
+          figure : (i : ℕ) → i < length gain
+              → rounded falling (sumAt (listedRow from lows rooms counts i) (at (take (length gain) before)) order′ (at (take (length gain) spare) i) (length (take (length gain) before)))
+              ≡ stepFigure falling (length gain) (listedRow from lows rooms counts i) (at before)
+          figure i l =
+              walk-figure falling (listedRow from lows rooms counts i) (take (length gain) before) order′ (at (take (length gain) spare) i)
+              (subst (λ n. SoundRow n (listedRow from lows rooms counts i)) (sym front-count) (w .held .sound i l)) sorted
+              (λ j m. small j (omega (arith, front-count)))
+              (year-walks .held .whole i (omega (arith, front-count)))
+              ∙ ap (λ n. stepFigure falling n (listedRow from lows rooms counts i) (at (take (length gain) before))) front-count
+              ∙ step-same-payoff falling (length gain) (listedRow from lows rooms counts i) (w .held .sound i l) (at (take (length gain) before)) (at before)
+              (λ j m. getD-take (length gain) before j 0 m)

@@ -1,0 +1,104 @@
+-- `list_row` gathers the row's ends at the fronts of two arrays, and adds its entries.
+-- Assumes nothing.
+use mathlib.Core.Path.{sym}
+use native.Mathlib.Omega.{arith}
+use lib.ListN.{replicate, drop}
+use lib.Seq.{length-take-le}
+use Rattle.bounds.proofs.Forming.{front-fits, front-size}
+use Rattle.bounds.proofs.Gathering.{row-adds, row-fits, row-spares, row-listed}
+use borrow.Author.Needs.{needs}
+use Rattle.bounds.proofs.entries.list_row.Statement.{statement}
+use Rattle.bounds.proofs.entries.list_row.Tie as tie
+
+array-borrow-prefix-lower : tie.Need-array-borrow-prefix-lower
+array-borrow-prefix-lower c = search needs
+
+slice-aggregate-gather : tie.Need-slice-aggregate-gather
+slice-aggregate-gather c =
+    let s = c .before .before .before .before in
+    sym (length-take-le (s .args .n) (replicate 32 0) (omega arith))
+
+gather-requires : tie.Need-gather-requires
+gather-requires c κs = search needs
+
+array-borrow-prefix-upper : tie.Need-array-borrow-prefix-upper
+array-borrow-prefix-upper c = search needs
+
+slice-aggregate-gather-2 : tie.Need-slice-aggregate-gather-2
+slice-aggregate-gather-2 c =
+    let s = c .before .before .before .before .before .before .before in
+    sym (length-take-le (s .args .n) (replicate 32 0) (omega arith))
+
+gather-requires-2 : tie.Need-gather-requires-2
+gather-requires-2 c κs = search needs
+
+array-share-prefix-lower : tie.Need-array-share-prefix-lower
+array-share-prefix-lower c =
+    let s = c .before .before .before .before .before .before .before .before .before in
+    front-fits (s .args .n) (replicate 32 0) _ (drop (s .args .n) (replicate 32 0)) (omega arith) _ (c .before .before .before .before .gather .ensures)
+
+slice-aggregate-add-row : tie.Need-slice-aggregate-add-row
+slice-aggregate-add-row c =
+    let s = c .before .before .before .before .before .before .before .before .before .before in
+    front-size (s .args .n) (replicate 32 0) _ (drop (s .args .n) (replicate 32 0)) (omega arith) _ (c .before .before .before .before .before .gather .ensures)
+
+array-share-prefix-upper : tie.Need-array-share-prefix-upper
+array-share-prefix-upper c =
+    let s = c .before .before .before .before .before .before .before .before .before .before in
+    front-fits (s .args .n) (replicate 32 0) _ (drop (s .args .n) (replicate 32 0)) (omega arith) _ (c .before .before .gather2 .ensures)
+
+slice-aggregate-add-row-2 : tie.Need-slice-aggregate-add-row-2
+slice-aggregate-add-row-2 c =
+    let s = c .before .before .before .before .before .before .before .before .before .before .before in
+    front-size (s .args .n) (replicate 32 0) _ (drop (s .args .n) (replicate 32 0)) (omega arith) _ (c .before .before .before .gather2 .ensures)
+
+add-row-requires : tie.Need-add-row-requires
+add-row-requires c κs =
+    let s = c .before .before .before .before .before .before .before .before .before .before .before .before .before .before .before in
+    row-adds _ _ (s .pre) (c .before .before .before .before .before .before .before .before .before .before .gather .ensures) (c .before .before .before .before .before .before .before .gather2 .ensures)
+
+array-share-prefix-lower-2 : tie.Need-array-share-prefix-lower-2
+array-share-prefix-lower-2 c =
+    let s = c .before .before .before .before .before .before .before .before .before .before .before .before .before .before .before .before in
+    front-fits (s .args .n) (replicate 32 0) _ (drop (s .args .n) (replicate 32 0)) (omega arith) _ (c .before .before .before .before .before .before .before .before .before .before .before .gather .ensures)
+
+slice-aggregate-total : tie.Need-slice-aggregate-total
+slice-aggregate-total c =
+    let s = c .before .before .before .before .before .before .before .before .before .before .before .before .before .before .before .before .before in
+    front-size (s .args .n) (replicate 32 0) _ (drop (s .args .n) (replicate 32 0)) (omega arith) _ (c .before .before .before .before .before .before .before .before .before .before .before .before .gather .ensures)
+
+total-requires : tie.Need-total-requires
+total-requires c κs =
+    let s = c .before .before .before .before .before .before .before .before .before .before .before .before .before .before .before .before .before in
+    row-fits _ _ (s .pre) (c .before .before .before .before .before .before .before .before .before .before .before .before .gather .ensures) (c .before .before .before .before .before .before .before .before .before .gather2 .ensures)
+
+sub-result : tie.Need-sub-result
+sub-result c =
+    let s = c .before .before .before .before .before .before .before .before .before .before .before .before .before .before .before .before .before .before in
+    row-spares _ _ (s .pre) (c .before .before .before .before .before .before .before .before .before .before .before .before .before .gather .ensures) (c .before .before .before .before .before .before .before .before .before .before .gather2 .ensures) (c .total .ensures)
+
+returns : tie.Need-returns
+returns c =
+    let s = c .before .before .before .before .before .before .before .before .before .before .before .before .before .before .before .before .before .before in
+    row-listed _ _ (s .pre) (c .before .before .before .before .before .before .before .before .before .before .before .before .before .gather .ensures) (c .before .before .before .before .before .before .before .before .before .before .gather2 .ensures) (c .before .before .add-row .ensures) (c .total .ensures)
+
+pub list-row-spec : {M : Type 1} → statement M
+list-row-spec =
+    tie.close
+    (tie.spec
+    array-borrow-prefix-lower
+    slice-aggregate-gather
+    gather-requires
+    array-borrow-prefix-upper
+    slice-aggregate-gather-2
+    gather-requires-2
+    array-share-prefix-lower
+    slice-aggregate-add-row
+    array-share-prefix-upper
+    slice-aggregate-add-row-2
+    add-row-requires
+    array-share-prefix-lower-2
+    slice-aggregate-total
+    total-requires
+    sub-result
+    returns)

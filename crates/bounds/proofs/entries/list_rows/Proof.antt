@@ -1,0 +1,75 @@
+-- `list_rows` lists each row in turn: the invariant says so of the rows passed.
+-- Assumes nothing.
+use Prim.Native.Nat.{_-_}
+use native.Mathlib.Omega.{arith}
+use borrow.Author.Needs.{needs}
+use Rattle.bounds.proofs.Listing.{Listing, listing-none, listing-takes, listing-more, listing-all}
+use Rattle.bounds.proofs.entries.list_rows.Statement.{statement}
+use Rattle.bounds.proofs.entries.list_rows.Tie as tie
+
+abbrev Inv-loop : tie.InvT-loop
+Inv-loop rules lowers uppers n from₀ lows₀ rooms₀ counts₀ spare₀ m i₀ from lows rooms counts spare i =
+    Listing n rules lowers uppers from lows rooms counts spare i
+
+abbrev μ-loop : tie.MeasureT-loop
+μ-loop rules lowers uppers n from₀ lows₀ rooms₀ counts₀ spare₀ m i₀ from lows rooms counts spare i =
+    n - i
+
+loop-holds : tie.Need-loop-holds Inv-loop μ-loop
+loop-holds c = listing-none (c .before .before .before .pre)
+
+mul-first : tie.Need-mul-first Inv-loop μ-loop
+mul-first c = omega arith
+
+add-end : tie.Need-add-end Inv-loop μ-loop
+add-end c = omega arith
+
+sub-list-row : tie.Need-sub-list-row Inv-loop μ-loop
+sub-list-row c = omega arith
+
+part-list-row-start : tie.Need-part-list-row-start Inv-loop μ-loop
+part-list-row-start c = search needs
+
+part-list-row-end : tie.Need-part-list-row-end Inv-loop μ-loop
+part-list-row-end c = search needs
+
+list-row-requires : tie.Need-list-row-requires Inv-loop μ-loop
+list-row-requires c κs = listing-takes (c .before .before .before .before .before .before .before .before .before .before .pre) (c .before .before .before .before .before .before .loop .i) (c .before .before .before .before .before .before .loop .inv) (omega arith)
+
+mul-spare : tie.Need-mul-spare Inv-loop μ-loop
+mul-spare c = omega arith
+
+element-write-spare : tie.Need-element-write-spare Inv-loop μ-loop
+element-write-spare c = omega arith
+
+add-i : tie.Need-add-i Inv-loop μ-loop
+add-i c = omega arith
+
+loop-less : tie.Need-loop-less Inv-loop μ-loop
+loop-less c = omega arith
+
+loop-again : tie.Need-loop-again Inv-loop μ-loop
+loop-again c = listing-more (c .before .before .before .before .before .before .before .before .before .before .before .pre) (c .before .before .before .before .before .before .before .loop .i) (c .before .before .before .before .before .before .before .loop .inv) (omega arith) (c .list-row .ensures)
+
+returns : tie.Need-returns Inv-loop μ-loop
+returns c = listing-all (c .before .before .before .before .before .pre) (c .before .loop .i) (c .before .loop .inv) (omega arith)
+
+pub list-rows-spec : {M : Type 1} → statement M
+list-rows-spec =
+    tie.close
+    (tie.spec
+    Inv-loop
+    μ-loop
+    loop-holds
+    mul-first
+    add-end
+    sub-list-row
+    part-list-row-start
+    part-list-row-end
+    list-row-requires
+    mul-spare
+    element-write-spare
+    add-i
+    loop-less
+    loop-again
+    returns)

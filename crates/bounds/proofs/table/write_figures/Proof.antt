@@ -1,0 +1,56 @@
+-- `write_figures` writes the shares, then the mean's column, then the total at the last place.
+-- Assumes nothing.
+use mathlib.Core.Path.{sym, _∙_}
+use Rattle.bounds.proofs.Tabling.{total-starts, mean-column, last-fits, last-length, table-made}
+use borrow.Author.Needs.{needs}
+use Rattle.bounds.proofs.table.write_figures.Statement.{statement}
+use Rattle.bounds.proofs.table.write_figures.Tie as tie
+
+share-columns-requires : tie.Need-share-columns-requires
+share-columns-requires c κs = search needs
+
+widened-requires : tie.Need-widened-requires
+widened-requires c κs = search needs
+
+cast-mean : tie.Need-cast-mean
+cast-mean c = search needs
+
+column-requires : tie.Need-column-requires
+column-requires c κs = (mean-column (c .before .before .before .before .before .before .before .before .before .args .scheme) (c .before .before .before .before .before .before .before .before .before .pre .0 .accepted) (c .before .before .widened .ensures) (c .before .before .before .before .before .before .share-columns .ensures), c .before .before .before .before .before .before .before .before .before .pre .1)
+
+sub-last : tie.Need-sub-last
+sub-last c = search needs
+
+cast-years : tie.Need-cast-years
+cast-years c = search needs
+
+start-figure-requires : tie.Need-start-figure-requires
+start-figure-requires c κs = (total-starts (c .before .before .before .before .before .before .before .before .before .before .before .before .before .args .scheme) (c .before .before .before .before .before .before .before .before .before .before .before .before .before .pre .0 .accepted) (c .before .before .before .before .before .before .widened .ensures), c .before .before .before .before .before .before .before .before .before .before .before .before .before .pre .1)
+
+mul-out : tie.Need-mul-out
+mul-out c = last-fits (c .before .before .before .before .before .before .before .before .before .before .before .before .before .before .args .scheme) (c .before .before .before .before .before .before .before .before .before .before .before .before .before .before .pre .0 .accepted) (c .before .before .before .before .column .ensures .size ∙ c .before .before .before .before .before .before .before .before .before .before .before .share-columns .ensures .size)
+
+slice-write-out : tie.Need-slice-write-out
+slice-write-out c = search needs
+
+same-length : tie.Need-same-length
+same-length c = last-length (c .before .before .before .before .column .last .1 .1 .1 .1 .1 .1 .1 .1 .1 .1 .0) (c .start-figure .result) (c .before .before .before .before .column .ensures .size ∙ c .before .before .before .before .before .before .before .before .before .before .before .share-columns .ensures .size ∙ sym (c .before .before .before .before .before .before .before .before .before .before .before .before .before .before .pre .0 .size))
+
+returns : tie.Need-returns
+returns c = table-made (c .before .before .before .before .before .before .before .before .before .before .before .before .before .before .args .scheme) (c .before .before .before .before .before .before .before .before .before .before .before .before .before .before .pre .0 .accepted) (c .before .before .before .before .before .before .before .widened .ensures) (c .before .before .before .before .before .before .before .before .before .before .before .share-columns .ensures) (c .before .before .before .before .column .ensures) (c .start-figure .result) (c .start-figure .ensures)
+
+pub write-figures-spec : {M : Type 1} → statement M
+write-figures-spec =
+    tie.close
+    (tie.spec
+    share-columns-requires
+    widened-requires
+    cast-mean
+    column-requires
+    sub-last
+    cast-years
+    start-figure-requires
+    mul-out
+    slice-write-out
+    same-length
+    returns)

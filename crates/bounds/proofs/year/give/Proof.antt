@@ -1,0 +1,161 @@
+-- `give` passes the entries in turn: what each row has left and its sum tell of those passed.
+-- Assumes nothing.
+use Prim.Native.Nat.{min, _+_, _-_, _*_, _≤_, _<_}
+use mathlib.Core.Path.{_≡_, refl}
+use native.Mathlib.Omega.{arith}
+use lib.ListN.{length, length-set}
+use borrow.Author.Needs.{needs}
+use Rattle.setchain.specs.Rows.{ONE}
+use Rattle.bounds.specs.Lists.{at}
+use Rattle.bounds.specs.Figure.{LARGEST}
+use Rattle.bounds.proofs.Giving.{Giving, giving-none, row-inside, giving-fits, giving-left, giving-more, giving-all}
+use Rattle.bounds.proofs.year.give.Statement.{statement}
+use Rattle.bounds.proofs.year.give.Tie as tie
+
+abbrev Inv-loop : tie.InvT-loop
+Inv-loop from lows rooms first end pays left₀ sums₀ e₀ left sums e = Giving from lows rooms first end pays left₀ sums₀ left sums e
+
+abbrev μ-loop : tie.MeasureT-loop
+μ-loop from lows rooms first end pays left₀ sums₀ e₀ left sums e = end - e
+
+-- the entry's place, and its row's
+here : (c : tie.After-index Inv-loop μ-loop)
+    → let l = c .before .before .before .loop in
+    (l .e < 1024) × (c .index .result < length (l .left)) × (c .index .result < length (l .sums))
+here c =
+    let able = c .before .before .before .before .before .before .pre in
+    let w = c .before .before .before .loop .inv in
+    omega (arith, able .ends, able .size, w .given .lefts, w .given .size, row-inside able w (omega arith) (c .index .ensures) refl)
+
+-- what its row is given
+given : (c : tie.After-smaller Inv-loop μ-loop)
+    → let a = c .before .before .before .before .before .before .before .before .before .before .args in
+    let l = c .before .before .before .before .before .before .before .loop in
+    c .smaller .result ≡ min (at (a .rooms .now) (l .e)) (at (l .left) (c .before .before .before .before .index .result))
+given c = rw (c .before .before .wide .ensures .0) at (c .smaller .ensures)
+
+-- and that the row's sum fits
+fits : (c : tie.After-wide2 Inv-loop μ-loop)
+    → at (c .before .before .before .before .before .before .before .before .before .before .loop .sums) (c .before .before .before .before .before .before .before .index .result) + (c .wide2 .result + c .before .before .before .smaller .result) * c .before .before .before .before .before .before .before .before .before .before .before .before .before .args .pays ≤ LARGEST * ONE
+fits c =
+    rw (c .wide2 .ensures .0)
+    (giving-fits (c .before .before .before .before .before .before .before .before .before .before .before .before .before .pre) (c .before .before .before .before .before .before .before .before .before .before .loop .inv) (omega arith) (c .before .before .before .before .before .before .before .index .ensures) (given (c .before .before .before)))
+
+loop-holds : tie.Need-loop-holds Inv-loop μ-loop
+loop-holds c = giving-none (c .before .before .pre)
+
+element-copy-out-index : tie.Need-element-copy-out-index Inv-loop μ-loop
+element-copy-out-index c = omega (arith, c .before .before .before .before .pre .ends)
+
+index-requires : tie.Need-index-requires Inv-loop μ-loop
+index-requires c κs = tt
+
+mul-wide : tie.Need-mul-wide Inv-loop μ-loop
+mul-wide c = omega (arith, here c)
+
+element-copy-out-wide : tie.Need-element-copy-out-wide Inv-loop μ-loop
+element-copy-out-wide c = here c .0
+
+wide-requires : tie.Need-wide-requires Inv-loop μ-loop
+wide-requires c κs = tt
+
+mul-smaller : tie.Need-mul-smaller Inv-loop μ-loop
+mul-smaller c = omega (arith, here (c .before .before))
+
+slice-read-smaller : tie.Need-slice-read-smaller Inv-loop μ-loop
+slice-read-smaller c = here (c .before .before .before) .1
+
+smaller-requires : tie.Need-smaller-requires Inv-loop μ-loop
+smaller-requires c κs = tt
+
+mul-left : tie.Need-mul-left Inv-loop μ-loop
+mul-left c = omega (arith, here (c .before .before .before .before))
+
+slice-read-left : tie.Need-slice-read-left Inv-loop μ-loop
+slice-read-left c = here (c .before .before .before .before .before) .1
+
+sub-left : tie.Need-sub-left Inv-loop μ-loop
+sub-left c = omega (arith, given (c .before))
+
+slice-write-left : tie.Need-slice-write-left Inv-loop μ-loop
+slice-write-left c = here (c .before .before .before .before .before) .1
+
+mul-wide-2 : tie.Need-mul-wide-2 Inv-loop μ-loop
+mul-wide-2 c = omega (arith, here (c .before .before .before .before .before))
+
+element-copy-out-wide-2 : tie.Need-element-copy-out-wide-2 Inv-loop μ-loop
+element-copy-out-wide-2 c = here (c .before .before .before .before .before) .0
+
+wide-requires-2 : tie.Need-wide-requires-2 Inv-loop μ-loop
+wide-requires-2 c κs = tt
+
+add-sums : tie.Need-add-sums Inv-loop μ-loop
+add-sums c = omega (arith, given (c .before .before .before), c .wide2 .ensures, c .before .before .before .before .before .wide .ensures)
+
+mul-sums : tie.Need-mul-sums Inv-loop μ-loop
+mul-sums c = omega (arith, fits c)
+
+mul-sums-2 : tie.Need-mul-sums-2 Inv-loop μ-loop
+mul-sums-2 c = omega (arith, here (c .before .before .before .before .before .before .before))
+
+slice-read-sums : tie.Need-slice-read-sums Inv-loop μ-loop
+slice-read-sums c = here (c .before .before .before .before .before .before .before .before) .2
+
+add-sums-2 : tie.Need-add-sums-2 Inv-loop μ-loop
+add-sums-2 c = omega (arith, fits (c .before))
+
+slice-write-sums : tie.Need-slice-write-sums Inv-loop μ-loop
+slice-write-sums c = here (c .before .before .before .before .before .before .before .before) .2
+
+add-e : tie.Need-add-e Inv-loop μ-loop
+add-e c = omega (arith, here (c .before .before .before .before .before .before .before .before))
+
+loop-less : tie.Need-loop-less Inv-loop μ-loop
+loop-less c = omega arith
+
+loop-again : tie.Need-loop-again Inv-loop μ-loop
+loop-again c = rw (c .before .wide2 .ensures .0) (giving-more (c .before .before .before .before .before .before .before .before .before .before .before .before .before .before .pre) (c .before .before .before .before .before .before .before .before .before .before .before .loop .inv) (omega arith) (c .before .before .before .before .before .before .before .before .index .ensures) (given (c .before .before .before .before)))
+
+same-length : tie.Need-same-length Inv-loop μ-loop
+same-length c = omega (arith, c .before .loop .inv .given .lefts)
+
+same-length-2 : tie.Need-same-length-2 Inv-loop μ-loop
+same-length-2 c = omega (arith, c .before .loop .inv .given .size, c .before .before .before .before .pre .size)
+
+returns : tie.Need-returns Inv-loop μ-loop
+returns c = giving-all (c .before .before .before .before .pre) (omega arith) (c .before .loop .inv)
+
+pub give-spec : {M : Type 1} → statement M
+give-spec =
+    tie.close
+    (tie.spec
+    Inv-loop
+    μ-loop
+    loop-holds
+    element-copy-out-index
+    index-requires
+    mul-wide
+    element-copy-out-wide
+    wide-requires
+    mul-smaller
+    slice-read-smaller
+    smaller-requires
+    mul-left
+    slice-read-left
+    sub-left
+    slice-write-left
+    mul-wide-2
+    element-copy-out-wide-2
+    wide-requires-2
+    add-sums
+    mul-sums
+    mul-sums-2
+    slice-read-sums
+    add-sums-2
+    slice-write-sums
+    add-e
+    loop-less
+    loop-again
+    same-length
+    same-length-2
+    returns)

@@ -1,0 +1,77 @@
+-- `settle` makes figures from the front on.
+-- Assumes nothing.
+use Prim.Native.Nat.{_-_}
+use native.Mathlib.Omega.{arith}
+use lib.ListN.{length}
+use Rattle.bounds.proofs.Passing.{Settling, settling-none, settling-sum, settling-fits, settling-more, settling-all}
+use Rattle.bounds.proofs.year.settle.Statement.{statement}
+use Rattle.bounds.proofs.year.settle.Tie as tie
+
+abbrev Inv-loop : tie.InvT-loop
+Inv-loop gain falling sums₀ i₀ sums i = Settling gain falling sums₀ sums i
+
+abbrev μ-loop : tie.MeasureT-loop
+μ-loop gain falling sums₀ i₀ sums i = length gain - i
+
+loop-holds : tie.Need-loop-holds Inv-loop μ-loop
+loop-holds c = settling-none (c .before .before .pre)
+
+mul-sums : tie.Need-mul-sums Inv-loop μ-loop
+mul-sums c = omega arith
+
+shared-slice-read-sums : tie.Need-shared-slice-read-sums Inv-loop μ-loop
+shared-slice-read-sums c = omega arith
+
+mul-round : tie.Need-mul-round Inv-loop μ-loop
+mul-round c = omega arith
+
+slice-read-round : tie.Need-slice-read-round Inv-loop μ-loop
+slice-read-round c = omega arith
+
+round-requires : tie.Need-round-requires Inv-loop μ-loop
+round-requires c κs = settling-sum (c .before .before .before .before .before .before .pre) (c .before .before .before .loop .inv) (omega arith)
+
+add-sums : tie.Need-add-sums Inv-loop μ-loop
+add-sums c = settling-fits (c .before .before .before .before .before .before .before .pre) (c .before .before .before .before .loop .inv) (omega arith) (c .round .ensures)
+
+mul-sums-2 : tie.Need-mul-sums-2 Inv-loop μ-loop
+mul-sums-2 c = omega arith
+
+slice-write-sums : tie.Need-slice-write-sums Inv-loop μ-loop
+slice-write-sums c = omega arith
+
+add-i : tie.Need-add-i Inv-loop μ-loop
+add-i c = omega arith
+
+loop-less : tie.Need-loop-less Inv-loop μ-loop
+loop-less c = omega arith
+
+loop-again : tie.Need-loop-again Inv-loop μ-loop
+loop-again c = settling-more (c .before .before .before .before .before .before .before .pre) (c .before .before .before .before .loop .inv) (omega arith) (c .round .ensures)
+
+same-length : tie.Need-same-length Inv-loop μ-loop
+same-length c = omega (arith, c .before .loop .inv .size, c .before .before .before .before .pre .size)
+
+returns : tie.Need-returns Inv-loop μ-loop
+returns c = settling-all (c .before .before .before .before .pre) (omega arith) (c .before .loop .inv)
+
+pub settle-spec : {M : Type 1} → statement M
+settle-spec =
+    tie.close
+    (tie.spec
+    Inv-loop
+    μ-loop
+    loop-holds
+    mul-sums
+    shared-slice-read-sums
+    mul-round
+    slice-read-round
+    round-requires
+    add-sums
+    mul-sums-2
+    slice-write-sums
+    add-i
+    loop-less
+    loop-again
+    same-length
+    returns)

@@ -1,0 +1,96 @@
+-- `walk` gives the entries to the states along the order.
+-- Assumes nothing.
+use Prim.Native.Nat.{_-_, _≤_, _<_}
+use native.Mathlib.Omega.{arith}
+use lib.ListN.{length}
+use Rattle.bounds.specs.Lists.{at}
+use Rattle.bounds.proofs.Passing.{Passing, passing-none, state-inside, list-short, pass-gives, passing-more, passing-all}
+use Rattle.bounds.proofs.year.walk.Statement.{statement}
+use Rattle.bounds.proofs.year.walk.Tie as tie
+
+abbrev Inv-loop : tie.InvT-loop
+Inv-loop from lows rooms counts payoff order left₀ sums₀ k₀ left sums k = Passing from lows rooms counts payoff order left₀ left sums k
+
+abbrev μ-loop : tie.MeasureT-loop
+μ-loop from lows rooms counts payoff order left₀ sums₀ k₀ left sums k = length payoff - k
+
+-- the state at place k, and its list's length
+here : (c : tie.After-state Inv-loop μ-loop)
+    → let a = c .before .before .before .before .before .before .before .before .args in
+    (c .state .result < 32) × (c .state .result < length (a .payoff .now)) × (at (a .counts .now) (c .state .result) ≤ 32)
+here c =
+    let able = c .before .before .before .before .before .before .before .before .pre in
+    let w = c .before .before .before .loop .inv in
+    let more : c .before .before .before .loop .k < length (c .before .before .before .before .before .before .before .before .args .payoff .now) = omega (arith, able .placed .size) in
+    omega (arith, able .held .few, state-inside able w more (c .state .ensures), list-short able w more (c .state .ensures))
+
+loop-holds : tie.Need-loop-holds Inv-loop μ-loop
+loop-holds c = passing-none (c .before .before .before .before .pre)
+
+shared-slice-read-state : tie.Need-shared-slice-read-state Inv-loop μ-loop
+shared-slice-read-state c = omega arith
+
+state-requires : tie.Need-state-requires Inv-loop μ-loop
+state-requires c κs = c .before .before .before .before .before .before .before .pre .placed .within (c .before .before .loop .k) (omega (arith, c .before .before .before .before .before .before .before .pre .placed .size)) .0
+
+mul-first : tie.Need-mul-first Inv-loop μ-loop
+mul-first c = omega (arith, here c)
+
+mul-give : tie.Need-mul-give Inv-loop μ-loop
+mul-give c = omega (arith, here c)
+
+element-copy-out-give : tie.Need-element-copy-out-give Inv-loop μ-loop
+element-copy-out-give c = omega (arith, here c)
+
+add-give : tie.Need-add-give Inv-loop μ-loop
+add-give c = omega (arith, here (c .before))
+
+mul-give-2 : tie.Need-mul-give-2 Inv-loop μ-loop
+mul-give-2 c = omega (arith, here (c .before))
+
+shared-slice-read-give : tie.Need-shared-slice-read-give Inv-loop μ-loop
+shared-slice-read-give c = omega (arith, here (c .before .before))
+
+give-requires : tie.Need-give-requires Inv-loop μ-loop
+give-requires c κs = pass-gives (c .before .before .before .before .before .before .before .before .before .before .before .before .pre) (c .before .before .before .before .before .before .before .loop .inv) (omega (arith, c .before .before .before .before .before .before .before .before .before .before .before .before .pre .placed .size)) (c .before .before .before .before .state .ensures)
+
+add-k : tie.Need-add-k Inv-loop μ-loop
+add-k c = omega arith
+
+loop-less : tie.Need-loop-less Inv-loop μ-loop
+loop-less c = omega (arith, c .before .before .before .before .before .before .before .before .before .before .before .before .before .before .before .before .before .pre .placed .size)
+
+loop-again : tie.Need-loop-again Inv-loop μ-loop
+loop-again c = passing-more (c .before .before .before .before .before .before .before .before .before .before .before .before .before .before .before .before .before .pre) (c .before .before .before .before .before .before .before .before .before .before .before .before .loop .inv) (omega (arith, c .before .before .before .before .before .before .before .before .before .before .before .before .before .before .before .before .before .pre .placed .size)) (c .before .before .before .before .before .before .before .before .before .state .ensures) (c .before .before .before .before .give .ensures)
+
+same-length : tie.Need-same-length Inv-loop μ-loop
+same-length c = omega (arith, c .before .loop .inv .lefts, c .before .before .before .before .before .before .pre .lefts)
+
+same-length-2 : tie.Need-same-length-2 Inv-loop μ-loop
+same-length-2 c = omega (arith, c .before .loop .inv .size, c .before .before .before .before .before .before .pre .size)
+
+returns : tie.Need-returns Inv-loop μ-loop
+returns c = passing-all (c .before .before .before .before .before .before .pre) (omega (arith, c .before .before .before .before .before .before .pre .placed .size)) (c .before .loop .inv)
+
+pub walk-spec : {M : Type 1} → statement M
+walk-spec =
+    tie.close
+    (tie.spec
+    Inv-loop
+    μ-loop
+    loop-holds
+    shared-slice-read-state
+    state-requires
+    mul-first
+    mul-give
+    element-copy-out-give
+    add-give
+    mul-give-2
+    shared-slice-read-give
+    give-requires
+    add-k
+    loop-less
+    loop-again
+    same-length
+    same-length-2
+    returns)

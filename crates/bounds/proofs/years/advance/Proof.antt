@@ -1,0 +1,17 @@
+-- `advance` takes one year on the figures in place.
+-- Assumes nothing.
+use mathlib.Core.Path.{_∙_, sym}
+use Rattle.bounds.proofs.years.advance.Statement.{statement}
+use Rattle.bounds.proofs.years.advance.Tie as tie
+
+year-requires : tie.Need-year-requires
+year-requires c κs = c .before .before .before .before .pre
+
+same-length : tie.Need-same-length
+same-length c = c .before .before .year .ensures .1 .size ∙ sym (c .before .before .before .before .before .before .before .pre .placed .size)
+
+returns : tie.Need-returns
+returns c = c .before .before .year .ensures
+
+pub advance-spec : {M : Type 1} → statement M
+advance-spec = tie.close (tie.spec year-requires same-length returns)

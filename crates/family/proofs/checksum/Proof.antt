@@ -1,0 +1,51 @@
+-- `checksum` is safe and ends: the place moves on.
+use Prim.Native.Nat.{_≤_, _-_}
+use lib.ListN.{length}
+use borrow.Author.Needs.{needs}
+use Rattle.family.proofs.checksum.Statement.{statement}
+use Rattle.family.proofs.checksum.Tie as tie
+
+abbrev Inv-loop : tie.InvT-loop
+Inv-loop text n sum₀ i₀ sum i = i ≤ length text
+
+abbrev μ-loop : tie.MeasureT-loop
+μ-loop text n sum₀ i₀ sum i = length text - i
+
+loop-holds : tie.Need-loop-holds Inv-loop μ-loop
+loop-holds c = search needs
+
+returns : tie.Need-returns Inv-loop μ-loop
+returns c = search needs
+
+shared-slice-read-add : tie.Need-shared-slice-read-add Inv-loop μ-loop
+shared-slice-read-add c = search needs
+
+add-requires : tie.Need-add-requires Inv-loop μ-loop
+add-requires c κs = tt
+
+add-i : tie.Need-add-i Inv-loop μ-loop
+add-i c = search needs
+
+loop-less : tie.Need-loop-less Inv-loop μ-loop
+loop-less c = search needs
+
+loop-again : tie.Need-loop-again Inv-loop μ-loop
+loop-again c = search needs
+
+returns-2 : tie.Need-returns-2 Inv-loop μ-loop
+returns-2 c = search needs
+
+pub checksum-spec : {M : Type 1} → statement M
+checksum-spec =
+    tie.close
+    (tie.spec
+    Inv-loop
+    μ-loop
+    loop-holds
+    returns
+    shared-slice-read-add
+    add-requires
+    add-i
+    loop-less
+    loop-again
+    returns-2)

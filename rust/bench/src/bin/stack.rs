@@ -1,0 +1,118 @@
+//! Prints how many bytes of stack each call of the proved library takes on the
+//! largest scheme, 32 classes, 8 columns, 100 years, asked for the last year
+//! where no other is named.
+//!
+//! Each call runs on a stack of its own, painted beforehand; what is not
+//! painted any more afterwards was used. What a call of nothing takes is
+//! printed first, and is within every other number.
+
+use std::arch::asm;
+use std::ffi::c_void;
+use trials::made;
+use trials::rng::Rng;
+
+/// The stack of a call.
+const STACK: usize = 1 << 20;
+
+/// Two paints, so that a byte that happens to be written in one of them still
+/// shows.
+const PAINTS: [u8; 2] = [0xA5, 0x5A];
+
+/// Runs a call on the stack that ends at `top`.
+///
+/// # Safety
+/// `top` is the end of memory that nothing else uses, enough for the call,
+/// and a multiple of 16.
+unsafe fn run_on(top: *mut u8, call: extern "C" fn(*mut c_void), with: *mut c_void) {
+    asm!(
+        "xchg rsp, r12",
+        "call {call}",
+        "mov rsp, r12",
+        call = in(reg) call,
+        inout("r12") top => _,
+        in("rdi") with,
+        clobber_abi("C"),
+    );
+}
+
+/// Runs the closure whose address comes along.
+extern "C" fn enter<F: FnMut()>(closure: *mut c_void) {
+    // SAFETY: `used` passes the address of such a closure, which it holds alone.
+    let closure = unsafe { &mut *closure.cast::<F>() };
+    closure();
+}
+
+/// How many bytes of stack a call uses.
+fn used<F: FnMut()>(mut call: F) -> usize {
+    let measure = |paint: u8| {
+        let mut stack = vec![u128::from_ne_bytes([paint; 16]); STACK / 16];
+        let top = stack.as_mut_ptr_range().end;
+        // SAFETY: the memory is this function's own, and its end a multiple of 16.
+        unsafe { run_on(top.cast(), enter::<F>, (&raw mut call).cast()) };
+        let bytes = stack.iter().flat_map(|sixteen| sixteen.to_ne_bytes());
+        STACK - bytes.take_while(|&byte| byte == paint).count()
+    };
+    let depths = PAINTS.map(measure);
+    depths[0].max(depths[1])
+}
+
+/// The record of the largest scheme; several are tried.
+fn largest(seed: u64) -> Vec<u8> {
+    let mut scheme = made::scheme_of(&mut Rng::new(seed), 32, 8);
+    scheme.horizon = 100;
+    made::record_of(&scheme)
+}
+
+/// The depth of each call on a record.
+fn depths(record: &[u8]) -> [(&'static str, usize); 11] {
+    let mut out = [0; 2];
+    let (mut low, mut high) = ([0; 32], [0; 32]);
+    let mut text = vec![0; library::SHEET_ROOM];
+    let mut length = [0];
+    let mut bytes = [0; library::RECORD_ROOM];
+    let mut share = |year| used(|| library::share(record, 32, year, &mut out).expect("a share"));
+    [
+        ("nothing", used(|| ())),
+        ("share of year 0", share(0)),
+        ("share of year 50", share(50)),
+        ("share", share(100)),
+        (
+            "mean",
+            used(|| library::mean(record, 100, &mut out).expect("a mean")),
+        ),
+        (
+            "total",
+            used(|| library::total(record, 100, &mut out).expect("a total")),
+        ),
+        (
+            "share_sheet",
+            used(|| library::share_sheet(record, 100, &mut low, &mut high).expect("a sheet")),
+        ),
+        (
+            "sheet",
+            used(|| library::sheet(record, &mut text, &mut length).expect("a text")),
+        ),
+        ("check", used(|| library::check(record).expect("a record"))),
+        (
+            "rewrite",
+            used(|| library::rewrite(record, &mut bytes, &mut length).expect("a record")),
+        ),
+        (
+            "ready",
+            used(|| library::ready(3, 1000, &mut bytes, &mut length).expect("a record")),
+        ),
+    ]
+}
+
+fn main() {
+    // The most over several schemes.
+    let mut rows = depths(&largest(1));
+    for seed in 2..=5 {
+        for (row, depth) in rows.iter_mut().zip(depths(&largest(seed))) {
+            row.1 = row.1.max(depth.1);
+        }
+    }
+    for (call, depth) in rows {
+        println!("{call:<17} {depth:>8} bytes");
+    }
+}

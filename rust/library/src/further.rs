@@ -1,0 +1,155 @@
+//! Rows, one-year steps, rule rows and bands of a record, as in the rest of
+//! the library.
+
+use crate::answer;
+
+/// The functions of the archive; a slice passes as a pointer and its length.
+mod archive {
+    extern "C" {
+        pub fn joguyvi_row(
+            bytes: *const u8,
+            bytes_length: usize,
+            class: u64,
+            lower: *mut u64,
+            lower_length: usize,
+            upper: *mut u64,
+            upper_length: usize,
+        ) -> u8;
+        pub fn joguyvi_low_step(
+            bytes: *const u8,
+            bytes_length: usize,
+            payoff: *const u64,
+            payoff_length: usize,
+            class: u64,
+            figure: *mut u64,
+            figure_length: usize,
+            row: *mut u64,
+            row_length: usize,
+        ) -> u8;
+        pub fn joguyvi_high_step(
+            bytes: *const u8,
+            bytes_length: usize,
+            payoff: *const u64,
+            payoff_length: usize,
+            class: u64,
+            figure: *mut u64,
+            figure_length: usize,
+            row: *mut u64,
+            row_length: usize,
+        ) -> u8;
+        pub fn joguyvi_rule_row(
+            bytes: *const u8,
+            bytes_length: usize,
+            class: u64,
+            out: *mut u8,
+            out_length: usize,
+        ) -> u8;
+        pub fn joguyvi_bands(
+            bytes: *const u8,
+            bytes_length: usize,
+            lower: *mut u32,
+            lower_length: usize,
+            upper: *mut u32,
+            upper_length: usize,
+        ) -> u8;
+    }
+}
+
+/// The interval row of a class, lower and upper entries, into two slices of 32
+/// numbers; 0 beyond s.
+pub fn row(record: &[u8], class: u64, lower: &mut [u64], upper: &mut [u64]) -> Result<(), u8> {
+    // SAFETY: the pointers and lengths are those of slices; `lower` and
+    // `upper` are lent alone.
+    answer(unsafe {
+        archive::joguyvi_row(
+            record.as_ptr(),
+            record.len(),
+            class,
+            lower.as_mut_ptr(),
+            lower.len(),
+            upper.as_mut_ptr(),
+            upper.len(),
+        )
+    })
+}
+
+/// The low figure of a class for a payoff of 32 numbers into a slice of 1
+/// number, and a row that reaches it unrounded into one of 32.
+pub fn low_step(
+    record: &[u8],
+    payoff: &[u64],
+    class: u64,
+    figure: &mut [u64],
+    row: &mut [u64],
+) -> Result<(), u8> {
+    // SAFETY: the pointers and lengths are those of slices; `figure` and `row`
+    // are lent alone.
+    answer(unsafe {
+        archive::joguyvi_low_step(
+            record.as_ptr(),
+            record.len(),
+            payoff.as_ptr(),
+            payoff.len(),
+            class,
+            figure.as_mut_ptr(),
+            figure.len(),
+            row.as_mut_ptr(),
+            row.len(),
+        )
+    })
+}
+
+/// The high figure of a class, as `low_step` for the low one.
+pub fn high_step(
+    record: &[u8],
+    payoff: &[u64],
+    class: u64,
+    figure: &mut [u64],
+    row: &mut [u64],
+) -> Result<(), u8> {
+    // SAFETY: the pointers and lengths are those of slices; `figure` and `row`
+    // are lent alone.
+    answer(unsafe {
+        archive::joguyvi_high_step(
+            record.as_ptr(),
+            record.len(),
+            payoff.as_ptr(),
+            payoff.len(),
+            class,
+            figure.as_mut_ptr(),
+            figure.len(),
+            row.as_mut_ptr(),
+            row.len(),
+        )
+    })
+}
+
+/// The rule row of a class into a slice of m bytes.
+pub fn rule_row(record: &[u8], class: u64, out: &mut [u8]) -> Result<(), u8> {
+    // SAFETY: the pointers and lengths are those of slices; `out` is lent alone.
+    answer(unsafe {
+        archive::joguyvi_rule_row(
+            record.as_ptr(),
+            record.len(),
+            class,
+            out.as_mut_ptr(),
+            out.len(),
+        )
+    })
+}
+
+/// The bands of a record, lower and upper ends, into two slices of m numbers.
+pub fn bands(record: &[u8], lower: &mut [u32], upper: &mut [u32]) -> Result<(), u8> {
+    // SAFETY: the pointers and lengths are those of slices; `lower` and
+    // `upper` are lent alone.
+    answer(unsafe {
+        archive::joguyvi_bands(
+            record.as_ptr(),
+            record.len(),
+            lower.as_mut_ptr(),
+            lower.len(),
+            upper.as_mut_ptr(),
+            upper.len(),
+        )
+    })
+}

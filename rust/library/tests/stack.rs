@@ -1,0 +1,43 @@
+//! The deepest calls on a small stack. One that needs more ends the process
+//! with "has overflowed its stack".
+
+use trials::made;
+use trials::rng::Rng;
+
+const SMALL: usize = 64 * 1024;
+
+/// The record of a scheme of 32 classes, 8 columns and 100 years.
+fn largest() -> Vec<u8> {
+    let mut scheme = made::scheme_of(&mut Rng::new(121), 32, 8);
+    scheme.horizon = 100;
+    made::record_of(&scheme)
+}
+
+/// Shares, mean and total of the last year.
+fn deepest(record: &[u8]) -> [u64; 70] {
+    let mut all = [0; 70];
+    let (shares, rest) = all.split_at_mut(64);
+    let (low, high) = shares.split_at_mut(32);
+    let answers = [
+        library::check(record),
+        library::share(record, 32, 100, &mut rest[..2]),
+        library::mean(record, 100, &mut rest[2..4]),
+        library::total(record, 100, &mut rest[4..]),
+        library::share_sheet(record, 100, low, high),
+    ];
+    assert_eq!(answers, [Ok(()); 5]);
+    all
+}
+
+#[test]
+#[ignore = "the calls of the last year take 78 KB today: `cargo run --release --bin stack`"]
+fn deepest_calls_on_64_kib() {
+    let record = largest();
+    let wanted = deepest(&record);
+    let thread = std::thread::Builder::new()
+        .name("a stack of 64 KiB".to_string())
+        .stack_size(SMALL)
+        .spawn(move || deepest(&record));
+    let got = thread.expect("a thread").join().expect("the calls");
+    assert_eq!(got, wanted);
+}
