@@ -2,6 +2,7 @@
 pub mod Writing
 pub mod Sorting
 pub mod Summing
+pub mod Ranking
 pub mod Filling
 pub mod Reaching
 pub mod Walking

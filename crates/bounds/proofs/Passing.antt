@@ -15,7 +15,7 @@ use Rattle.setchain.specs.Sums.{sumTo}
 use Rattle.setchain.specs.Rows.{ONE, IntervalRow, SoundRow}
 use Rattle.setchain.specs.Step.{room}
 use Rattle.bounds.specs.Lists.{at}
-use Rattle.bounds.specs.Order.{Placed, Arranged}
+use Rattle.bounds.specs.Order.{Placed, Arranged, Sortable}
 use Rattle.bounds.specs.Figure.{rounded, stepFigure, LARGEST}
 use Rattle.bounds.specs.Entries.{sumOf, listedRow, chainListed, Held}
 use Rattle.bounds.specs.Walk.{leftAt, sumAt, taken, Givable, Given, Walkable, Walked, Settleable, Settled}
@@ -42,7 +42,7 @@ module _ {gain : List ℕ} {falling : Bool} {sums : List ℕ} (able : Settleable
   settling-none = record { size = able .size; inside = omega arith; done = λ k l. absurd (omega arith); rest = λ k l. refl }
 
   module _ {figures : List ℕ} {i : ℕ} (w : Settling gain falling sums figures i) (more : i < length gain) where
-    pub settling-sum : at figures i ≤ LARGEST * ONE
+    settling-sum : at figures i ≤ LARGEST * ONE
     settling-sum = omega (arith, w .rest i (omega arith), able .fits i more)
 
     module _ {r : ℕ} (is : r ≡ rounded falling (at figures i)) where
@@ -153,8 +153,12 @@ module _ {from lows rooms counts spare gain order before : List ℕ} (w : Yearly
   front-count : length (take (length gain) before) ≡ length gain
   front-count = length-take-le (length gain) before fits
 
-  pub year-sorts : Placed (length (take (length gain) before)) order
-  year-sorts = subst (λ n. Placed n order) (sym front-count) (w .placed)
+  pub year-sorts : Sortable (take (length gain) before) order
+  year-sorts =
+      record {
+        placed = subst (λ n. Placed n order) (sym front-count) (w .placed);
+        few = omega (arith, front-count, w .held .few);
+      }
 
   pub spare-count : length (take (length gain) spare) ≡ length gain
   spare-count = length-take-le (length gain) spare (w .held .stored)

@@ -8,8 +8,9 @@ use Rattle.setchain.specs.Years.{lowShare, highShare, lowMean, highMean, lowTot
 use Rattle.scheme.specs.declared.Scheme.{Scheme}
 use Rattle.scheme.specs.Tables.{tab}
 use Rattle.scheme.specs.Access.{premiumAt}
-use Rattle.scheme.specs.Cause.{causeOf, orElse, classCause, yearCause}
+use Rattle.scheme.specs.Cause.{orElse}
 use Rattle.scheme.specs.Rows.{chainOf}
+pub use Rattle.queries.specs.Causes.{shareCause, moneyCause}
 use Rattle.bounds.specs.declared.Bounds.{Bounds}
 use Rattle.bounds.specs.declared.Bounds.the-variants.{Answered, Refused}
 
@@ -36,20 +37,12 @@ answerBy number low high = cond (eqb number 0) (Answered low high) (Refused numb
 abbrev pub startOf : Scheme → ℕ
 startOf s = s .start - 1
 
--- causes 3, 5 to 10, 11, then 12
-abbrev pub shareCause : Scheme → ℕ → ℕ → ℕ
-shareCause s class year = orElse (causeOf s) (orElse (classCause s class) (yearCause s year))
-
 -- the share of a class after a number of years: "The answer is the start class's figure."
 unfoldable pub shareAnswer : Scheme → ℕ → ℕ → Bounds
 shareAnswer s class year =
     answerBy (shareCause s class year)
     (lowShare (chainOf s) (class - 1) year (startOf s))
     (highShare (chainOf s) (class - 1) year (startOf s))
-
--- causes 3, 5 to 10, then 12
-abbrev pub moneyCause : Scheme → ℕ → ℕ
-moneyCause s year = orElse (causeOf s) (yearCause s year)
 
 -- the mean premium of a year
 unfoldable pub meanAnswer : Scheme → ℕ → Bounds

@@ -7,12 +7,8 @@ use lib.ListN.{length}
 use Rattle.setchain.specs.Sums.{sumTo, dot}
 use Rattle.setchain.specs.Rows.{ONE, IntervalRow}
 use Rattle.setchain.specs.Step.{lowStep, highStep}
+pub use Rattle.direction.specs.Direction.{rounded}
 use Rattle.bounds.specs.Lists.{at}
-
--- x parts in units: the low figure is rounded down, the high figure up
-abbrev pub rounded : Bool → ℕ → ℕ
-rounded false x = x / ONE
-rounded true x = (x + (ONE - 1)) / ONE
 
 -- the figure of document 01, "One year": low where payoffs rise along the order, high where they fall
 abbrev pub stepFigure : Bool → ℕ → IntervalRow → (ℕ → ℕ) → ℕ

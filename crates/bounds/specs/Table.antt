@@ -11,19 +11,12 @@ use Rattle.scheme.specs.Tables.{tab}
 use Rattle.scheme.specs.Access.{premiumAt}
 use Rattle.scheme.specs.Cause.{causeOf, orElse}
 use Rattle.scheme.specs.Rows.{chainOf}
+pub use Rattle.queries.specs.Causes.{totalPlace, tableSize}
 use Rattle.bounds.specs.Answers.{startOf}
 
 -- the place of year t's figure j: the share of state j, or the mean where j is s
 abbrev pub placeOf : Scheme → ℕ → ℕ → ℕ
 placeOf s t j = t * suc (s .classes) + j
-
--- the place of the total, after all years
-abbrev pub totalPlace : Scheme → ℕ
-totalPlace s = suc (s .horizon) * suc (s .classes)
-
--- how many numbers the table has
-abbrev pub tableSize : Scheme → ℕ
-tableSize s = totalPlace s + 1
 
 -- what stands at place p
 unfoldable pub tableEntry : Scheme → (share : ℕ → ℕ → ℕ) → (mean : ℕ → ℕ) → (total p : ℕ) → ℕ

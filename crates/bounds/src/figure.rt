@@ -21,22 +21,10 @@ fn weigh(row: &[u64], payoff: &[u64]) -> u64
     sum
 }
 
-// Parts in units, rounded down, or up where payoffs fall.
-pub fn round(parts: u64, falling: bool) -> u64
-    requires { ⌜ parts ≤ LARGEST * ONE ⌝ }
-    ensures { λ r. ⌜ r ≡ rounded falling parts ⌝ }
-{
-    if falling {
-        (parts + (setchain::ONE - 1)) / setchain::ONE
-    } else {
-        parts / setchain::ONE
-    }
-}
-
 // The row's figure: rounded down for a low figure, up for a high one.
 pub fn figure(row: &[u64], payoff: &[u64], falling: bool) -> u64
     requires { ⌜ Weighable (now row) (now payoff) ⌝ }
     ensures { λ r. ⌜ r ≡ rounded falling (dot (length (now (row .entry))) (at (now (row .entry))) (at (now (payoff .entry)))) ⌝ }
 {
-    round(weigh(row, payoff), falling)
+    direction::round(weigh(row, payoff), falling)
 }

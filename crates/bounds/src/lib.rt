@@ -9,7 +9,6 @@ ghost use Rattle.bounds.specs.Promises.{MeanPromise, SharePromise, Sheet
 ghost use Rattle.bounds.specs.Promises.{FiguresPromise};
 
 mod answer_step;
-mod causes;
 mod entries;
 mod figure;
 mod fill;
@@ -37,7 +36,7 @@ pub fn share(scheme: Scheme, class: u64, year: u64) -> Bounds
     ensures answer { λ r. ⌜ r ≡ shareAnswer scheme class year ⌝ }
     ensures promise { λ r. ⌜ (SharePromise scheme class year r) ⌝ }
 {
-    let number = causes::share_cause(scheme, class, year);
+    let number = queries::share_cause(scheme, class, year);
     if number != 0 {
         return Bounds::Refused(number);
     }
@@ -51,7 +50,7 @@ pub fn mean(scheme: Scheme, year: u64) -> Bounds
     ensures answer { λ r. ⌜ r ≡ meanAnswer scheme year ⌝ }
     ensures promise { λ r. ⌜ (MeanPromise scheme year r) ⌝ }
 {
-    let number = causes::money_cause(scheme, year);
+    let number = queries::money_cause(scheme, year);
     if number != 0 {
         return Bounds::Refused(number);
     }
@@ -66,7 +65,7 @@ pub fn total(scheme: Scheme, year: u64) -> Bounds
     ensures answer { λ r. ⌜ r ≡ totalAnswer scheme year ⌝ }
     ensures promise { λ r. ⌜ (TotalPromise scheme year r) ⌝ }
 {
-    let number = causes::money_cause(scheme, year);
+    let number = queries::money_cause(scheme, year);
     if number != 0 {
         return Bounds::Refused(number);
     }
@@ -83,7 +82,7 @@ pub fn share_sheet(scheme: Scheme, year: u64, low: &mut [u64], high: &mut [u64])
     ensures highs { λ r. ⌜ now (high .exit) ≡ sheetSlice r (highShares scheme year) (now (high .entry)) ⌝ }
     ensures promise { λ r. ⌜ (SheetPromise scheme year r (now (low .exit)) (now (high .exit))) ⌝ }
 {
-    let number = causes::sheet_cause(scheme, year, low.len(), high.len());
+    let number = queries::sheet_cause(scheme, year, low.len(), high.len());
     if number != 0 {
         return number;
     }
@@ -99,7 +98,7 @@ pub fn figures(scheme: Scheme, low: &mut [u64], high: &mut [u64]) -> u8
     ensures highs { λ r. ⌜ now (high .exit) ≡ sheetSlice r (highTable scheme) (now (high .entry)) ⌝ }
     ensures promise { λ r. ⌜ (FiguresPromise scheme r (now (low .exit)) (now (high .exit))) ⌝ }
 {
-    let number = causes::table_cause(scheme, low.len(), high.len());
+    let number = queries::table_cause(scheme, low.len(), high.len());
     if number != 0 {
         return number;
     }

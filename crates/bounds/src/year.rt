@@ -1,5 +1,4 @@
 // One year: the figures of all classes from those of the year before (document 01, "Years").
-use crate::figure::round;
 use crate::order::sort;
 use crate::order::state;
 ghost use mathlib.Core.Path.{_≡_};
@@ -94,7 +93,7 @@ fn settle(gain: &[u64], falling: bool, sums: &mut [u64])
 {
     let mut i: usize = 0;
     while i < gain.len() {
-        sums[i] = gain[i] + round(sums[i], falling);
+        sums[i] = gain[i] + direction::round(sums[i], falling);
         i += 1;
     }
 }

@@ -8,8 +8,9 @@
 
 #![warn(missing_docs)]
 
-// Switched on once these functions are in the archive:
-// pub mod further;
+mod rows;
+
+pub use rows::{bands, high_step, low_step, row, rule_row};
 
 /// The functions of the archive; a slice passes as a pointer and its length.
 mod archive {

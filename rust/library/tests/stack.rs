@@ -30,7 +30,6 @@ fn deepest(record: &[u8]) -> [u64; 70] {
 }
 
 #[test]
-#[ignore = "the calls of the last year take 78 KB today: `cargo run --release --bin stack`"]
 fn deepest_calls_on_64_kib() {
     let record = largest();
     let wanted = deepest(&record);

@@ -3,7 +3,7 @@
 use Prim.Native.Nat.{_-_}
 use native.Mathlib.Omega.{arith}
 use lib.ListN.{length}
-use Rattle.bounds.proofs.Passing.{Settling, settling-none, settling-sum, settling-fits, settling-more, settling-all}
+use Rattle.bounds.proofs.Passing.{Settling, settling-none, settling-fits, settling-more, settling-all}
 use Rattle.bounds.proofs.year.settle.Statement.{statement}
 use Rattle.bounds.proofs.year.settle.Tie as tie
 
@@ -29,7 +29,7 @@ slice-read-round : tie.Need-slice-read-round Inv-loop μ-loop
 slice-read-round c = omega arith
 
 round-requires : tie.Need-round-requires Inv-loop μ-loop
-round-requires c κs = settling-sum (c .before .before .before .before .before .before .pre) (c .before .before .before .loop .inv) (omega arith)
+round-requires c κs = tt
 
 add-sums : tie.Need-add-sums Inv-loop μ-loop
 add-sums c = settling-fits (c .before .before .before .before .before .before .before .pre) (c .before .before .before .before .loop .inv) (omega arith) (c .round .ensures)

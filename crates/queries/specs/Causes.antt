@@ -1,0 +1,20 @@
+-- The first cause for which a query of a scheme is declined (document 01, "When a call is declined").
+use Prim.Native.Nat.{ℕ, suc, _+_, _*_}
+use Rattle.scheme.specs.declared.Scheme.{Scheme}
+use Rattle.scheme.specs.Cause.{causeOf, orElse, classCause, yearCause}
+
+-- of the share of a class: causes 3, 5 to 10, 11, then 12
+abbrev pub shareCause : Scheme → ℕ → ℕ → ℕ
+shareCause s class year = orElse (causeOf s) (orElse (classCause s class) (yearCause s year))
+
+-- of money: causes 3, 5 to 10, then 12
+abbrev pub moneyCause : Scheme → ℕ → ℕ
+moneyCause s year = orElse (causeOf s) (yearCause s year)
+
+-- the place of the total in the table of all figures, after the shares and the mean of every year
+abbrev pub totalPlace : Scheme → ℕ
+totalPlace s = suc (s .horizon) * suc (s .classes)
+
+-- how many numbers the table has
+abbrev pub tableSize : Scheme → ℕ
+tableSize s = totalPlace s + 1

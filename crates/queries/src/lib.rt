@@ -1,0 +1,99 @@
+// The causes for which a query of a scheme is declined, tests in number order (document 01, "When a call is declined").
+use scheme::Scheme;
+ghost use mathlib.Core.Path.{_≡_};
+ghost use Prim.Native.Nat.{_+_, _*_};
+ghost use mathlib.Core.Bool.{cond, not, _||_};
+ghost use lib.Dec.{eqb, ltb};
+ghost use Rattle.scheme.specs.Cause.{causeOf, outside, orElse};
+ghost use Rattle.queries.specs.Causes.{moneyCause, shareCause, tableSize};
+
+// A sheet slice not of s numbers.
+pub const SLICE_OUT: u8 = 13;
+
+// The first of two causes, where 0 is none.
+fn or_else(first: u8, second: u8) -> u8
+    ensures { λ r. ⌜ r ≡ orElse first second ⌝ }
+{
+    if first == 0 { second } else { first }
+}
+
+// Cause 11: a class that is not one of 1 to s.
+fn class_cause(classes: u8, class: u64) -> u8
+    ensures { λ r. ⌜ r ≡ cond (outside classes class) 11 0 ⌝ }
+{
+    if scheme::class_out(classes, class) {
+        return scheme::CLASS_OUT;
+    }
+    0
+}
+
+// Cause 12: a year above the horizon.
+fn year_cause(horizon: u8, year: u64) -> u8
+    ensures { λ r. ⌜ r ≡ cond (ltb horizon year) 12 0 ⌝ }
+{
+    if (horizon as u64) < year {
+        return scheme::YEAR_OUT;
+    }
+    0
+}
+
+// Cause 13: one of two slices is not of as many numbers as are wanted.
+fn slice_cause(size: usize, low: usize, high: usize) -> u8
+    ensures { λ r. ⌜ r ≡ cond (not (eqb low size) || not (eqb high size)) 13 0 ⌝ }
+{
+    if low != size {
+        return SLICE_OUT;
+    }
+    if high != size {
+        return SLICE_OUT;
+    }
+    0
+}
+
+// The first cause of a call about money, or 0.
+pub fn money_cause(scheme: Scheme, year: u64) -> u8
+    ensures { λ r. ⌜ r ≡ moneyCause scheme year ⌝ }
+{
+    let own = scheme::cause(scheme);
+    let late = year_cause(scheme.horizon, year);
+    or_else(own, late)
+}
+
+// The first cause of a call about the share of a class, or 0.
+pub fn share_cause(scheme: Scheme, class: u64, year: u64) -> u8
+    ensures { λ r. ⌜ r ≡ shareCause scheme class year ⌝ }
+{
+    let own = scheme::cause(scheme);
+    let out = class_cause(scheme.classes, class);
+    let late = year_cause(scheme.horizon, year);
+    let query = or_else(out, late);
+    or_else(own, query)
+}
+
+// The first cause of a call for a share sheet with slices of two lengths, or 0.
+pub fn sheet_cause(scheme: Scheme, year: u64, low: usize, high: usize) -> u8
+    ensures { λ r. ⌜ r ≡ orElse (moneyCause scheme year) (cond (not (eqb low (scheme .classes)) || not (eqb high (scheme .classes))) 13 0) ⌝ }
+{
+    let money = money_cause(scheme, year);
+    let slices = slice_cause(scheme.classes as usize, low, high);
+    or_else(money, slices)
+}
+
+// How many numbers the table of a sheet has.
+fn table_size(classes: u8, horizon: u8) -> usize
+    ensures { λ r. ⌜ r ≡ (horizon + 1) * (classes + 1) + 1 ⌝ }
+{
+    let years = horizon as usize + 1;
+    let row = classes as usize + 1;
+    years * row + 1
+}
+
+// The first cause of a call for all figures with slices of two lengths, or 0.
+pub fn table_cause(scheme: Scheme, low: usize, high: usize) -> u8
+    ensures { λ r. ⌜ r ≡ orElse (causeOf scheme) (cond (not (eqb low (tableSize scheme)) || not (eqb high (tableSize scheme))) 13 0) ⌝ }
+{
+    let own = scheme::cause(scheme);
+    let size = table_size(scheme.classes, scheme.horizon);
+    let slices = slice_cause(size, low, high);
+    or_else(own, slices)
+}
