@@ -2,7 +2,6 @@
 pub mod Writing
 pub mod Sorting
 pub mod Summing
-pub mod Ranking
 pub mod Filling
 pub mod Reaching
 pub mod Walking

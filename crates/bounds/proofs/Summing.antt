@@ -4,7 +4,6 @@ use Prim.Native.Nat.{ℕ, zero, suc, _+_, _*_, _≤_, _<_}
 use mathlib.Core.Path.{_≡_, refl, ap, _∙_}
 use mathlib.Core.Logic.{⊎-elim}
 use mathlib.Core.List.{List}
-use native.Mathlib.Decide.{decLt}
 use native.Mathlib.Nat.{le-refl, not-suc-le-zero, eq-or-lt-of-le, le-of-suc-le-suc, le-step, mul-le-mul-left}
 use native.Mathlib.Numerals.{add-one}
 use native.Mathlib.Omega.{arith}
@@ -30,44 +29,6 @@ unfolding sumTo
 sumTo-front f zero i h = let e : i ≡ 0 = omega arith in rw e (le-refl 0)
 sumTo-front f (suc n) i h =
     ⊎-elim (λ e. rw e (le-refl _)) (λ l. omega (arith, sumTo-front f n i (le-of-suc-le-suc l))) (eq-or-lt-of-le h)
-
--- a front's sum and that of what follows it
-pub sumTo-split : (a b : ℕ) (f : ℕ → ℕ) → sumTo (a + b) f ≡ sumTo a f + sumTo b (λ j. f (a + j))
-unfolding sumTo
-sumTo-split a zero f = let e : a + 0 ≡ a = omega arith in rw e (omega arith)
-sumTo-split a (suc b) f = let e : a + suc b ≡ suc (a + b) = omega arith in rw e (omega (arith, sumTo-split a b f))
-
--- a sum that is at most another at each index, and less at one, is less
-pub sumTo-less : (n : ℕ) (f g : ℕ → ℕ) (i : ℕ) → i < n → ((j : ℕ) → j < n → f j ≤ g j) → f i < g i → sumTo n f < sumTo n g
-unfolding sumTo
-sumTo-less zero f g i l h s = absurd (not-suc-le-zero l)
-sumTo-less (suc n) f g i l h s =
-    ⊎-elim
-    (λ e. let z : f n < g n = rw (← e) s in omega (arith, z, sumTo-le n f g (λ j m. h j (le-step m))))
-    (λ m. omega (arith, sumTo-less n f g i m (λ j o. h j (le-step o)) s, h n (le-refl (suc n))))
-    (eq-or-lt-of-le (le-of-suc-le-suc l))
-
--- as many ones as are summed
-pub count : (k : ℕ) → sumTo k (λ i. 1) ≡ k
-unfolding sumTo
-count zero = refl
-count (suc k) = omega (arith, count k)
-
--- an index that counts
-pub record Some (n : ℕ) (f : ℕ → ℕ) : Type 0 where
-  pub index : ℕ
-  pub inside : index < n
-  pub counts : 1 ≤ f index
-
--- a sum from 1 on has one
-pub sum-some : (n : ℕ) (f : ℕ → ℕ) → 1 ≤ sumTo n f → Some n f
-unfolding sumTo
-sum-some zero f h = absurd (omega arith)
-sum-some (suc n) f h = by (decLt 0 (f n)) (λ l. sum-some n f (omega arith))
-  where
-    by : Dec (0 < f n) → ((0 < f n → ⊥) → Some n f) → Some (suc n) f
-    by (yes l) more = record { index = n; inside = le-refl (suc n); counts = l }
-    by (no l) more = record { index = more l .index; inside = le-step (more l .inside); counts = more l .counts }
 
 -- two functions that differ at j alone
 pub sumTo-change : (n : ℕ) (f g : ℕ → ℕ) (j : ℕ) → j < n → ((k : ℕ) → k < n → (k ≡ j → ⊥) → g k ≡ f k) → sumTo n g + f j ≡ sumTo n f + g j

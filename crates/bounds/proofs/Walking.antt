@@ -25,11 +25,17 @@ use Rattle.bounds.specs.Fill.{Filled, Pourable}
 use Rattle.bounds.specs.Step.{Steppable}
 use Rattle.bounds.specs.Figure.{rounded, stepFigure, LARGEST}
 use Rattle.bounds.specs.Walk.{leftAt, sumAt}
-use Rattle.bounds.proofs.Summing.{count, sumTo-front, sumTo-change}
+use Rattle.bounds.proofs.Summing.{sumTo-more, sumTo-front, sumTo-change, sumTo-set}
 use Rattle.bounds.proofs.Agreeing.{sound-same, step-same-row}
 use Rattle.bounds.proofs.Sorting.{arranged-placed}
 use Rattle.bounds.proofs.Filling.{Filling, filling-none, filling-more, filling-last}
 use Rattle.bounds.proofs.Reaching.{step-reached}
+
+-- as many ones as are summed
+count : (k : ℕ) → sumTo k (λ i. 1) ≡ k
+unfolding sumTo
+count zero = refl
+count (suc k) = omega (arith, count k)
 
 -- numbers from 1 on whose sum is their count are all 1
 ones : (n : ℕ) (c : ℕ → ℕ) → ((j : ℕ) → j < n → 1 ≤ c j) → sumTo n c ≡ n → (j : ℕ) → j < n → c j ≡ 1
