@@ -13,7 +13,7 @@ use trials::made::{record_of, scheme_of};
 use trials::rng::Rng;
 
 /// How many batches of each side are run.
-const ROUNDS: usize = 25;
+const ROUNDS: usize = 100;
 
 /// How long a batch is to take at least, where one call takes less.
 const BATCH: Duration = Duration::from_millis(2);
