@@ -18,11 +18,12 @@ use Rattle.scheme.specs.Laws.Sound.{accepted-sound}
 use Rattle.scheme.specs.Laws.Entries.{lower-is, upper-is}
 use Rattle.scheme.specs.Laws.Tables.{any-false}
 use Rattle.bounds.specs.declared.StepAnswer.{StepAnswer}
-use Rattle.bounds.specs.Lists.{at}
+use Rattle.bounds.specs.Lists.{at, Agree}
 use Rattle.bounds.specs.Figure.{stepFigure}
 use Rattle.bounds.specs.StepAnswer.{payoffOut, stepCause, classRow, Reaches, StepAnswered}
 use Rattle.bounds.specs.Solve.{rowFromParts, Answerable, Made}
-use Rattle.bounds.proofs.Solving.{SameRow, same-back, sound-same, reaches-same, reached-figure}
+use Rattle.bounds.proofs.Agreeing.{sound-same}
+use Rattle.bounds.proofs.Solving.{same-back, reaches-same, reached-figure}
 
 -- a second test of cause 10 comes after all that the first has
 joined : (a b c d e f g h : Bool)
@@ -138,7 +139,7 @@ module _ (s : Scheme) (payoff : List ℕ) (class : ℕ) where
     payoff-fits j l = ltb-false 1000000000 (at payoff j) (any-false (s .classes) (λ i. ltb 1000000000 (at payoff i)) payoffs-fit j l)
 
     -- what the code gathers is the class's interval row
-    same : SameRow (s .classes) (rowFromParts (s .rules) (s .lowers) (s .uppers) (s .columns) class) (classRow s class)
+    same : Agree (s .classes) (rowFromParts (s .rules) (s .lowers) (s .uppers) (s .columns) class) (classRow s class)
     same =
         record {
           lower = λ j l. lower-is s ok (class - 1) (omega (arith, range)) j;
@@ -153,7 +154,7 @@ module _ (s : Scheme) (payoff : List ℕ) (class : ℕ) where
           within = range .1;
           fewClasses = ok .size .classes;
           fewColumns = ok .size .columns;
-          sound = sound-same (same-back same) (accepted-sound s ok (class - 1) (omega (arith, range)));
+          sound = sound-same (s .classes) _ _ (same-back same) (accepted-sound s ok (class - 1) (omega (arith, range)));
           small = λ j l. omega (arith, payoff-fits j l);
         }
 

@@ -1,11 +1,10 @@
 -- The entries to one state given to their rows: what each row has left, what its sum comes to, and that it fits.
 -- Assumes nothing.
 use Prim.Native.Nat.{ℕ, suc, min, _+_, _-_, _*_, _≤_, _<_}
-use mathlib.Core.Path.{_≡_, refl, ap, sym, _∙_, subst}
-use mathlib.Core.Bool.{Bool, true, false}
+use mathlib.Core.Path.{_≡_, refl, ap, sym, _∙_}
 use mathlib.Core.List.{List}
 use native.Mathlib.Decide.{ℕ-discrete}
-use native.Mathlib.Nat.{le-refl, le-trans, mul-le-mul-left, mul-le-mul-right}
+use native.Mathlib.Nat.{le-refl, mul-le-mul-right}
 use native.Mathlib.Omega.{arith}
 use lib.Dec.{eqb}
 use lib.ListN.{length, set, length-set}
@@ -94,9 +93,6 @@ module _ {from lows rooms : List ℕ} {first end pays : ℕ} {left sums : List �
 
     pub giving-fits : at sums′ i + (at lows e + given) * pays ≤ LARGEST * ONE
     giving-fits = omega (arith, sums-now, mul-le-mul-right pays taken-front, able .fits i row-inside)
-
-    pub giving-left : given ≤ at left′ i
-    giving-left = omega (arith, is)
 
     pub giving-more : Giving from lows rooms first end pays left sums (set left′ i (at left′ i - given)) (set sums′ i (at sums′ i + (at lows e + given) * pays)) (e + 1)
     giving-more =

@@ -7,11 +7,10 @@ use mathlib.Core.List.{List, _++_}
 use native.Mathlib.Decide.{ℕ-discrete}
 use native.Mathlib.Omega.{arith}
 use native.Mathlib.Numerals.{add-one}
-use lib.ListN.{length, set, length-set, take, drop, replicate, length-append, List·getD-append, getD-replicate}
+use lib.ListN.{length, set, length-set, take, length-append, List·getD-append, getD-replicate}
 use lib.Seq.{getD-set-same, getD-set-other, length-take-le, getD-take, take-at}
 use mir.Syntax.{w64}
 use mir.Val.{Fits}
-use Rattle.setchain.specs.Sums.{sumTo}
 use Rattle.setchain.specs.Rows.{ONE, IntervalRow, SoundRow}
 use Rattle.setchain.specs.Step.{room}
 use Rattle.bounds.specs.Lists.{at}
@@ -19,7 +18,8 @@ use Rattle.bounds.specs.Order.{Placed, Arranged, Sortable}
 use Rattle.bounds.specs.Figure.{rounded, stepFigure, LARGEST}
 use Rattle.bounds.specs.Entries.{sumOf, listedRow, chainListed, Held}
 use Rattle.bounds.specs.Walk.{leftAt, sumAt, taken, Givable, Given, Walkable, Walked, Settleable, Settled}
-use Rattle.bounds.specs.Years.{yearFigure, Yearly, Formed}
+use Rattle.bounds.specs.Years.{Yearly, Formed}
+use Rattle.bounds.proofs.Writing.{Rewritten}
 use Rattle.bounds.proofs.Agreeing.{step-same-payoff}
 use Rattle.bounds.proofs.Sorting.{arranged-placed}
 use Rattle.bounds.proofs.Walking.{sum-fits, walk-figure}
@@ -30,43 +30,19 @@ rounded-small : (falling : Bool) (x : ℕ) → x ≤ LARGEST * ONE → rounded f
 rounded-small false x h = omega arith
 rounded-small true x h = omega arith
 
--- the figures below i are made, and the sums from there on are as they were
-pub record Settling (gain : List ℕ) (falling : Bool) (sums figures : List ℕ) (i : ℕ) : Type 0 where
-  pub size : length figures ≡ length gain
-  pub inside : i ≤ length gain
-  pub done : (k : ℕ) → k < i → at figures k ≡ at gain k + rounded falling (at sums k)
-  pub rest : (k : ℕ) → i ≤ k → at figures k ≡ at sums k
+-- what a figure is made of: the gain, and the sum rounded
+abbrev pub settled : (gain : List ℕ) → Bool → ℕ → ℕ → ℕ
+settled gain falling k sum = at gain k + rounded falling sum
 
-module _ {gain : List ℕ} {falling : Bool} {sums : List ℕ} (able : Settleable gain sums) where
-  pub settling-none : Settling gain falling sums sums 0
-  settling-none = record { size = able .size; inside = omega arith; done = λ k l. absurd (omega arith); rest = λ k l. refl }
+module _ {gain : List ℕ} (falling : Bool) {sums figures : List ℕ} {i : ℕ} (able : Settleable gain sums)
+    (w : Rewritten (length gain) (settled gain falling) sums figures i) where
+  pub settling-fits : {r : ℕ} → i < length gain → r ≡ rounded falling (at figures i) → Fits w64 (at gain i + r)
+  settling-fits more is =
+      let sum : at figures i ≤ LARGEST * ONE = omega (arith, w .rest i (omega arith), able .fits i more) in
+      omega (arith, is, able .small i more, rounded-small falling (at figures i) sum)
 
-  module _ {figures : List ℕ} {i : ℕ} (w : Settling gain falling sums figures i) (more : i < length gain) where
-    settling-sum : at figures i ≤ LARGEST * ONE
-    settling-sum = omega (arith, w .rest i (omega arith), able .fits i more)
-
-    module _ {r : ℕ} (is : r ≡ rounded falling (at figures i)) where
-      figure-is : at gain i + r ≡ at gain i + rounded falling (at sums i)
-      figure-is = ap (λ x. at gain i + x) (is ∙ ap (rounded falling) (w .rest i (omega arith)))
-
-      pub settling-fits : Fits w64 (at gain i + r)
-      settling-fits = omega (arith, is, able .small i more, rounded-small falling (at figures i) settling-sum)
-
-      pub settling-more : Settling gain falling sums (set figures i (at gain i + r)) (i + 1)
-      settling-more =
-          record {
-            size = length-set figures i (at gain i + r) ∙ w .size;
-            inside = omega arith;
-            done = λ k l. by k l (ℕ-discrete k i);
-            rest = λ k l. getD-set-other figures i k (at gain i + r) 0 (λ e. omega arith) ∙ w .rest k (omega arith);
-          }
-        where
-          by : (k : ℕ) → k < i + 1 → Dec (k ≡ i) → at (set figures i (at gain i + r)) k ≡ at gain k + rounded falling (at sums k)
-          by k l (yes e) = rw e (getD-set-same figures i (at gain i + r) 0 (omega (arith, w .size)) ∙ figure-is)
-          by k l (no ne) = getD-set-other figures i k (at gain i + r) 0 ne ∙ w .done k (omega arith)
-
-  pub settling-all : {figures : List ℕ} {i : ℕ} → length gain ≤ i → Settling gain falling sums figures i → Settled gain falling sums figures
-  settling-all h w = record { size = w .size; each = λ k l. w .done k (omega arith) }
+  pub settling-all : length gain ≤ i → Settled gain falling sums figures
+  settling-all h = record { size = w .size; each = λ k l. w .done k (omega arith) }
 
 -- the entries to the states at the places below k are given
 pub record Passing (from lows rooms counts payoff order left left′ sums : List ℕ) (k : ℕ) : Type 0 where

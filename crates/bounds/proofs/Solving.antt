@@ -16,34 +16,20 @@ use Rattle.setchain.specs.Laws.Step.{low-figure-only, high-figure-only}
 use Rattle.scheme.specs.Tables.{tab}
 use Rattle.scheme.specs.Rows.{gathered}
 use Rattle.scheme.specs.Laws.Tab.{length-tab, getD-tab}
-use Rattle.bounds.specs.Lists.{at, rowIn, gatheredRow}
+use Rattle.bounds.specs.Lists.{at, rowIn, gatheredRow, Agree}
 use Rattle.bounds.specs.Order.{NotAfter, Arranged, Orderable}
 use Rattle.bounds.specs.Figure.{rounded, stepFigure}
 use Rattle.bounds.specs.Step.{Steppable, Stepped}
 use Rattle.bounds.specs.StepAnswer.{Reaches}
+use Rattle.bounds.proofs.Agreeing.{sound-same}
 use Rattle.bounds.specs.Solve.{rowFromParts, Solvable, Solved, Answerable, Made}
 
--- two intervals have the same ends at each state below n
-pub record SameRow (n : ℕ) (r r′ : IntervalRow) : Type 0 where
-  pub lower : (j : ℕ) → j < n → r .lower j ≡ r′ .lower j
-  pub upper : (j : ℕ) → j < n → r .upper j ≡ r′ .upper j
-
--- the same from the other side
-pub same-back : {n : ℕ} {r r′ : IntervalRow} → SameRow n r r′ → SameRow n r′ r
+-- rows that agree, from the other side
+pub same-back : {n : ℕ} {r r′ : IntervalRow} → Agree n r r′ → Agree n r′ r
 same-back s = record { lower = λ j l. sym (s .lower j l); upper = λ j l. sym (s .upper j l) }
 
--- then one is sound where the other is
-pub sound-same : {n : ℕ} {r r′ : IntervalRow} → SameRow n r r′ → SoundRow n r → SoundRow n r′
-sound-same {n} {r} {r′} s w =
-    record {
-      ordered = λ j l. omega (arith, s .lower j l, s .upper j l, w .ordered j l);
-      capped = λ j l. omega (arith, s .upper j l, w .capped j l);
-      lowers = omega (arith, sumTo-eq n (r .lower) (r′ .lower) (s .lower), w .lowers);
-      uppers = omega (arith, sumTo-eq n (r .upper) (r′ .upper) (s .upper), w .uppers);
-    }
-
 -- and the same rows lie inside, also where their parts agree below n
-pub parts-same : {n : ℕ} {r r′ : IntervalRow} {p p′ : ℕ → ℕ} → SameRow n r r′ → ((j : ℕ) → j < n → p j ≡ p′ j) → Parts n r p → Parts n r′ p′
+pub parts-same : {n : ℕ} {r r′ : IntervalRow} {p p′ : ℕ → ℕ} → Agree n r r′ → ((j : ℕ) → j < n → p j ≡ p′ j) → Parts n r p → Parts n r′ p′
 parts-same {n} {r} {r′} {p} {p′} s e w =
     record {
       positive = w .positive;
@@ -58,7 +44,7 @@ dot-same n p p′ f f′ e g = sumTo-eq n (λ j. p j * f j) (λ j. p′ j * f′
 
 -- so a figure that is reached is reached for all that agrees below n
 pub reaches-same : {d : Bool} {n : ℕ} {r r′ : IntervalRow} {f f′ p p′ : ℕ → ℕ} {v : ℕ}
-    → SameRow n r r′ → ((j : ℕ) → j < n → f j ≡ f′ j) → ((j : ℕ) → j < n → p j ≡ p′ j) → Reaches d n r f p v → Reaches d n r′ f′ p′ v
+    → Agree n r r′ → ((j : ℕ) → j < n → f j ≡ f′ j) → ((j : ℕ) → j < n → p j ≡ p′ j) → Reaches d n r f p v → Reaches d n r′ f′ p′ v
 reaches-same {d} {n} {r} {r′} {f} {f′} {p} {p′} {v} s g e w =
     record {
       inside = parts-same s e (w .inside);
@@ -100,7 +86,7 @@ pub order-room : (payoff : List ℕ) → length payoff ≤ 32 → Orderable payo
 order-room payoff h = record { size = lent-size (length payoff) h; few = omega arith }
 
 -- gathered lists and the rules that they were written by
-tab-same : (n : ℕ) (f g : ℕ → ℕ) → SameRow n (rowIn (tab n f) (tab n g)) (record { lower = f; upper = g })
+tab-same : (n : ℕ) (f g : ℕ → ℕ) → Agree n (rowIn (tab n f) (tab n g)) (record { lower = f; upper = g })
 tab-same n f g = record { lower = λ j l. getD-tab n f j 0 l; upper = λ j l. getD-tab n g j 0 l }
 
 module _ {rules lowers uppers payoff row : List ℕ} (able : Solvable rules lowers uppers payoff row) where
@@ -131,7 +117,7 @@ module _ {rules lowers uppers payoff row : List ℕ} (able : Solvable rules lowe
           rows = able .rows ∙ sym (length-tab n (gathered rules lowers));
           sound =
               subst (λ k. SoundRow k (rowIn low high)) (sym (length-tab n (gathered rules lowers)))
-              (sound-same (same-back (tab-same n (gathered rules lowers) (gathered rules uppers))) (able .sound));
+              (sound-same n _ _ (same-back (tab-same n (gathered rules lowers) (gathered rules uppers))) (able .sound));
           small = λ j l. able .small j (omega (arith, length-tab n (gathered rules lowers)));
           arranged = arranged;
         }

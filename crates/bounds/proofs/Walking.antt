@@ -5,18 +5,17 @@ use mathlib.Core.Path.{_≡_, refl, ap, sym, _∙_, subst}
 use mathlib.Core.Logic.{_⊎_, inl, inr, ⊎-elim}
 use mathlib.Core.Bool.{Bool, true, false}
 use mathlib.Core.List.{List}
-use native.Mathlib.Decide.{ℕ-discrete, decLt, decLe}
-use native.Mathlib.Nat.{le-refl, le-trans, mul-le-mul-left, mul-le-mul-right}
+use native.Mathlib.Decide.{ℕ-discrete, decLe}
+use native.Mathlib.Nat.{le-refl, mul-le-mul-left, mul-le-mul-right}
 use native.Mathlib.Omega.{arith}
-use native.Mathlib.Numerals.{add-one}
 use lib.Dec.{eqb}
 use lib.ListN.{length, set, length-set}
-use borrow.Author.Tests.{eq-eqb, ne-eqb}
+use borrow.Author.Tests.{eq-eqb}
 use lib.Seq.{getD-set-same, getD-set-other, ext-getD}
 use Rattle.setchain.specs.Sums.{sumTo, onlyIf, dot}
 use Rattle.setchain.specs.Rows.{ONE, IntervalRow, SoundRow}
 use Rattle.setchain.specs.Step.{room}
-use Rattle.setchain.specs.Laws.Sums.{onlyIf-true, onlyIf-false, onlyIf-le, sumTo-eq, sumTo-le, sumTo-add, sumTo-scale, sumTo-swap, sumTo-point, term-le, sumTo-zero, eqb-flip}
+use Rattle.setchain.specs.Laws.Sums.{onlyIf-true, sumTo-eq, sumTo-add, sumTo-scale, sumTo-swap, sumTo-point, term-le, eqb-flip}
 use Rattle.scheme.specs.Tables.{tab}
 use Rattle.scheme.specs.Laws.Tab.{length-tab, getD-tab}
 use Rattle.bounds.specs.Lists.{at, rowIn, Agree}
@@ -25,7 +24,7 @@ use Rattle.bounds.specs.Fill.{Filled, Pourable}
 use Rattle.bounds.specs.Step.{Steppable}
 use Rattle.bounds.specs.Figure.{rounded, stepFigure, LARGEST}
 use Rattle.bounds.specs.Walk.{leftAt, sumAt}
-use Rattle.bounds.proofs.Summing.{sumTo-more, sumTo-front, sumTo-change, sumTo-set}
+use Rattle.bounds.proofs.Summing.{sumTo-front, sumTo-change}
 use Rattle.bounds.proofs.Agreeing.{sound-same, step-same-row}
 use Rattle.bounds.proofs.Sorting.{arranged-placed}
 use Rattle.bounds.proofs.Filling.{Filling, filling-none, filling-more, filling-last}

@@ -8,7 +8,6 @@ ghost use mathlib.Core.Path.{_≡_};
 ghost use Prim.Native.Nat.{_≤_};
 ghost use lib.Dec.{ltb};
 ghost use Rattle.scheme.specs.Tables.{anyBelow};
-ghost use Rattle.scheme.specs.Cause.{outside};
 ghost use Rattle.bounds.specs.Lists.{at};
 ghost use Rattle.bounds.specs.Solve.{Answerable, Made, Solvable, Solved};
 ghost use Rattle.bounds.specs.StepAnswer.{StepAnswered, stepCause};

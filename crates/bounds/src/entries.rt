@@ -58,7 +58,7 @@ fn list_row(
 }
 
 // Lists the entries of all rows of n states, and writes the parts that each row's lowers leave.
-pub fn list_rows(
+fn list_rows(
     rules: &[u8],
     lowers: &[u32],
     uppers: &[u32],

@@ -1,11 +1,10 @@
 // The figure of a row: the sum of part times payoff over ONE, rounded.
 ghost use mathlib.Core.Path.{_≡_};
-ghost use Prim.Native.Nat.{_*_, _≤_};
+ghost use Prim.Native.Nat.{_*_};
 ghost use lib.ListN.{length};
 ghost use Rattle.setchain.specs.Sums.{dot};
-ghost use Rattle.setchain.specs.Rows.{ONE};
 ghost use Rattle.bounds.specs.Lists.{at};
-ghost use Rattle.bounds.specs.Figure.{LARGEST, Weighable, Weighed, rounded};
+ghost use Rattle.bounds.specs.Figure.{Weighable, Weighed, rounded};
 
 // The sum of part times payoff.
 fn weigh(row: &[u64], payoff: &[u64]) -> u64

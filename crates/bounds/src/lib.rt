@@ -5,8 +5,7 @@ ghost use mathlib.Core.Bool.{true, false};
 ghost use Rattle.bounds.specs.StepAnswer.{StepAnswered};
 ghost use Rattle.bounds.specs.Answers.{highShares, lowShares, meanAnswer, shareAnswer, sheetCause, sheetSlice, totalAnswer};
 ghost use Rattle.bounds.specs.Table.{highTable, lowTable, tableCause};
-ghost use Rattle.bounds.specs.Promises.{MeanPromise, SharePromise, SheetPromise, TotalPromise};
-ghost use Rattle.bounds.specs.Promises.{FiguresPromise};
+ghost use Rattle.bounds.specs.Promises.{FiguresPromise, MeanPromise, SharePromise, SheetPromise, TotalPromise};
 
 mod answer_step;
 mod entries;

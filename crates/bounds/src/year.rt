@@ -1,8 +1,9 @@
 // One year: the figures of all classes from those of the year before (document 01, "Years").
 use crate::order::sort;
 use crate::order::state;
+use crate::payoffs::wide;
 ghost use mathlib.Core.Path.{_≡_};
-ghost use Prim.Native.Nat.{min, _≤_};
+ghost use Prim.Native.Nat.{min};
 ghost use lib.ListN.{length};
 ghost use Rattle.bounds.specs.Order.{Placed};
 ghost use Rattle.bounds.specs.Entries.{chainListed};
@@ -14,13 +15,6 @@ fn index(x: u8) -> usize
     ensures { λ r. ⌜ r ≡ x ⌝ }
 {
     x as usize
-}
-
-// A 32-bit number in 64 bits.
-fn wide(x: u32) -> u64
-    ensures { λ r. ⌜ (r ≡ x) × (r ≤ 4294967295) ⌝ }
-{
-    x as u64
 }
 
 // The smaller of two numbers of parts.

@@ -1,1 +1,3 @@
 pub mod Direction
+pub mod Examples
+pub mod Laws

@@ -1,7 +1,6 @@
 -- `start_figure` takes the start class's figure from the lists of the scheme's entries.
 -- Assumes nothing.
 use Rattle.bounds.proofs.Starting.{scheme-starts, scheme-figure}
-use borrow.Author.Needs.{needs}
 use Rattle.bounds.proofs.start.start_figure.Statement.{statement}
 use Rattle.bounds.proofs.start.start_figure.Tie as tie
 

@@ -1,20 +1,23 @@
 -- `settle` makes figures from the front on.
 -- Assumes nothing.
-use Prim.Native.Nat.{_-_}
+use Prim.Native.Nat.{_+_, _-_}
+use mathlib.Core.Path.{ap}
 use native.Mathlib.Omega.{arith}
 use lib.ListN.{length}
-use Rattle.bounds.proofs.Passing.{Settling, settling-none, settling-fits, settling-more, settling-all}
+use Rattle.bounds.specs.Lists.{at}
+use Rattle.bounds.proofs.Writing.{Rewritten, rewritten-none, rewritten-more}
+use Rattle.bounds.proofs.Passing.{settled, settling-fits, settling-all}
 use Rattle.bounds.proofs.year.settle.Statement.{statement}
 use Rattle.bounds.proofs.year.settle.Tie as tie
 
 abbrev Inv-loop : tie.InvT-loop
-Inv-loop gain falling sums₀ i₀ sums i = Settling gain falling sums₀ sums i
+Inv-loop gain falling sums₀ i₀ sums i = Rewritten (length gain) (settled gain falling) sums₀ sums i
 
 abbrev μ-loop : tie.MeasureT-loop
 μ-loop gain falling sums₀ i₀ sums i = length gain - i
 
 loop-holds : tie.Need-loop-holds Inv-loop μ-loop
-loop-holds c = settling-none (c .before .before .pre)
+loop-holds c = rewritten-none (c .before .before .pre .size)
 
 mul-sums : tie.Need-mul-sums Inv-loop μ-loop
 mul-sums c = omega arith
@@ -32,7 +35,7 @@ round-requires : tie.Need-round-requires Inv-loop μ-loop
 round-requires c κs = tt
 
 add-sums : tie.Need-add-sums Inv-loop μ-loop
-add-sums c = settling-fits (c .before .before .before .before .before .before .before .pre) (c .before .before .before .before .loop .inv) (omega arith) (c .round .ensures)
+add-sums c = settling-fits (c .before .before .before .before .before .before .before .args .falling) (c .before .before .before .before .before .before .before .pre) (c .before .before .before .before .loop .inv) (omega arith) (c .round .ensures)
 
 mul-sums-2 : tie.Need-mul-sums-2 Inv-loop μ-loop
 mul-sums-2 c = omega arith
@@ -47,13 +50,13 @@ loop-less : tie.Need-loop-less Inv-loop μ-loop
 loop-less c = omega arith
 
 loop-again : tie.Need-loop-again Inv-loop μ-loop
-loop-again c = settling-more (c .before .before .before .before .before .before .before .pre) (c .before .before .before .before .loop .inv) (omega arith) (c .round .ensures)
+loop-again c = rewritten-more _ _ _ (c .before .before .before .before .loop .sums) _ _ (omega arith) (ap (λ x. at (c .before .before .before .before .before .before .before .args .gain .now) (c .before .before .before .before .loop .i) + x) (c .round .ensures)) (c .before .before .before .before .loop .inv)
 
 same-length : tie.Need-same-length Inv-loop μ-loop
 same-length c = omega (arith, c .before .loop .inv .size, c .before .before .before .before .pre .size)
 
 returns : tie.Need-returns Inv-loop μ-loop
-returns c = settling-all (c .before .before .before .before .pre) (omega arith) (c .before .loop .inv)
+returns c = settling-all (c .before .before .before .before .args .falling) (c .before .before .before .before .pre) (c .before .loop .inv) (omega arith)
 
 pub settle-spec : {M : Type 1} → statement M
 settle-spec =
