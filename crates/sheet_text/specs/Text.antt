@@ -9,6 +9,10 @@ unfoldable pub digitsWithin : ℕ → ℕ → List ℕ
 digitsWithin zero x = []
 digitsWithin (suc most) x = cond (ltb x 10) ((48 + x) ∷ []) (digitsWithin most (x / 10) ++ ((48 + x % 10) ∷ []))
 
+-- the two digits of a number below 100
+abbrev pub twoDigits : ℕ → List ℕ
+twoDigits x = (48 + x / 10) ∷ (48 + x % 10) ∷ []
+
 -- "Numbers print in decimal without leading zeros": a 64-bit number has at most 20 digits
 abbrev pub decimal : ℕ → List ℕ
 decimal x = digitsWithin 20 x

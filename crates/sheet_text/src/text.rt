@@ -1,7 +1,8 @@
 // Words and numbers put into a lent slice: each function answers the place after its text.
 ghost use mathlib.Core.Path.{_≡_};
-ghost use Prim.Native.Nat.{_+_, _<_};
-ghost use Rattle.sheet_text.specs.Text.{digitsWithin, decimal, field, newline};
+ghost use Prim.Native.Nat.{_+_, _*_, _≤_, _<_};
+ghost use lib.ListN.{length};
+ghost use Rattle.sheet_text.specs.Text.{digitsWithin, twoDigits, decimal, field, newline};
 ghost use Rattle.sheet_text.specs.Put.{Put, Room};
 
 // puts the bytes of a word
@@ -25,21 +26,33 @@ fn digit(x: u64) -> u8
     (48 + x) as u8
 }
 
-// puts the digits of a number, by recursion on how many there may be
-fn put_digits(out: &mut [u8], at: usize, x: u64, most: u64) -> usize
-    requires { ⌜ Room (now out) at (digitsWithin most x) ⌝ }
-    ensures { λ r. ⌜ Put (now (out .entry)) at (digitsWithin most x) (now (out .exit)) r ⌝ }
+// puts the two digits of a number below 100
+fn put_two(out: &mut [u8], at: usize, x: u64) -> usize
+    requires { ⌜ (x < 100) × (at + 2 ≤ length (now out)) ⌝ }
+    ensures { λ r. ⌜ Put (now (out .entry)) at (twoDigits x) (now (out .exit)) r ⌝ }
 {
-    if most == 0 {
+    out[at] = digit(x / 10);
+    out[at + 1] = digit(x % 10);
+    at + 2
+}
+
+// puts the digits of a number, two at a time, by recursion on how many pairs of them there may be
+fn put_pairs(out: &mut [u8], at: usize, x: u64, pairs: u64) -> usize
+    requires { ⌜ Room (now out) at (digitsWithin (pairs * 2) x) ⌝ }
+    ensures { λ r. ⌜ Put (now (out .entry)) at (digitsWithin (pairs * 2) x) (now (out .exit)) r ⌝ }
+{
+    if pairs == 0 {
         return at;
     }
     if x < 10 {
         out[at] = digit(x);
         return at + 1;
     }
-    let to = put_digits(out, at, x / 10, most - 1);
-    out[to] = digit(x % 10);
-    to + 1
+    if x < 100 {
+        return put_two(out, at, x);
+    }
+    let to = put_pairs(out, at, x / 100, pairs - 1);
+    put_two(out, to, x % 100)
 }
 
 // puts a number in decimal
@@ -47,7 +60,7 @@ pub fn put_number(out: &mut [u8], at: usize, x: u64) -> usize
     requires { ⌜ Room (now out) at (decimal x) ⌝ }
     ensures { λ r. ⌜ Put (now (out .entry)) at (decimal x) (now (out .exit)) r ⌝ }
 {
-    put_digits(out, at, x, 20)
+    put_pairs(out, at, x, 10)
 }
 
 // puts a space and a number

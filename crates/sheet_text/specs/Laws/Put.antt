@@ -1,7 +1,7 @@
 -- Texts put one after another.
-use Prim.Native.Nat.{ℕ, zero, suc, _+_, _-_, _/_, _%_, _≤_, _<_}
-use mathlib.Core.Path.{_≡_, refl, ap, _∙_}
-use mathlib.Core.List.{List, [], _∷_, _++_}
+use Prim.Native.Nat.{ℕ, zero, suc, _+_, _-_, _*_, _/_, _%_, _≤_, _<_}
+use mathlib.Core.Path.{_≡_, refl, ap, ap₂, _∙_}
+use mathlib.Core.List.{List, [], _∷_, _++_, append-assoc}
 use native.Mathlib.Omega.{arith}
 use native.Mathlib.Numerals.{add-one}
 use mathlib.Core.Logic.{⊎-elim}
@@ -11,7 +11,7 @@ use lib.ListN.{length, getD, take, set, length-append}
 use lib.Seq.{sets, length-sets, length-take-le, take-length, take-suc}
 use Rattle.record.specs.Joined.{joined}
 use Rattle.record.specs.Laws.Lists.{sets-append, sets-more}
-use Rattle.sheet_text.specs.Text.{digitsWithin}
+use Rattle.sheet_text.specs.Text.{digitsWithin, twoDigits}
 use Rattle.sheet_text.specs.Put.{Room, Put}
 
 -- the slice keeps its length
@@ -25,6 +25,10 @@ put-none l at = record { holds = refl; place = omega arith }
 -- one byte
 pub put-one : (l : List ℕ) (at x : ℕ) → Put l at (x ∷ []) (set l at x) (at + 1)
 put-one l at x = record { holds = refl; place = omega arith }
+
+-- two digits, the tens' first
+pub two-put : {l : List ℕ} {at a b : ℕ} (x : ℕ) → a ≡ 48 + x / 10 → b ≡ 48 + x % 10 → Put l at (twoDigits x) (set (set l at a) (at + 1) b) (at + 2)
+two-put {l} {at} x e f = rw (e, f) (record { holds = simp add-one; place = omega arith })
 
 -- one text and then the next
 pub put-then : {l : List ℕ} {at : ℕ} {a m : List ℕ} {k : ℕ} {b n : List ℕ} {to : ℕ} → Put l at a m k → Put m k b n to → Put l at (a ++ b) n to
@@ -61,28 +65,50 @@ digits-more : (most x : ℕ) → 0 < most → 10 ≤ x → digitsWithin most x �
 unfolding digitsWithin
 digits-more (suc most) x h l = let e : suc most - 1 ≡ most = omega arith in rw e (simp (le-ltb x 10 l))
 
--- no digit, one digit, and a digit after the others
-module _ {l : List ℕ} {at : ℕ} (most x : ℕ) where
-  pub digits-put-none : most ≡ 0 → Put l at (digitsWithin most x) l at
+-- two digits, and two after the others
+digits-two : (pairs x : ℕ) → 0 < pairs → 10 ≤ x → x < 100 → digitsWithin (pairs * 2) x ≡ twoDigits x
+digits-two pairs x h k l =
+    let one : digitsWithin (pairs * 2 - 1) (x / 10) ≡ (48 + x / 10) ∷ [] = digits-one (pairs * 2 - 1) (x / 10) (omega arith) (omega arith) in
+    digits-more (pairs * 2) x (omega arith) k ∙ ap (λ d. d ++ ((48 + x % 10) ∷ [])) one
+
+digits-pair : (pairs x : ℕ) → 0 < pairs → 100 ≤ x → digitsWithin (pairs * 2) x ≡ digitsWithin ((pairs - 1) * 2) (x / 100) ++ twoDigits (x % 100)
+digits-pair pairs x h k =
+    let rest : digitsWithin (pairs * 2 - 1 - 1) (x / 10 / 10) ≡ digitsWithin ((pairs - 1) * 2) (x / 100) = ap₂ digitsWithin (omega arith) (omega arith) in
+    let two : (48 + x / 10 % 10) ∷ (48 + x % 10) ∷ [] ≡ twoDigits (x % 100) = ap₂ (λ a b. a ∷ b ∷ []) (omega arith) (omega arith) in
+    digits-more (pairs * 2) x (omega arith) (omega arith)
+    ∙ ap (λ d. d ++ ((48 + x % 10) ∷ [])) (digits-more (pairs * 2 - 1) (x / 10) (omega arith) (omega arith))
+    ∙ append-assoc (digitsWithin (pairs * 2 - 1 - 1) (x / 10 / 10)) ((48 + x / 10 % 10) ∷ []) ((48 + x % 10) ∷ [])
+    ∙ ap₂ _++_ rest two
+
+-- no digit, one digit, two digits, and two after the others
+module _ {l : List ℕ} {at : ℕ} (pairs x : ℕ) where
+  pub digits-put-none : pairs ≡ 0 → Put l at (digitsWithin (pairs * 2) x) l at
   unfolding digitsWithin
   digits-put-none e = rw e (put-none l at)
 
-  pub digits-put-one : {d : ℕ} → 0 < most → x < 10 → d ≡ 48 + x → Put l at (digitsWithin most x) (set l at d) (at + 1)
-  digits-put-one h k e = rw (digits-one most x h k, e) (put-one l at (48 + x))
+  pub digits-put-one : {d : ℕ} → 0 < pairs → x < 10 → d ≡ 48 + x → Put l at (digitsWithin (pairs * 2) x) (set l at d) (at + 1)
+  digits-put-one h k e = rw (digits-one (pairs * 2) x (omega arith) k, e) (put-one l at (48 + x))
 
-  pub digits-room-one : 0 < most → x < 10 → Room l at (digitsWithin most x) → at < length l
-  digits-room-one h k r = let size : length (digitsWithin most x) ≡ 1 = ap length (digits-one most x h k) in omega (arith, size, r .fits)
+  pub digits-room-one : 0 < pairs → x < 10 → Room l at (digitsWithin (pairs * 2) x) → at < length l
+  digits-room-one h k r = let size : length (digitsWithin (pairs * 2) x) ≡ 1 = ap length (digits-one (pairs * 2) x (omega arith) k) in omega (arith, size, r .fits)
 
-  pub digits-room : 0 < most → 10 ≤ x → Room l at (digitsWithin most x) → Room l at (digitsWithin (most - 1) (x / 10))
-  digits-room h k r = room-first ((48 + x % 10) ∷ []) (rw (digits-more most x h k) at r)
+  pub digits-put-two : {m : List ℕ} {to : ℕ} → 0 < pairs → 10 ≤ x → x < 100 → Put l at (twoDigits x) m to → Put l at (digitsWithin (pairs * 2) x) m to
+  digits-put-two h k b p = rw (digits-two pairs x h k b) p
 
-  pub digits-room-more : {m : List ℕ} {to : ℕ} → 0 < most → 10 ≤ x → Room l at (digitsWithin most x) → Put l at (digitsWithin (most - 1) (x / 10)) m to → to < length m
+  pub digits-room-two : 0 < pairs → 10 ≤ x → x < 100 → Room l at (digitsWithin (pairs * 2) x) → at + 2 ≤ length l
+  digits-room-two h k b r = let size : length (digitsWithin (pairs * 2) x) ≡ 2 = ap length (digits-two pairs x h k b) in omega (arith, size, r .fits)
+
+  pub digits-room : 0 < pairs → 100 ≤ x → Room l at (digitsWithin (pairs * 2) x) → Room l at (digitsWithin ((pairs - 1) * 2) (x / 100))
+  digits-room h k r = room-first (twoDigits (x % 100)) (rw (digits-pair pairs x h k) at r)
+
+  pub digits-room-more : {m : List ℕ} {to : ℕ} → 0 < pairs → 100 ≤ x → Room l at (digitsWithin (pairs * 2) x)
+      → Put l at (digitsWithin ((pairs - 1) * 2) (x / 100)) m to → to + 2 ≤ length m
   digits-room-more h k r p =
-      let last : Room _ _ ((48 + x % 10) ∷ []) = room-next p (rw (digits-more most x h k) at r) in omega (arith, last .fits)
+      let last : Room _ _ (twoDigits (x % 100)) = room-next p (rw (digits-pair pairs x h k) at r) in omega (arith, last .fits)
 
-  pub digits-put-more : {m : List ℕ} {to d : ℕ} → 0 < most → 10 ≤ x → Put l at (digitsWithin (most - 1) (x / 10)) m to → d ≡ 48 + x % 10
-      → Put l at (digitsWithin most x) (set m to d) (to + 1)
-  digits-put-more {m} {to} h k p e = rw (digits-more most x h k, e) (put-then p (put-one m to (48 + x % 10)))
+  pub digits-put-more : {m n : List ℕ} {to end : ℕ} → 0 < pairs → 100 ≤ x → Put l at (digitsWithin ((pairs - 1) * 2) (x / 100)) m to
+      → Put m to (twoDigits (x % 100)) n end → Put l at (digitsWithin (pairs * 2) x) n end
+  digits-put-more h k p q = rw (digits-pair pairs x h k) (put-then p q)
 
 -- lists one after another: none, one more, and room for it
 pub joined-none : (f : ℕ → List ℕ) (l : List ℕ) (at : ℕ) → Put l at (joined 0 f) l at
