@@ -5,7 +5,7 @@
  * 3 s or m out of range, 4 a wrong length, 5 start, 6 horizon, 7 a rule,
  * 8 a band, 9 the bands' sums, 10 a premium or a payoff, 11 the class asked
  * for, 12 the year asked for, 13 a lent buffer, 14 the ready scheme's number,
- * 15 the base.
+ * 15 the base. Cause 13 is tested last, also after 14 and 15.
  *
  * Lent buffers are filled only where the answer is 0, and otherwise left as
  * they were. A buffer passes as a pointer and its length in elements. A

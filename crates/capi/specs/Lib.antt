@@ -5,3 +5,4 @@ pub mod Texts
 pub mod Records
 pub mod Rows
 pub mod Steps
+pub mod Examples

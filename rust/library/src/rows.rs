@@ -5,6 +5,20 @@ use crate::answer;
 
 /// The functions of the archive; a slice passes as a pointer and its length.
 mod archive {
+    /// What both steps take: the record, the payoff, the class, the figure's
+    /// slice and the row's.
+    pub type Step = unsafe extern "C" fn(
+        *const u8,
+        usize,
+        *const u64,
+        usize,
+        u64,
+        *mut u64,
+        usize,
+        *mut u64,
+        usize,
+    ) -> u8;
+
     extern "C" {
         pub fn joguyvi_row(
             bytes: *const u8,
@@ -73,9 +87,9 @@ pub fn row(record: &[u8], class: u64, lower: &mut [u64], upper: &mut [u64]) -> R
     })
 }
 
-/// The low figure of a class for a payoff of 32 numbers into a slice of 1
-/// number, and a row that reaches it unrounded into one of 32.
-pub fn low_step(
+/// One of the archive's two steps, on slices.
+fn step(
+    of_archive: archive::Step,
     record: &[u8],
     payoff: &[u64],
     class: u64,
@@ -85,7 +99,7 @@ pub fn low_step(
     // SAFETY: the pointers and lengths are those of slices; `figure` and `row`
     // are lent alone.
     answer(unsafe {
-        archive::joguyvi_low_step(
+        of_archive(
             record.as_ptr(),
             record.len(),
             payoff.as_ptr(),
@@ -99,6 +113,18 @@ pub fn low_step(
     })
 }
 
+/// The low figure of a class for a payoff of 32 numbers into a slice of 1
+/// number, and a row that reaches it unrounded into one of 32.
+pub fn low_step(
+    record: &[u8],
+    payoff: &[u64],
+    class: u64,
+    figure: &mut [u64],
+    row: &mut [u64],
+) -> Result<(), u8> {
+    step(archive::joguyvi_low_step, record, payoff, class, figure, row)
+}
+
 /// The high figure of a class, as `low_step` for the low one.
 pub fn high_step(
     record: &[u8],
@@ -107,21 +133,7 @@ pub fn high_step(
     figure: &mut [u64],
     row: &mut [u64],
 ) -> Result<(), u8> {
-    // SAFETY: the pointers and lengths are those of slices; `figure` and `row`
-    // are lent alone.
-    answer(unsafe {
-        archive::joguyvi_high_step(
-            record.as_ptr(),
-            record.len(),
-            payoff.as_ptr(),
-            payoff.len(),
-            class,
-            figure.as_mut_ptr(),
-            figure.len(),
-            row.as_mut_ptr(),
-            row.len(),
-        )
-    })
+    step(archive::joguyvi_high_step, record, payoff, class, figure, row)
 }
 
 /// The rule row of a class into a slice of m bytes.
