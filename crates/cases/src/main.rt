@@ -75,70 +75,76 @@ fn plain() -> Scheme {
     }
 }
 
+// A word and the first cause of a scheme.
+fn cause(word: &[u8], s: Scheme) {
+    line(word, wide(scheme::cause(s)));
+}
+
 // The edges of acceptance.
 fn edges() {
-    line(
-        b"LOWERS ONE, PREMIUM 10000000, HORIZON 100",
-        scheme::cause(plain()) as u64,
-    );
+    cause(b"LOWERS ONE, PREMIUM 10000000, HORIZON 100", plain());
     let mut s = plain();
     s.lowers[1] = 500_000_001;
-    line(b"LOWERS ONE AND 1", scheme::cause(s) as u64);
+    cause(b"LOWERS ONE AND 1", s);
     s = plain();
     s.premiums[0] = 10_000_001;
-    line(b"PREMIUM 10000001", scheme::cause(s) as u64);
+    cause(b"PREMIUM 10000001", s);
     s = plain();
     s.horizon = 101;
-    line(b"HORIZON 101", scheme::cause(s) as u64);
+    cause(b"HORIZON 101", s);
 }
 
 // Schemes that are refused, by number.
-fn refusals() {
+fn refused_schemes() {
     let mut s = plain();
     s.columns = 9;
-    line(b"COLUMNS 9", scheme::cause(s) as u64);
+    cause(b"COLUMNS 9", s);
     s = plain();
     s.start = 2;
-    line(b"START 2 OF 1", scheme::cause(s) as u64);
+    cause(b"START 2 OF 1", s);
     s = plain();
     s.rules[1] = 2;
-    line(b"RULE 2 OF 1", scheme::cause(s) as u64);
+    cause(b"RULE 2 OF 1", s);
     s = plain();
     s.lowers[0] = 600_000_001;
-    line(b"LOWER ABOVE UPPER", scheme::cause(s) as u64);
+    cause(b"LOWER ABOVE UPPER", s);
     s = plain();
     s.uppers[0] = 4_294_967_295;
-    line(b"UPPER ABOVE ONE", scheme::cause(s) as u64);
-    line(
-        b"ROW OF CLASS 2 OF 1",
-        scheme::row(plain(), 2).number as u64,
-    );
-    answer(b"SHARE OF CLASS 2 OF 1", bounds::share(plain(), 2, 101));
-    answer(b"SHARE IN YEAR 101", bounds::share(plain(), 1, 101));
-    answer(b"TOTAL IN YEAR 101", bounds::total(plain(), 101));
+    cause(b"UPPER ABOVE ONE", s);
 }
 
-// Ready schemes: where claims lead, and the refusals.
-fn ready_schemes() {
+// Queries that are refused, by number.
+fn refused_queries(s: Scheme) {
+    line(b"ROW OF CLASS 2 OF 1", wide(scheme::row(s, 2).number));
+    answer(b"SHARE OF CLASS 2 OF 1", bounds::share(s, 2, 101));
+    answer(b"SHARE IN YEAR 101", bounds::share(s, 1, 101));
+    answer(b"TOTAL IN YEAR 101", bounds::total(s, 101));
+}
+
+// The first ready scheme: where claims lead, and premiums.
+fn ready_one() {
     let answer = ready::ready(1, 100_000);
     let rules = answer.scheme.rules;
     let premiums = answer.scheme.premiums;
-    line(b"READY 1", answer.number as u64);
+    line(b"READY 1", wide(answer.number));
     line(b"CLASS 10 WITH 3 CLAIMS", wide(rules[75]));
     line(b"CLASS 10 WITH 4 CLAIMS", wide(rules[76]));
     line(b"CLASS 1 WITH NONE", wide(rules[0]));
     line(b"PREMIUM OF CLASS 1", wider(premiums[0]));
     line(b"PREMIUM OF CLASS 18", wider(premiums[17]));
-    line(b"CAUSE", scheme::cause(answer.scheme) as u64);
-    line(b"READY 0", ready::ready(0, 2_500_001).number as u64);
-    line(
-        b"READY 3, BASE 2500000",
-        ready::ready(3, 2_500_000).number as u64,
-    );
-    line(
-        b"READY 3, BASE 2500001",
-        ready::ready(3, 2_500_001).number as u64,
-    );
+    cause(b"CAUSE", answer.scheme);
+}
+
+// A word and the number of a ready scheme's answer.
+fn ready_number(word: &[u8], number: u64, base: u64) {
+    line(word, wide(ready::ready(number, base).number));
+}
+
+// Ready schemes at the edges of their number and base.
+fn ready_edges() {
+    ready_number(b"READY 0", 0, 2_500_001);
+    ready_number(b"READY 3, BASE 2500000", 3, 2_500_000);
+    ready_number(b"READY 3, BASE 2500001", 3, 2_500_001);
 }
 
 // Example A's record.
@@ -200,23 +206,27 @@ fn first(bytes: &[u8], n: usize) -> u64 {
     wide(record::read(&bytes[..n]).number)
 }
 
+// A word and the cause of Example A's record with another byte at a place.
+fn changed(word: &[u8], at: usize, x: u8) {
+    if 45 <= at {
+        return;
+    }
+    let mut b = example();
+    b[at] = x;
+    line(word, first(&b, 45));
+}
+
 // Damaged records, by number.
 fn damaged() {
     let a = example();
     line(b"NO BYTE", first(&a, 0));
     line(b"6 BYTES", first(&a, 6));
     line(b"44 BYTES", first(&a, 44));
-    let mut b = example();
-    b[0] = 2;
-    line(b"VERSION 2", record::read(&b).number as u64);
-    b = example();
-    b[3] = 33;
-    line(b"33 CLASSES", record::read(&b).number as u64);
-    b = example();
-    b[4] = 4;
-    line(b"4 COLUMNS IN 45 BYTES", record::read(&b).number as u64);
+    changed(b"VERSION 2", 0, 2);
+    changed(b"33 CLASSES", 3, 33);
+    changed(b"4 COLUMNS IN 45 BYTES", 4, 4);
     let long = [1u8; 456];
-    line(b"456 BYTES", record::read(&long).number as u64);
+    line(b"456 BYTES", first(&long, 456));
 }
 
 // A part of bytes as numbers.
@@ -235,40 +245,49 @@ fn rules(word: &[u8], bytes: &[u8], class: u64) {
     shown(word, record::rule_row(bytes, class));
 }
 
-// Example A read and written, and its rule rows.
-fn example_a(bytes: &[u8]) {
-    let answer = record::read(bytes);
-    line(b"READ", answer.number as u64);
+// Example A written into too few bytes and into more than enough.
+fn written(s: Scheme) {
     let mut short = [170u8; 44];
-    wrote(b"WRITE INTO 44", record::write(answer.scheme, &mut short));
+    wrote(b"WRITE INTO 44", record::write(s, &mut short));
     shown(b"LEFT", &short);
     let mut out = [170u8; 50];
-    wrote(b"WRITE INTO 50", record::write(answer.scheme, &mut out));
+    wrote(b"WRITE INTO 50", record::write(s, &mut out));
     shown(b"RECORD AND WHAT IS PAST IT", &out);
+}
+
+// Example A's rule rows.
+fn rules_a(bytes: &[u8]) {
     rules(b"RULES OF CLASS 1", bytes, 1);
     rules(b"RULES OF CLASS 2", bytes, 2);
     rules(b"RULES OF CLASS 3", bytes, 3);
 }
 
 // Example A's bounds.
-fn bounds_a() {
-    let a = example();
-    let s = record::read(&a).scheme;
+fn bounds_a(s: Scheme) {
     answer(b"SHARE OF CLASS 1 AFTER 2", bounds::share(s, 1, 2));
     answer(b"SHARE OF CLASS 2 AFTER 2", bounds::share(s, 2, 2));
     answer(b"MEAN OF YEAR 2", bounds::mean(s, 2));
     answer(b"TOTAL OF 2", bounds::total(s, 2));
+}
+
+// A share sheet of Example A for which one slice is too long.
+fn long_sheet_a(s: Scheme) {
     let mut long = [7u64; 3];
-    let mut low = [7u64; 2];
     let mut high = [7u64; 2];
     line(
         b"SHEET OF 3 AND 2",
-        bounds::share_sheet(s, 1, &mut long, &mut high) as u64,
+        wide(bounds::share_sheet(s, 1, &mut long, &mut high)),
     );
     line(b"UNTOUCHED", high[0]);
+}
+
+// A share sheet of Example A.
+fn sheet_a(s: Scheme) {
+    let mut low = [7u64; 2];
+    let mut high = [7u64; 2];
     line(
         b"SHEET OF 2 AND 2",
-        bounds::share_sheet(s, 1, &mut low, &mut high) as u64,
+        wide(bounds::share_sheet(s, 1, &mut low, &mut high)),
     );
     line(b"LOW 1", low[0]);
     line(b"LOW 2", low[1]);
@@ -276,34 +295,48 @@ fn bounds_a() {
     line(b"HIGH 2", high[1]);
 }
 
-// The one-year step.
-fn steps() {
-    let a = example();
-    let s = record::read(&a).scheme;
+// A payoff of Example A's two classes; what lies beyond them is ignored.
+fn payoff_a(second: u64) -> [u64; 32] {
     let mut payoff = [2_000_000_000u64; 32];
     payoff[0] = 30;
-    payoff[1] = 10;
-    let low = bounds::low_step(s, payoff, 2);
-    line(b"LOW STEP", low.number as u64);
+    payoff[1] = second;
+    payoff
+}
+
+// The one-year step.
+fn steps(s: Scheme) {
+    let low = bounds::low_step(s, payoff_a(10), 2);
+    line(b"LOW STEP", wide(low.number));
     line(b"FIGURE", low.figure);
     let row = low.row;
     line(b"PART 1", row[0]);
     line(b"PART 2", row[1]);
-    line(b"HIGH STEP", bounds::high_step(s, payoff, 2).figure);
-    payoff[1] = 1_000_000_001;
+    line(b"HIGH STEP", bounds::high_step(s, payoff_a(10), 2).figure);
     line(
         b"PAYOFF ABOVE ITS LIMIT",
-        bounds::high_step(s, payoff, 3).number as u64,
+        wide(bounds::high_step(s, payoff_a(1_000_000_001), 3).number),
     );
+}
+
+// Example A: read, written, its rule rows, bounds and steps.
+fn example_a(bytes: &[u8]) {
+    let answer = record::read(bytes);
+    line(b"READ", wide(answer.number));
+    written(answer.scheme);
+    rules_a(bytes);
+    bounds_a(answer.scheme);
+    long_sheet_a(answer.scheme);
+    sheet_a(answer.scheme);
+    steps(answer.scheme);
 }
 
 fn main() {
     edges();
-    refusals();
-    ready_schemes();
+    refused_schemes();
+    refused_queries(plain());
+    ready_one();
+    ready_edges();
     damaged();
     let a = example();
     example_a(&a);
-    bounds_a();
-    steps();
 }
