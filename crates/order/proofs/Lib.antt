@@ -1,0 +1,5 @@
+-- Laws over plain lists, which the functions' proofs cite.
+pub mod Paying
+pub mod Shifting
+pub mod Comparing
+pub mod Ending

@@ -1,0 +1,3 @@
+pub mod Order
+pub mod Examples
+pub mod Laws
