@@ -14,8 +14,8 @@ use Rattle.setchain.specs.Sums.{sumTo}
 use Rattle.setchain.specs.Rows.{ONE}
 use Rattle.setchain.specs.Laws.Sums.{sumTo-eq}
 use Rattle.setchain.specs.Laws.Fill.{positive-count}
+use Rattle.order.specs.Order.{Stands}
 use Rattle.bounds.specs.Lists.{at}
-use Rattle.bounds.specs.Order.{Stands}
 use Rattle.bounds.specs.Fill.{Fillable, Filled, Pourable}
 use Rattle.bounds.proofs.Summing.{sumTo-set}
 

@@ -13,15 +13,15 @@ use mir.Syntax.{w64}
 use mir.Val.{Fits}
 use Rattle.setchain.specs.Rows.{ONE, IntervalRow, SoundRow}
 use Rattle.setchain.specs.Step.{room}
+use Rattle.order.specs.Order.{Placed, Arranged, sorted}
+use Rattle.order.specs.Laws.Writing.{Rewritten}
+use Rattle.order.specs.Laws.Arranging.{arranged-placed, sorted-holds}
 use Rattle.bounds.specs.Lists.{at}
-use Rattle.bounds.specs.Order.{Placed, Arranged, Sortable}
 use Rattle.bounds.specs.Figure.{rounded, stepFigure, LARGEST}
 use Rattle.bounds.specs.Entries.{sumOf, listedRow, chainListed, Held}
 use Rattle.bounds.specs.Walk.{leftAt, sumAt, taken, Givable, Given, Walkable, Walked, Settleable, Settled}
 use Rattle.bounds.specs.Years.{Yearly, Formed}
-use Rattle.bounds.proofs.Writing.{Rewritten}
 use Rattle.bounds.proofs.Agreeing.{step-same-payoff}
-use Rattle.bounds.proofs.Sorting.{arranged-placed}
 use Rattle.bounds.proofs.Walking.{sum-fits, walk-figure}
 use Rattle.bounds.proofs.Forming.{zeros}
 
@@ -129,13 +129,6 @@ module _ {from lows rooms counts spare gain order before : List ℕ} (w : Yearly
   front-count : length (take (length gain) before) ≡ length gain
   front-count = length-take-le (length gain) before fits
 
-  pub year-sorts : Sortable (take (length gain) before) order
-  year-sorts =
-      record {
-        placed = subst (λ n. Placed n order) (sym front-count) (w .placed);
-        few = omega (arith, front-count, w .held .few);
-      }
-
   pub spare-count : length (take (length gain) spare) ≡ length gain
   spare-count = length-take-le (length gain) spare (w .held .stored)
 
@@ -145,12 +138,18 @@ module _ {from lows rooms counts spare gain order before : List ℕ} (w : Yearly
   spare-at : (i : ℕ) → i < length gain → at (take (length gain) spare) i ≡ at spare i
   spare-at i l = getD-take (length gain) spare i 0 l
 
-  module _ {falling : Bool} {order′ : List ℕ} (sorted : Arranged (take (length gain) before) falling order′) where
+  module _ (falling : Bool) {order′ : List ℕ} (is : order′ ≡ sorted (take (length gain) before) falling order) where
+    -- the order has the classes by the figures before
+    by-payoff : Arranged (take (length gain) before) falling order′
+    by-payoff =
+        subst (Arranged (take (length gain) before) falling) (sym is)
+        (sorted-holds (take (length gain) before) falling order (subst (λ n. Placed n order) (sym front-count) (w .placed)) (omega (arith, front-count, w .held .few)))
+
     small : (j : ℕ) → j < length gain → at (take (length gain) before) j ≤ LARGEST
     small j l = subst (λ x. x ≤ LARGEST) (sym (getD-take (length gain) before j 0 l)) (w .small j l)
 
     pub year-placed : Placed (length gain) order′
-    year-placed = subst (λ n. Placed n order′) front-count (arranged-placed sorted)
+    year-placed = subst (λ n. Placed n order′) front-count (arranged-placed by-payoff)
 
     pub year-walks : Walkable from lows rooms counts (take (length gain) before) order′ (take (length gain) spare) (take (length gain) zeros)
     year-walks =
@@ -165,7 +164,7 @@ module _ {from lows rooms counts spare gain order before : List ℕ} (w : Yearly
                 sound = w .held .sound;
                 whole = λ i l. omega (arith, w .held .whole i l, spare-at i l);
               });
-          placed = arranged-placed sorted;
+          placed = arranged-placed by-payoff;
           small = λ j l. small j (omega (arith, front-count));
           lefts = spare-count ∙ sym front-count;
           size = zero-count ∙ sym front-count;
@@ -211,7 +210,7 @@ module _ {from lows rooms counts spare gain order before : List ℕ} (w : Yearly
               ≡ stepFigure falling (length gain) (listedRow from lows rooms counts i) (at before)
           figure i l =
               walk-figure falling (listedRow from lows rooms counts i) (take (length gain) before) order′ (at (take (length gain) spare) i)
-              (subst (λ n. SoundRow n (listedRow from lows rooms counts i)) (sym front-count) (w .held .sound i l)) sorted
+              (subst (λ n. SoundRow n (listedRow from lows rooms counts i)) (sym front-count) (w .held .sound i l)) by-payoff
               (λ j m. small j (omega (arith, front-count)))
               (year-walks .held .whole i (omega (arith, front-count)))
               ∙ ap (λ n. stepFigure falling n (listedRow from lows rooms counts i) (at (take (length gain) before))) front-count

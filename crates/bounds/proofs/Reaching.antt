@@ -14,12 +14,13 @@ use Rattle.setchain.specs.Step.{Parts}
 use Rattle.setchain.specs.Certificate.{LowCertificate, HighCertificate}
 use Rattle.setchain.specs.Laws.Certificate.{low-certified, high-certified}
 use Rattle.setchain.specs.Laws.Step.{low-reached, high-reached, low-step-at-most, high-step-at-most}
+use Rattle.order.specs.Order.{NotAfter, payoffAt, Stands}
+use Rattle.order.specs.Laws.Sinking.{not-after-refl}
+use Rattle.order.specs.Laws.Arranging.{arranged-placed}
 use Rattle.bounds.specs.Lists.{at, rowIn}
-use Rattle.bounds.specs.Order.{NotAfter, payoffAt, Stands}
 use Rattle.bounds.specs.Fill.{Fillable, Filled}
 use Rattle.bounds.specs.Figure.{rounded, stepFigure, Weighable}
 use Rattle.bounds.specs.Step.{Steppable, Stepped}
-use Rattle.bounds.proofs.Sorting.{not-after-refl, arranged-placed}
 
 -- what the fill asks
 pub step-fills : {lower upper payoff order : List ℕ} {d : Bool} {row : List ℕ} → Steppable lower upper payoff order d row → Fillable lower upper order row
@@ -58,16 +59,14 @@ module _ {lower upper payoff order : List ℕ} {d : Bool} {row₀ row : List ℕ
     where
       by : (p : Stands order (length payoff) j) → at order (p .place) - 1 ≡ j → Dec (p .place < stop) → at row j ≡ at upper j
       by p e (yes z) = rw e at (w .full (p .place) z)
-      by p e (no z) = absurd (h (rw e at (by-place stop (p .place) (omega arith) (omega (arith, s .payoffs, p .early)))))
+      by p e (no z) = absurd (h (rw (p .held) at (by-place stop (p .place) (omega arith) (omega (arith, s .payoffs, p .early)))))
 
   -- a class that comes after it is bare
   after-bare : (j : ℕ) → j < length lower → (NotAfter d (at payoff j) (payoffAt payoff order stop) → ⊥) → at row j ≡ at lower j
   after-bare j l h =
       ⊎-elim
       (λ b. b)
-      (λ p.
-      let e : at order (p .place) - 1 ≡ j = omega (arith, p .held) in
-      absurd (h (rw e at (by-place (p .place) stop (omega (arith, p .early)) (w .stops)))))
+      (λ p. absurd (h (rw (p .held) at (by-place (p .place) stop (omega (arith, p .early)) (w .stops)))))
       (w .rest j l)
 
 -- a filled row's certificate, for a low figure and for a high one

@@ -16,12 +16,12 @@ use Rattle.scheme.specs.Rows.{chainOf}
 use Rattle.scheme.specs.Laws.Cause.{declined}
 use Rattle.scheme.specs.Laws.Tab.{as-tab}
 use Rattle.scheme.specs.Laws.Tables.{or-false-left, or-false-right}
+use Rattle.order.specs.Laws.Writing.{Written, written-none, written-more}
 use Rattle.bounds.specs.Years.{yearsFigure}
 use Rattle.bounds.specs.Start.{startFigure, ShareHeld, Sheeted}
 use Rattle.bounds.specs.Answers.{startOf, moneyCause, sliceCause, sheetCause, sheetSlice, lowShares, highShares}
 use Rattle.bounds.specs.Promises.{SheetPromise}
 use Rattle.bounds.specs.Laws.Kept.{first-none, sheet-kept}
-use Rattle.bounds.proofs.Writing.{Written, written-none, written-more}
 use Rattle.bounds.proofs.Forming.{zeros}
 use Rattle.bounds.proofs.Answering.{second-none, test-none, money-accepted, share-figure}
 

@@ -16,8 +16,9 @@ use Rattle.setchain.specs.Laws.Step.{low-figure-only, high-figure-only}
 use Rattle.scheme.specs.Tables.{tab}
 use Rattle.scheme.specs.Rows.{gathered}
 use Rattle.scheme.specs.Laws.Tab.{length-tab, getD-tab}
+use Rattle.order.specs.Order.{NotAfter, Arranged, arranged}
+use Rattle.order.specs.Laws.Arranging.{arranged-holds}
 use Rattle.bounds.specs.Lists.{at, rowIn, gatheredRow, Agree}
-use Rattle.bounds.specs.Order.{NotAfter, Arranged, Orderable}
 use Rattle.bounds.specs.Figure.{rounded, stepFigure}
 use Rattle.bounds.specs.Step.{Steppable, Stepped}
 use Rattle.bounds.specs.StepAnswer.{Reaches}
@@ -81,10 +82,6 @@ gather-size n f g h e = ap length e ∙ length-tab (length (take n (replicate {A
 gather-back : (n : ℕ) (f : ℕ → ℕ) (g rest : List ℕ) → n ≤ 32 → g ≡ tab (length (take n (replicate {A = ℕ} 32 0))) f → take n (g ++ rest) ≡ tab n f
 gather-back n f g rest h e = take-at g rest n (gather-size n f g h e) ∙ e ∙ ap (λ k. tab k f) (lent-size n h)
 
--- room for the order of n classes
-pub order-room : (payoff : List ℕ) → length payoff ≤ 32 → Orderable payoff (take (length payoff) (replicate 32 0))
-order-room payoff h = record { size = lent-size (length payoff) h; few = omega arith }
-
 -- gathered lists and the rules that they were written by
 tab-same : (n : ℕ) (f g : ℕ → ℕ) → Agree n (rowIn (tab n f) (tab n g)) (record { lower = f; upper = g })
 tab-same n f g = record { lower = λ j l. getD-tab n f j 0 l; upper = λ j l. getD-tab n g j 0 l }
@@ -106,7 +103,13 @@ module _ {rules lowers uppers payoff row : List ℕ} (able : Solvable rules lowe
   module _ {d : Bool} (g u o rest : List ℕ)
       (lower : g ≡ tab (length (take (length payoff) (replicate {A = ℕ} 32 0))) (gathered rules lowers))
       (upper : u ≡ tab (length (take (length payoff) (replicate {A = ℕ} 32 0))) (gathered rules uppers))
-      (arranged : Arranged payoff d o) where
+      (is : o ≡ arranged payoff d (take (length payoff) (replicate {A = ℕ} 32 0))) where
+    -- the order has the classes by payoff
+    by-payoff : Arranged payoff d o
+    by-payoff =
+        subst (Arranged payoff d) (sym is)
+        (arranged-holds payoff d (take (length payoff) (replicate {A = ℕ} 32 0)) (lent-size (length payoff) (able .few)) (omega (arith, able .few)))
+
     -- the step over the lists that were gathered
     steps : Steppable low high payoff o d row
     unfolding low high n
@@ -119,14 +122,14 @@ module _ {rules lowers uppers payoff row : List ℕ} (able : Solvable rules lowe
               subst (λ k. SoundRow k (rowIn low high)) (sym (length-tab n (gathered rules lowers)))
               (sound-same n _ _ (same-back (tab-same n (gathered rules lowers) (gathered rules uppers))) (able .sound));
           small = λ j l. able .small j (omega (arith, length-tab n (gathered rules lowers)));
-          arranged = arranged;
+          arranged = by-payoff;
         }
 
     -- the same over the parts as they were lent again
     pub solve-steps : Steppable (take (length payoff) (g ++ rest)) (take (length payoff) (u ++ rest)) payoff (take (length payoff) (o ++ rest)) d row
     unfolding low high n
     solve-steps =
-        rw (gather-back n (gathered rules lowers) g rest (able .few) lower, gather-back n (gathered rules uppers) u rest (able .few) upper, take-at o rest n (arranged .size)) steps
+        rw (gather-back n (gathered rules lowers) g rest (able .few) lower, gather-back n (gathered rules uppers) u rest (able .few) upper, take-at o rest n (by-payoff .size)) steps
 
     -- what the step leaves is what is asked
     pub solve-solved : {row′ : List ℕ} {r : ℕ} → Stepped (take (length payoff) (g ++ rest)) (take (length payoff) (u ++ rest)) payoff d row′ r

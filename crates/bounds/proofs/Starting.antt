@@ -15,8 +15,9 @@ use Rattle.setchain.specs.Years.{sharePayoff}
 use Rattle.setchain.specs.Laws.Sums.{onlyIf-true, onlyIf-false}
 use Rattle.scheme.specs.declared.Scheme.{Scheme}
 use Rattle.scheme.specs.Rows.{chainOf}
+use Rattle.order.specs.Order.{Placed, numbered}
+use Rattle.order.specs.Laws.Arranging.{numbered-placed}
 use Rattle.bounds.specs.Lists.{at}
-use Rattle.bounds.specs.Order.{Placed}
 use Rattle.bounds.specs.Entries.{chainListed, Held}
 use Rattle.bounds.specs.Years.{yearsFigure, Runnable, Ran}
 use Rattle.bounds.specs.Start.{Entered, Startable, Ready, startFigure, ShareHeld}
@@ -51,7 +52,13 @@ module _ {from lows rooms counts spare : List ℕ} {classes start : ℕ} {gain p
   lent-is : lent ≡ chainListed classes from lows rooms counts
   lent-is = ap (λ n. chainListed n from lows rooms counts) gains-count
 
-  module _ (order rest : List ℕ) (placed : Placed (length (take classes zeros)) order) where
+  module _ (order rest : List ℕ) (is : order ≡ numbered (take classes zeros)) where
+    -- the numbers are an order of the classes
+    placed : Placed (length (take classes zeros)) order
+    placed =
+        subst (Placed (length (take classes zeros))) (sym is)
+        (numbered-placed (take classes zeros) (omega (arith, length-take-le classes zeros (w .held .few), w .held .few)))
+
     order-count : length order ≡ classes
     order-count = placed .size ∙ length-take-le classes zeros (w .held .few)
 

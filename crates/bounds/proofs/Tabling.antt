@@ -19,8 +19,8 @@ use Rattle.scheme.specs.Accepted.{Accepted}
 use Rattle.scheme.specs.Rows.{chainOf}
 use Rattle.scheme.specs.Laws.Tab.{as-tab}
 use Rattle.scheme.specs.declared.Scheme.{Scheme}
+use Rattle.order.specs.Order.{numbered}
 use Rattle.bounds.specs.Lists.{at}
-use Rattle.bounds.specs.Order.{Placed}
 use Rattle.bounds.specs.Figure.{LARGEST}
 use Rattle.bounds.specs.Entries.{chainListed}
 use Rattle.bounds.specs.Years.{yearsFigure}
@@ -42,11 +42,11 @@ tracked-same h w = record { size = w .size; done = λ u l. w .done u l ∙ h u; 
 module _ {from lows rooms counts spare : List ℕ} {classes start : ℕ} {gain payoff : List ℕ} {horizon first : ℕ} {out : List ℕ}
     (w : Columnable from lows rooms counts spare classes start gain payoff horizon first out) (gainStored : 32 ≤ length gain)
     (i : ℕ) (state : i ≡ start - 1) where
-  pub column-tracks : (order rest : List ℕ) → Placed (length (take classes zeros)) order
+  pub column-tracks : (order rest : List ℕ) → order ≡ numbered (take classes zeros)
       → Trackable from lows rooms counts spare (take classes gain) (take classes (order ++ rest)) payoff i first (classes + 1) horizon out
-  column-tracks order rest placed =
+  column-tracks order rest is =
       record {
-        runs = start-runs (w .starts) gainStored order rest placed;
+        runs = start-runs (w .starts) gainStored order rest is;
         within = start-within (w .starts) gainStored i state;
         apart = omega arith;
         fits = w .fits;

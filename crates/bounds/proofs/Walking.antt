@@ -18,15 +18,15 @@ use Rattle.setchain.specs.Step.{room}
 use Rattle.setchain.specs.Laws.Sums.{onlyIf-true, sumTo-eq, sumTo-add, sumTo-scale, sumTo-swap, sumTo-point, term-le, eqb-flip}
 use Rattle.scheme.specs.Tables.{tab}
 use Rattle.scheme.specs.Laws.Tab.{length-tab, getD-tab}
+use Rattle.order.specs.Order.{Stands, Placed, Arranged}
+use Rattle.order.specs.Laws.Arranging.{arranged-placed}
 use Rattle.bounds.specs.Lists.{at, rowIn, Agree}
-use Rattle.bounds.specs.Order.{Stands, Placed, Arranged}
 use Rattle.bounds.specs.Fill.{Filled, Pourable}
 use Rattle.bounds.specs.Step.{Steppable}
 use Rattle.bounds.specs.Figure.{rounded, stepFigure, LARGEST}
 use Rattle.bounds.specs.Walk.{leftAt, sumAt}
 use Rattle.bounds.proofs.Summing.{sumTo-front, sumTo-change}
 use Rattle.bounds.proofs.Agreeing.{sound-same, step-same-row}
-use Rattle.bounds.proofs.Sorting.{arranged-placed}
 use Rattle.bounds.proofs.Filling.{Filling, filling-none, filling-more, filling-last}
 use Rattle.bounds.proofs.Reaching.{step-reached}
 

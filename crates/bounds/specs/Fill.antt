@@ -7,8 +7,8 @@ use lib.ListN.{length}
 use Rattle.setchain.specs.Sums.{sumTo}
 use Rattle.setchain.specs.Rows.{ONE, SoundRow}
 use Rattle.setchain.specs.Step.{Parts}
+use Rattle.order.specs.Order.{Stands, Placed}
 use Rattle.bounds.specs.Lists.{at, rowIn}
-use Rattle.bounds.specs.Order.{Stands, Placed}
 
 -- what a fill takes: lists of one length, a sound row, and an order of its classes
 pub record Fillable (lower upper order row : List ℕ) : Type 0 where

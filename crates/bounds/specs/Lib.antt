@@ -1,6 +1,5 @@
--- Read in this order: lists as rows and payoffs, the order of the classes, the fill along it, the figure, the whole step.
+-- Read in this order, after crate `order`: lists as rows and payoffs, the fill along an order, the figure, the whole step.
 pub mod Lists
-pub mod Order
 pub mod Fill
 pub mod Figure
 pub mod Step

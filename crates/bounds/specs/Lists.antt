@@ -2,13 +2,10 @@
 use Prim.Native.Nat.{ℕ, _*_, _<_}
 use mathlib.Core.Path.{_≡_}
 use mathlib.Core.List.{List}
-use lib.ListN.{getD, take, drop}
+use lib.ListN.{take, drop}
 use Rattle.setchain.specs.Rows.{IntervalRow}
 use Rattle.scheme.specs.Rows.{gathered}
-
--- what the list has for state j, and 0 past its end
-abbrev pub at : List ℕ → ℕ → ℕ
-at l j = getD l j 0
+pub use Rattle.order.specs.Order.{at}
 
 -- the interval row that two lists hold
 abbrev pub rowIn : List ℕ → List ℕ → IntervalRow

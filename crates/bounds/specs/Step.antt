@@ -7,8 +7,8 @@ use lib.ListN.{length}
 use Rattle.setchain.specs.Sums.{dot}
 use Rattle.setchain.specs.Rows.{SoundRow}
 use Rattle.setchain.specs.Step.{Parts}
+use Rattle.order.specs.Order.{Arranged, NotAfter}
 use Rattle.bounds.specs.Lists.{at, rowIn}
-use Rattle.bounds.specs.Order.{Arranged, NotAfter}
 use Rattle.bounds.specs.Figure.{rounded, stepFigure, LARGEST}
 
 -- lists of one length, a sound row, payoffs that are not too large, and an order of the classes by payoff

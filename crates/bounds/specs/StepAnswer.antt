@@ -12,9 +12,9 @@ use Rattle.scheme.specs.declared.Scheme.{Scheme}
 use Rattle.scheme.specs.Tables.{anyBelow}
 use Rattle.scheme.specs.Cause.{premiumOut, causeWhere, orElse, classCause}
 use Rattle.scheme.specs.Rows.{chainOf}
+use Rattle.order.specs.Order.{NotAfter}
 use Rattle.bounds.specs.declared.StepAnswer.{StepAnswer}
 use Rattle.bounds.specs.Lists.{at}
-use Rattle.bounds.specs.Order.{NotAfter}
 use Rattle.bounds.specs.Figure.{rounded, stepFigure}
 
 -- "A payoff is a whole number for each class, 0 to 1,000,000,000": some class's is above; "payoffs stored beyond s are ignored"

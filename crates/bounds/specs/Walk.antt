@@ -6,8 +6,8 @@ use mathlib.Core.List.{List}
 use lib.ListN.{length}
 use Rattle.setchain.specs.Rows.{ONE, IntervalRow}
 use Rattle.setchain.specs.Step.{room}
+use Rattle.order.specs.Order.{Placed}
 use Rattle.bounds.specs.Lists.{at}
-use Rattle.bounds.specs.Order.{Placed}
 use Rattle.bounds.specs.Figure.{rounded, LARGEST}
 use Rattle.bounds.specs.Entries.{sumOf, listedRow, Held}
 

@@ -6,8 +6,8 @@ use mathlib.Core.List.{List}
 use lib.ListN.{length}
 use Rattle.setchain.specs.Rows.{SetChain}
 use Rattle.setchain.specs.Years.{lowYears, highYears}
+use Rattle.order.specs.Order.{Placed}
 use Rattle.bounds.specs.Lists.{at}
-use Rattle.bounds.specs.Order.{Placed}
 use Rattle.bounds.specs.Figure.{stepFigure, LARGEST}
 use Rattle.bounds.specs.Entries.{Held}
 

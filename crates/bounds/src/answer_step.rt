@@ -1,7 +1,7 @@
 // The public one-year step's parts (document 01, "One year" and "When a call is declined").
 use crate::StepAnswer;
-use crate::order::arrange;
 use crate::step::step;
+use order::arrange;
 use scheme::Scheme;
 use scheme::gathering::gather;
 ghost use mathlib.Core.Path.{_≡_};

@@ -1,5 +1,5 @@
 // The fill: a row that starts from the lowers and gives the spare parts along an order of the classes.
-use crate::order::state;
+use crate::state::state;
 ghost use mathlib.Core.Path.{_≡_};
 ghost use Prim.Native.Nat.{_≤_};
 ghost use lib.ListN.{length};

@@ -1,9 +1,9 @@
 // The start class's figures of t years (document 01, "Years": "The answer is the start class's figure").
 use crate::Bounds;
 use crate::entries::list_scheme;
-use crate::order::number;
-use crate::order::state;
+use crate::state::state;
 use crate::years::years;
+use order::number;
 use scheme::Scheme;
 ghost use mathlib.Core.Path.{_≡_};
 ghost use Prim.Native.Nat.{_-_};

@@ -1,11 +1,11 @@
 // All figures of a sheet in one table, each column's figures carried from year to year (document 01, "Sheet program and examples").
 use crate::entries::list_scheme;
-use crate::order::number;
-use crate::order::state;
 use crate::payoffs::share_payoff;
 use crate::payoffs::widened;
 use crate::start::start_figure;
+use crate::state::state;
 use crate::track::track;
+use order::number;
 use scheme::Scheme;
 ghost use mathlib.Core.Path.{_≡_};
 ghost use mathlib.Core.Bool.{true, false};

@@ -1,11 +1,11 @@
 // One year: the figures of all classes from those of the year before (document 01, "Years").
-use crate::order::sort;
-use crate::order::state;
 use crate::payoffs::wide;
+use crate::state::state;
+use order::sort;
 ghost use mathlib.Core.Path.{_≡_};
 ghost use Prim.Native.Nat.{min};
 ghost use lib.ListN.{length};
-ghost use Rattle.bounds.specs.Order.{Placed};
+ghost use Rattle.order.specs.Order.{Placed};
 ghost use Rattle.bounds.specs.Entries.{chainListed};
 ghost use Rattle.bounds.specs.Walk.{Givable, Given, Settleable, Settled, Walkable, Walked};
 ghost use Rattle.bounds.specs.Years.{Formed, Yearly};

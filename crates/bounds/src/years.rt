@@ -1,7 +1,7 @@
 // The figures of t years, by recursion on the year count (document 01, "Years").
 use crate::year::year;
 ghost use lib.ListN.{length};
-ghost use Rattle.bounds.specs.Order.{Placed};
+ghost use Rattle.order.specs.Order.{Placed};
 ghost use Rattle.bounds.specs.Entries.{chainListed};
 ghost use Rattle.bounds.specs.Years.{Formed, Ran, Runnable, Yearly};
 

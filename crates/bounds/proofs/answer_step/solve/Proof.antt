@@ -1,7 +1,7 @@
 -- `solve` gathers the ends of the interval, arranges the classes by payoff, and takes the step.
 -- Assumes nothing.
-use mathlib.Core.Path.{sym}
-use Rattle.bounds.proofs.Solving.{back-room, back-size, lent-size, gather-size, order-room, solve-steps, solve-solved}
+use mathlib.Core.Path.{sym, _∙_}
+use Rattle.bounds.proofs.Solving.{back-room, back-size, lent-size, gather-size, solve-steps, solve-solved}
 use borrow.Author.Needs.{needs}
 use Rattle.bounds.proofs.answer_step.solve.Statement.{statement}
 use Rattle.bounds.proofs.answer_step.solve.Tie as tie
@@ -31,7 +31,7 @@ slice-aggregate-arrange : tie.Need-slice-aggregate-arrange
 slice-aggregate-arrange c = sym (lent-size _ (c .before .before .before .before .before .before .before .before .before .before .before .before .pre .few))
 
 arrange-requires : tie.Need-arrange-requires
-arrange-requires c κs = order-room _ (c .before .before .before .before .before .before .before .before .before .before .before .before .pre .few)
+arrange-requires c κs = tt
 
 array-share-prefix-lower : tie.Need-array-share-prefix-lower
 array-share-prefix-lower c = back-room _ (c .before .before .before .before .before .before .before .gather .last .1 .1 .0) _ (gather-size _ _ _ (c .before .before .before .before .before .before .before .before .before .before .before .before .before .before .pre .few) (c .before .before .before .before .before .before .before .gather .ensures))
@@ -46,10 +46,10 @@ slice-aggregate-step-2 : tie.Need-slice-aggregate-step-2
 slice-aggregate-step-2 c = back-size _ (c .before .before .before .before .before .before .gather2 .last .1 .1 .0) _ (gather-size _ _ _ (c .before .before .before .before .before .before .before .before .before .before .before .before .before .before .before .before .pre .few) (c .before .before .before .before .before .before .gather2 .ensures))
 
 array-share-prefix-order : tie.Need-array-share-prefix-order
-array-share-prefix-order c = back-room _ (c .before .before .before .arrange .last .1 .1 .0) _ (c .before .before .before .arrange .ensures .size)
+array-share-prefix-order c = back-room _ (c .before .before .before .arrange .last .1 .1 .0) _ (c .before .before .before .arrange .kept .1 .1 .0 ∙ lent-size _ (c .before .before .before .before .before .before .before .before .before .before .before .before .before .before .before .before .pre .few))
 
 slice-aggregate-step-3 : tie.Need-slice-aggregate-step-3
-slice-aggregate-step-3 c = back-size _ (c .before .before .before .before .arrange .last .1 .1 .0) _ (c .before .before .before .before .arrange .ensures .size)
+slice-aggregate-step-3 c = back-size _ (c .before .before .before .before .arrange .last .1 .1 .0) _ (c .before .before .before .before .arrange .kept .1 .1 .0 ∙ lent-size _ (c .before .before .before .before .before .before .before .before .before .before .before .before .before .before .before .before .before .pre .few))
 
 step-requires : tie.Need-step-requires
 step-requires c κs = solve-steps (c .before .before .before .before .before .before .before .before .before .before .before .before .before .before .before .before .before .before .pre) _ _ _ _ (c .before .before .before .before .before .before .before .before .before .before .before .gather .ensures) (c .before .before .before .before .before .before .before .before .gather2 .ensures) (c .before .before .before .before .before .arrange .ensures)

@@ -4,8 +4,8 @@ use Prim.Native.Nat.{_-_}
 use mathlib.Core.Path.{refl}
 use native.Mathlib.Omega.{arith}
 use lib.ListN.{length}
+use Rattle.order.specs.Laws.Writing.{Written, written-none, written-more, written-copy}
 use Rattle.bounds.specs.Lists.{at}
-use Rattle.bounds.proofs.Writing.{Written, written-none, written-more, written-copy}
 use Rattle.bounds.proofs.fill.copy.Statement.{statement}
 use Rattle.bounds.proofs.fill.copy.Tie as tie
 

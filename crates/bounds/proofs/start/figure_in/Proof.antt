@@ -1,7 +1,6 @@
 -- `figure_in` numbers the classes, runs the years on the parts in use and reads the start class's place.
 -- Assumes nothing.
 use mathlib.Core.Path.{sym}
-use native.Mathlib.Omega.{arith}
 use lib.ListN.{drop}
 use lib.Seq.{length-take-le}
 use Rattle.bounds.proofs.Forming.{zeros}
@@ -17,7 +16,7 @@ slice-aggregate-number : tie.Need-slice-aggregate-number
 slice-aggregate-number c = sym (length-take-le (c .before .args .classes) zeros (c .before .pre .held .few))
 
 number-requires : tie.Need-number-requires
-number-requires c κs = omega (arith, length-take-le (c .before .args .classes) zeros (c .before .pre .held .few), c .before .pre .held .few)
+number-requires c κs = tt
 
 array-share-prefix-gain : tie.Need-array-share-prefix-gain
 array-share-prefix-gain c = search needs

@@ -1,7 +1,6 @@
 -- `column_in` numbers the classes and carries a figure vector through the years on the parts in use.
 -- Assumes nothing.
 use mathlib.Core.Path.{sym}
-use native.Mathlib.Omega.{arith}
 use lib.ListN.{drop}
 use lib.Seq.{length-take-le}
 use Rattle.bounds.proofs.Forming.{zeros}
@@ -18,7 +17,7 @@ slice-aggregate-number : tie.Need-slice-aggregate-number
 slice-aggregate-number c = sym (length-take-le (c .before .before .args .classes) zeros (c .before .before .pre .starts .held .few))
 
 number-requires : tie.Need-number-requires
-number-requires c κs = omega (arith, length-take-le (c .before .before .args .classes) zeros (c .before .before .pre .starts .held .few), c .before .before .pre .starts .held .few)
+number-requires c κs = tt
 
 array-share-prefix-gain : tie.Need-array-share-prefix-gain
 array-share-prefix-gain c = search needs
