@@ -3,7 +3,7 @@ ghost use mathlib.Core.Path.{_≡_};
 ghost use Rattle.record.specs.Read.{readCause};
 ghost use Rattle.record.specs.Reader.{stored, handedOut, bandAt, afterAt, openPart};
 use super::cause_in;
-use super::numbers;
+use super::parts;
 
 // What a reader answers: the lower and upper end of the next band, or that there is no more.
 pub enum Band {
@@ -30,7 +30,7 @@ fn stored(bytes: &[u8], column: usize) -> bool
     if cause_in(bytes) != 0 {
         return false;
     }
-    let columns = numbers::count(bytes[4]);
+    let columns = parts::count(bytes[4]);
     column < columns
 }
 
@@ -51,8 +51,8 @@ pub fn band_at(bytes: &[u8], column: usize) -> Band
     if !stored(bytes, column) {
         return Band::NoMore;
     }
-    let classes = numbers::count(bytes[3]);
-    let columns = numbers::count(bytes[4]);
+    let classes = parts::count(bytes[3]);
+    let columns = parts::count(bytes[4]);
     let place = 7 + classes * columns + column * 8;
     let lower = numbers::be4(bytes, place);
     let upper = numbers::be4(bytes, place + 4);

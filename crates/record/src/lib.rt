@@ -6,7 +6,7 @@ ghost use Rattle.record.specs.Write.{writeAnswer, writeLeaves};
 use scheme::Scheme;
 
 pub mod bands;
-mod numbers;
+mod parts;
 mod reading;
 mod writing;
 
@@ -86,7 +86,7 @@ fn row_cause(bytes: &[u8], class: u64) -> u8
     if class == 0 {
         return scheme::CLASS_OUT;
     }
-    let classes = numbers::wide(bytes[3]);
+    let classes = parts::wide(bytes[3]);
     if classes < class {
         return scheme::CLASS_OUT;
     }
@@ -100,7 +100,7 @@ pub fn rule_row(bytes: &[u8], class: u64) -> &[u8]
     if row_cause(bytes, class) != 0 {
         return &bytes[0..0];
     }
-    let columns = numbers::count(bytes[4]);
+    let columns = parts::count(bytes[4]);
     let start = 7 + ((class - 1) as usize) * columns;
     &bytes[start..start + columns]
 }

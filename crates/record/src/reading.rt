@@ -12,15 +12,15 @@ ghost use Rattle.record.specs.Frame.{Framed};
 use super::FIELD_OUT;
 use super::LENGTH_OUT;
 use super::VERSION_OUT;
-use super::numbers;
+use super::parts;
 use scheme::Scheme;
 
 // the length of a record of `classes` and `columns`
 pub fn length_of(classes: u8, columns: u8) -> usize
     ensures { λ r. ⌜ r ≡ lengthOf version1 classes columns ⌝ }
 {
-    let s = numbers::count(classes);
-    let m = numbers::count(columns);
+    let s = parts::count(classes);
+    let m = parts::count(columns);
     7 + s * m + 8 * m + 4 * s
 }
 
@@ -58,7 +58,7 @@ fn field_cause(bytes: &[u8]) -> u8
     if bytes.len() < 7 {
         return FIELD_OUT;
     }
-    if numbers::be2(bytes, 1) != bytes.len() {
+    if (numbers::be2(bytes, 1) as usize) != bytes.len() {
         return FIELD_OUT;
     }
     0
@@ -114,7 +114,7 @@ fn rules(bytes: &[u8], from: usize, s: usize, m: usize) -> [u8; 256]
     let mut at = from;
     let mut to: usize = 0;
     while i < s {
-        numbers::copy(bytes, at, &mut rules, to, m);
+        parts::copy(bytes, at, &mut rules, to, m);
         at += m;
         to += 8;
         i += 1;
@@ -163,8 +163,8 @@ pub fn parsed(bytes: &[u8]) -> Scheme
     let columns = bytes[4];
     let start = bytes[5];
     let horizon = bytes[6];
-    let s = numbers::count(classes);
-    let m = numbers::count(columns);
+    let s = parts::count(classes);
+    let m = parts::count(columns);
     let bands = 7 + s * m;
     let rules = rules(bytes, 7, s, m);
     let lowers = ends(bytes, bands, m);

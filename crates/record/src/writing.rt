@@ -10,7 +10,7 @@ ghost use Rattle.record.specs.Numbers.{beBytes};
 ghost use Rattle.record.specs.Joined.{joined};
 ghost use Rattle.record.specs.Layout.{version1, headerBytes, bandBytes, bytesOf};
 ghost use Rattle.record.specs.Write.{recordLength};
-use super::numbers;
+use super::parts;
 use scheme::Scheme;
 
 // puts the header
@@ -35,11 +35,20 @@ fn rules(out: &mut [u8], from: usize, rules: &[u8; 256], s: usize, m: usize)
     let mut at: usize = 0;
     let mut to = from;
     while i < s {
-        numbers::copy(rules, at, out, to, m);
+        parts::copy(rules, at, out, to, m);
         at += 8;
         to += m;
         i += 1;
     }
+}
+
+// puts a band, lower and upper
+fn put_band(out: &mut [u8], at: usize, lower: u32, upper: u32)
+    requires { ⌜ at + 8 ≤ length (now out) ⌝ }
+    ensures { λ _. ⌜ now (out .exit) ≡ sets (now (out .entry)) at (bandBytes lower upper) ⌝ }
+{
+    numbers::put4(out, at, lower);
+    numbers::put4(out, at + 4, upper);
 }
 
 // puts m bands, lower and upper, from place `from` on
@@ -50,7 +59,7 @@ fn bands(out: &mut [u8], from: usize, lowers: &[u32; 8], uppers: &[u32; 8], m: u
     let mut k: usize = 0;
     let mut to = from;
     while k < m {
-        numbers::put_band(out, to, lowers[k], uppers[k]);
+        put_band(out, to, lowers[k], uppers[k]);
         to += 8;
         k += 1;
     }
@@ -75,8 +84,8 @@ pub fn whole(scheme: Scheme, out: &mut [u8], size: usize)
     requires { ⌜ SizeFits scheme × (size ≡ recordLength scheme) × (size ≤ length (now out)) ⌝ }
     ensures { λ _. ⌜ now (out .exit) ≡ bytesOf version1 scheme ++ drop size (now (out .entry)) ⌝ }
 {
-    let s = numbers::count(scheme.classes);
-    let m = numbers::count(scheme.columns);
+    let s = parts::count(scheme.classes);
+    let m = parts::count(scheme.columns);
     header(
         out,
         size,

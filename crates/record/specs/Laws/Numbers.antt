@@ -1,88 +1,26 @@
--- Read-after-put and put-after-read of numbers in bytes, over any width.
-use Prim.Native.Nat.{ℕ, zero, suc, _+_, _*_, _/_, _%_, _^_, _≤_, _<_}
-use mathlib.Core.Path.{_≡_, refl, ap, sym}
-use mathlib.Core.List.{List, [], _∷_, _++_}
+-- The laws of numbers in bytes that the parts of a record cite, and those of a band and of the header.
+use Prim.Native.Nat.{ℕ, _+_, _≤_}
+use mathlib.Core.Path.{_≡_, refl}
+use mathlib.Core.List.{List}
 use native.Mathlib.Omega.{arith}
-use native.Mathlib.Nat.{add-zero}
-use native.Mathlib.Numerals.{add-one, add-two, add-three}
-use lib.ListN.{length, getD, take, drop, set, length-append, length-drop, List·getD-append}
-use lib.Seq.{sets, getD-at, getD-drop, take-suc}
-use Rattle.record.specs.Numbers.{beAt, beBytes}
+use lib.ListN.{length, set, length-append}
+use lib.Seq.{sets, length-sets}
+use Rattle.record.specs.Numbers.{beBytes, numberPut}
 use Rattle.record.specs.Layout.{bandBytes, headerBytes}
 use Rattle.record.specs.Laws.Lists.{sets-append}
-
--- a number's bytes are as many as its width
-pub length-beBytes : (w x : ℕ) → length (beBytes w x) ≡ w
-unfolding beBytes
-length-beBytes zero x = refl
-length-beBytes (suc w) x = omega (arith, length-append (beBytes w (x / 256)) (x % 256 ∷ []), length-beBytes w (x / 256))
-
--- the same bytes make the same number
-pub beAt-eq : (w : ℕ) (a : List ℕ) (p : ℕ) (b : List ℕ) (q : ℕ) → ((k : ℕ) → k < w → getD a (p + k) 0 ≡ getD b (q + k) 0) → beAt w a p ≡ beAt w b q
-unfolding beAt
-beAt-eq zero a p b q h = refl
-beAt-eq (suc w) a p b q h = omega (arith, beAt-eq w a p b q (λ k lt. h k (omega arith)), h w (omega arith))
-
--- read after put: the number that was put
-pub read-put : (w x : ℕ) → x < 256 ^ w → beAt w (beBytes w x) 0 ≡ x
-unfolding beAt beBytes
-read-put zero x h = omega arith
-read-put (suc w) x h =
-    let high : List ℕ = beBytes w (x / 256) in
-    let low : ℕ = x % 256 in
-    let rest : beAt w (high ++ (low ∷ [])) 0 ≡ beAt w high 0 =
-    beAt-eq w (high ++ (low ∷ [])) 0 high 0
-    (λ k lt. List·getD-append high (low ∷ []) 0 (0 + k) (omega (arith, length-beBytes w (x / 256))))
-    in
-    let last : getD (high ++ (low ∷ [])) (0 + w) 0 ≡ low =
-    getD-at high low [] 0 (0 + w) (omega (arith, length-beBytes w (x / 256)))
-    in
-    omega (arith, rest, last, read-put w (x / 256) (omega arith))
-
--- put after read: the bytes that were read
-pub put-read : (w : ℕ) (l : List ℕ) (p : ℕ) → p + w ≤ length l → ((k : ℕ) → getD l k 0 < 256) → beBytes w (beAt w l p) ≡ take w (drop p l)
-unfolding beAt beBytes
-put-read zero l p h small = refl
-put-read (suc w) l p h small =
-    let high : ℕ = beAt w l p in
-    let low : ℕ = getD l (p + w) 0 in
-    let div : (high * 256 + low) / 256 ≡ high = omega (arith, small (p + w)) in
-    let rem : (high * 256 + low) % 256 ≡ low = omega (arith, small (p + w)) in
-    rw (div, rem, put-read w l p (omega arith) small, ← (getD-drop p l w 0))
-    (sym (take-suc (drop p l) w 0 (rw (length-drop p l) (omega arith))))
-
--- a number read from bytes fits its width
-pub beAt-fits : (w : ℕ) (l : List ℕ) (p : ℕ) → ((k : ℕ) → getD l k 0 < 256) → beAt w l p < 256 ^ w
-unfolding beAt
-beAt-fits zero l p small = omega arith
-beAt-fits (suc w) l p small = omega (arith, beAt-fits w l p small, small (p + w))
-
--- the widths that the code has, written out
-pub beAt-2 : (l : List ℕ) (p : ℕ) → beAt 2 l p ≡ getD l p 0 * 256 + getD l (p + 1) 0
-unfolding beAt
-beAt-2 l p = omega (arith, ap (λ q. getD l q 0) (add-zero p))
-
-pub beAt-4 : (l : List ℕ) (p : ℕ)
-    → beAt 4 l p ≡ ((getD l p 0 * 256 + getD l (p + 1) 0) * 256 + getD l (p + 2) 0) * 256 + getD l (p + 3) 0
-unfolding beAt
-beAt-4 l p = omega (arith, ap (λ q. getD l q 0) (add-zero p))
-
-pub put-2 : (l : List ℕ) (p x : ℕ) {a b : ℕ} → a ≡ x / 256 % 256 → b ≡ x % 256 → set (set l p a) (p + 1) b ≡ sets l p (beBytes 2 x)
-unfolding beBytes
-put-2 l p x ea eb = rw (ea, eb, add-one)
-
-pub put-4 : (l : List ℕ) (p x : ℕ) {a b c d : ℕ} → a ≡ x / 256 / 256 / 256 % 256 → b ≡ x / 256 / 256 % 256 → c ≡ x / 256 % 256 → d ≡ x % 256
-    → set (set (set (set l p a) (p + 1) b) (p + 2) c) (p + 3) d ≡ sets l p (beBytes 4 x)
-unfolding beBytes
-put-4 l p x ea eb ec ed = rw (ea, eb, ec, ed, add-one, add-two, add-three)
+pub use Rattle.numbers.specs.Laws.{length-beBytes, beAt-eq, read-put, put-read, beAt-fits, read-held, put-held}
 
 pub length-band : (lower upper : ℕ) → length (bandBytes lower upper) ≡ 8
 length-band lower upper = omega (arith, length-append (beBytes 4 lower) (beBytes 4 upper), length-beBytes 4 lower, length-beBytes 4 upper)
 
-pub put-band : (l : List ℕ) (p lower upper : ℕ) → sets (sets l p (beBytes 4 lower)) (p + 4) (beBytes 4 upper) ≡ sets l p (bandBytes lower upper)
-put-band l p lower upper =
+pub put-band : (l : List ℕ) (p lower upper : ℕ) → p + 8 ≤ length l → numberPut 4 (numberPut 4 l p lower) (p + 4) upper ≡ sets l p (bandBytes lower upper)
+put-band l p lower upper fits =
+    let low : numberPut 4 l p lower ≡ sets l p (beBytes 4 lower) = put-held 4 l p lower (omega arith) in
+    let high : numberPut 4 (sets l p (beBytes 4 lower)) (p + 4) upper ≡ sets (sets l p (beBytes 4 lower)) (p + 4) (beBytes 4 upper) =
+    put-held 4 (sets l p (beBytes 4 lower)) (p + 4) upper (rw (length-sets l p (beBytes 4 lower)) (omega arith))
+    in
     let next : p + 4 ≡ p + length (beBytes 4 lower) = omega (arith, length-beBytes 4 lower) in
-    rw next (sets-append l p (beBytes 4 lower) (beBytes 4 upper))
+    rw (low, high, next) (sets-append l p (beBytes 4 lower) (beBytes 4 upper))
 
 -- the header's bytes, one by one
 pub put-header : (l : List ℕ) (size s m start horizon : ℕ)

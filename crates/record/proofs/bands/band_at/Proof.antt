@@ -7,6 +7,7 @@ use lib.ListN.{length}
 use borrow.Author.Tests.{not-true, not-false}
 use Rattle.record.specs.Reader.{stored}
 use Rattle.record.specs.Laws.Read.{read-framed}
+use Rattle.record.specs.Laws.Numbers.{read-held}
 use Rattle.record.specs.Laws.Reader.{stored-read, band-within, answer-none, answer-ends}
 use borrow.Author.Needs.{needs}
 use Rattle.record.proofs.bands.band_at.Statement.{statement}
@@ -53,18 +54,20 @@ add-place-2 : tie.Need-add-place-2
 add-place-2 c = omega (arith, within c)
 
 be4-requires : tie.Need-be4-requires
-be4-requires c κs = omega (arith, within c)
+be4-requires c κs = search needs
 
 add-be4 : tie.Need-add-be4
 add-be4 c = omega (arith, within (c .before))
 
 be4-requires-2 : tie.Need-be4-requires-2
-be4-requires-2 c κs = omega (arith, within (c .before))
+be4-requires-2 c κs = search needs
 
 returns-2 : tie.Need-returns-2
 returns-2 c =
+    let start = c .before .before .before .before .before .before .before .before .before .args in
     answer-ends _ _ (c .before .before .before .before .count .ensures .0) (c .before .before .count2 .ensures .0)
-    (c .before .be4 .ensures) (c .be42 .ensures) (stood (c .before .before .before .before .before .before))
+    (c .before .be4 .ensures ∙ read-held 4 (start .bytes .now) _ (omega (arith, within (c .before .before))))
+    (c .be42 .ensures ∙ read-held 4 (start .bytes .now) _ (omega (arith, within (c .before .before)))) (stood (c .before .before .before .before .before .before))
 
 pub band-at-spec : {M : Type 1} → statement M
 band-at-spec =

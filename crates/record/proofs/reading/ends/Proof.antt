@@ -1,11 +1,13 @@
 -- `reading::ends` meets its contract: k numbers are read at the head of the loop.
 use Prim.Native.Nat.{_≤_, _+_, _*_, _-_}
-use mathlib.Core.Path.{_≡_}
+use mathlib.Core.Path.{_≡_, _∙_}
 use native.Mathlib.Omega.{arith}
 use Rattle.scheme.specs.Tables.{tab}
 use Rattle.record.specs.Numbers.{beAt}
 use Rattle.scheme.specs.Stored.{upTo}
+use Rattle.record.specs.Laws.Numbers.{read-held}
 use Rattle.record.specs.Laws.Stored.{fill-none, fill-more}
+use borrow.Author.Needs.{needs}
 use Rattle.record.proofs.reading.ends.Statement.{statement}
 use Rattle.record.proofs.reading.ends.Tie as tie
 
@@ -19,7 +21,7 @@ loop-holds : tie.Need-loop-holds Inv-loop μ-loop
 loop-holds c = (omega arith, omega arith, fill-none 8 _)
 
 be4-requires : tie.Need-be4-requires Inv-loop μ-loop
-be4-requires c κs = omega arith
+be4-requires c κs = search needs
 
 mul-ends : tie.Need-mul-ends Inv-loop μ-loop
 mul-ends c = omega arith
@@ -38,10 +40,11 @@ loop-less c = omega arith
 
 loop-again : tie.Need-loop-again Inv-loop μ-loop
 loop-again c =
+    let start = c .before .before .before .before .args in
     let turn = c .before .before .loop in (
       omega arith,
       omega arith,
-      fill-more 8 (turn .k) _ (turn .ends) (c .be4 .result) (omega arith) (turn .inv .2) (rw (← (turn .inv .1)) (c .be4 .ensures)),
+      fill-more 8 (turn .k) _ (turn .ends) (c .be4 .result) (omega arith) (turn .inv .2) (rw (← (turn .inv .1)) (c .be4 .ensures ∙ read-held 4 (start .bytes .now) (turn .at) (omega arith))),
     )
 
 returns : tie.Need-returns Inv-loop μ-loop

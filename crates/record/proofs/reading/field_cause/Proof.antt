@@ -1,6 +1,9 @@
 -- `reading::field_cause` meets its contract.
-use mathlib.Core.Path.{sym, _∙_}
+use mathlib.Core.Path.{_≡_, sym, _∙_}
+use native.Mathlib.Omega.{arith}
 use borrow.Author.Tests.{eq-eqb, ne-eqb, lt-ltb, le-ltb}
+use Rattle.record.specs.Numbers.{beAt}
+use Rattle.record.specs.Laws.Numbers.{read-held}
 use borrow.Author.Needs.{needs}
 use Rattle.record.proofs.reading.field_cause.Statement.{statement}
 use Rattle.record.proofs.reading.field_cause.Tie as tie
@@ -11,11 +14,18 @@ returns c = simp (lt-ltb _ _ (c .if1 .taken))
 be2-requires : tie.Need-be2-requires
 be2-requires c κs = search needs
 
+-- the header holds the field
+field : (c : tie.After-be2) → c .be2 .result ≡ beAt 2 (c .before .before .before .args .bytes .now) 1
+field c = c .be2 .ensures ∙ read-held 2 (c .before .before .before .args .bytes .now) 1 (omega arith)
+
+cast-if2 : tie.Need-cast-if2
+cast-if2 c = search needs
+
 returns-2 : tie.Need-returns-2
-returns-2 c = simp (le-ltb _ _ (c .before .before .if1 .left), ← (c .before .be2 .ensures), ne-eqb _ _ (c .if2 .taken))
+returns-2 c = simp (le-ltb _ _ (c .before .before .if1 .left), ← (field (c .before)), ne-eqb _ _ (c .if2 .taken))
 
 returns-3 : tie.Need-returns-3
-returns-3 c = simp (le-ltb _ _ (c .before .before .if1 .left), eq-eqb _ _ (sym (c .before .be2 .ensures) ∙ c .if2 .left))
+returns-3 c = simp (le-ltb _ _ (c .before .before .if1 .left), eq-eqb _ _ (sym (field (c .before)) ∙ c .if2 .left))
 
 pub field-cause-spec : {M : Type 1} → statement M
-field-cause-spec = tie.close (tie.spec returns be2-requires returns-2 returns-3)
+field-cause-spec = tie.close (tie.spec returns be2-requires cast-if2 returns-2 returns-3)

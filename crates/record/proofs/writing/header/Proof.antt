@@ -1,15 +1,21 @@
 -- `writing::header` meets its contract: the seven bytes in order.
-use mathlib.Core.Path.{_≡_}
+use mathlib.Core.Path.{_≡_, _∙_}
 use native.Mathlib.Omega.{arith}
-use lib.ListN.{length, length-set}
-use lib.Seq.{length-sets}
-use Rattle.record.specs.Laws.Numbers.{put-header}
+use lib.ListN.{length, set, length-set}
+use lib.Seq.{sets, length-sets}
+use Rattle.record.specs.Numbers.{beBytes}
+use Rattle.record.specs.Laws.Numbers.{put-held, put-header}
 use borrow.Author.Needs.{needs}
 use Rattle.record.proofs.writing.header.Statement.{statement}
 use Rattle.record.proofs.writing.header.Tie as tie
 
+-- the length field is put
+laid : (c : tie.After-slice-known2)
+    → c .before .before .put2 .last .0 ≡ sets (set (c .before .before .before .before .before .args .out .now) 0 1) 1 (beBytes 2 (c .before .before .before .before .before .args .size))
+laid c = c .before .before .put2 .ensures ∙ put-held 2 _ _ _ (simp length-set (omega arith))
+
 size : (c : tie.After-slice-known2) → length (c .before .before .put2 .last .0) ≡ length (c .before .before .before .before .before .args .out .now)
-size c = rw (c .before .before .put2 .ensures) (simp (length-sets, length-set))
+size c = rw (laid c) (simp (length-sets, length-set))
 
 slice-write-out : tie.Need-slice-write-out
 slice-write-out c = search needs
@@ -18,7 +24,7 @@ cast-put2 : tie.Need-cast-put2
 cast-put2 c = search needs
 
 put2-requires : tie.Need-put2-requires
-put2-requires c κs = simp length-set (omega arith)
+put2-requires c κs = search needs
 
 slice-write-out-2 : tie.Need-slice-write-out-2
 slice-write-out-2 c = omega (arith, size c)
@@ -36,7 +42,7 @@ same-length : tie.Need-same-length
 same-length c = simp length-set (size c)
 
 returns : tie.Need-returns
-returns c = rw (c .before .before .put2 .ensures) (put-header _ _ _ _ _ _)
+returns c = rw (laid c) (put-header _ _ _ _ _ _)
 
 pub header-spec : {M : Type 1} → statement M
 header-spec =

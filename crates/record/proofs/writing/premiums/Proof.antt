@@ -7,7 +7,8 @@ use lib.Seq.{sets, length-sets}
 use Rattle.record.specs.Numbers.{beBytes}
 use Rattle.record.specs.Joined.{joined}
 use Rattle.record.specs.Laws.Lists.{join-none, join-more}
-use Rattle.record.specs.Laws.Numbers.{length-beBytes}
+use Rattle.record.specs.Laws.Numbers.{length-beBytes, put-held}
+use borrow.Author.Needs.{needs}
 use Rattle.record.proofs.writing.premiums.Statement.{statement}
 use Rattle.record.proofs.writing.premiums.Tie as tie
 
@@ -32,7 +33,7 @@ element-copy-out-put4 : tie.Need-element-copy-out-put4 Inv-loop μ-loop
 element-copy-out-put4 c = omega arith
 
 put4-requires : tie.Need-put4-requires Inv-loop μ-loop
-put4-requires c κs = omega (arith, size (c .before .before .before))
+put4-requires c κs = search needs
 
 add-to : tie.Need-add-to Inv-loop μ-loop
 add-to c = omega (arith, size (c .before .before .before .before .before .before))
@@ -49,7 +50,8 @@ loop-again c =
     let turn = c .before .before .before .before .before .before .loop in (
       omega arith,
       omega arith,
-      c .before .before .put4 .ensures ∙ rw (turn .inv .2, turn .inv .1) (join-more 4 _ (start .out .now) (start .from) (turn .j) (λ i lt. length-beBytes 4 _)),
+      c .before .before .put4 .ensures ∙ put-held 4 (turn .out) (turn .to) _ (omega (arith, size (c .before .before .before .before .before .before)))
+          ∙ rw (turn .inv .2, turn .inv .1) (join-more 4 _ (start .out .now) (start .from) (turn .j) (λ i lt. length-beBytes 4 _)),
     )
 
 same-length : tie.Need-same-length Inv-loop μ-loop

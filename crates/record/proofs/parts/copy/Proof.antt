@@ -1,12 +1,12 @@
--- `numbers::copy` meets its contract: k bytes are copied at the head of the loop.
+-- `parts::copy` meets its contract: k bytes are copied at the head of the loop.
 use Prim.Native.Nat.{_≤_, _-_}
 use mathlib.Core.Path.{_≡_, refl}
 use native.Mathlib.Omega.{arith}
 use lib.ListN.{take, drop}
 use lib.Seq.{sets, length-sets}
 use Rattle.record.specs.Laws.Lists.{copy-more}
-use Rattle.record.proofs.numbers.copy.Statement.{statement}
-use Rattle.record.proofs.numbers.copy.Tie as tie
+use Rattle.record.proofs.parts.copy.Statement.{statement}
+use Rattle.record.proofs.parts.copy.Tie as tie
 
 abbrev Inv-loop : tie.InvT-loop
 Inv-loop from at out₀ to n k₀ out k = (k ≤ n) × (out ≡ sets out₀ to (take k (drop at from)))

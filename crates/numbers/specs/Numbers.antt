@@ -1,0 +1,29 @@
+-- Numbers in bytes, over any width (document 01, "Record": "All numbers big-endian").
+use Prim.Native.Nat.{ℕ, zero, suc, _+_, _*_, _/_, _%_}
+use mathlib.Core.Bool.{Bool, cond}
+use mathlib.Core.List.{List, [], _∷_, _++_}
+use lib.Dec.{leb}
+use lib.ListN.{length, getD}
+use lib.Seq.{sets}
+
+-- the number that stands in `width` bytes from `place` on
+unfoldable pub beAt : (width : ℕ) → List ℕ → (place : ℕ) → ℕ
+beAt zero bytes place = 0
+beAt (suc w) bytes place = beAt w bytes place * 256 + getD bytes (place + w) 0
+
+-- the `width` bytes of x
+unfoldable pub beBytes : (width : ℕ) → ℕ → List ℕ
+beBytes zero x = []
+beBytes (suc w) x = beBytes w (x / 256) ++ (x % 256 ∷ [])
+
+-- the bytes hold `width` bytes from `place` on
+abbrev pub holds : (width : ℕ) → List ℕ → (place : ℕ) → Bool
+holds width bytes place = leb (place + width) (length bytes)
+
+-- reading: the number that stands there, and 0 where the bytes do not hold it
+unfoldable pub numberAt : (width : ℕ) → List ℕ → (place : ℕ) → ℕ
+numberAt width bytes place = cond (holds width bytes place) (beAt width bytes place) 0
+
+-- putting: the bytes of x laid there, and the bytes as they were where they do not hold it
+unfoldable pub numberPut : (width : ℕ) → List ℕ → (place : ℕ) → ℕ → List ℕ
+numberPut width bytes place x = cond (holds width bytes place) (sets bytes place (beBytes width x)) bytes
