@@ -5,7 +5,7 @@ ghost use mathlib.Core.Bool.{false, true};
 ghost use lib.ListN.{getD};
 ghost use Rattle.scheme.specs.Cause.{orElse};
 ghost use Rattle.record.specs.Read.{readCause};
-ghost use Rattle.record.specs.RuleRow.{ruleRow};
+ghost use Rattle.bands.specs.RuleRow.{ruleRow};
 ghost use Rattle.record.specs.Write.{writeLeaves};
 ghost use Rattle.ready.specs.Answer.{readyAnswer};
 ghost use Rattle.record.specs.Layout.{schemeIn, version1};
@@ -207,7 +207,7 @@ pub extern "C" fn joguyvi_rule_row(bytes: &[u8], class: u64, out: &mut [u8]) -> 
     if number != 0 {
         return number;
     }
-    rows::put_part(record::rule_row(bytes, class), out)
+    rows::put_part(bands::rule_row(bytes, class), out)
 }
 
 // The bands of all columns, in parts, into two buffers of as many numbers as there are columns.

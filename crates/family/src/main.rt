@@ -1,9 +1,9 @@
 // Prints the answers of every operation on many records from standard input, each behind its length in two bytes, and on the ready
 // schemes. What it must print was written by the plain Rust version (rust/regenerate); rust/trials/src/bin/family.rs describes the lines.
+use bands::Band;
 use bounds::Bounds;
 use console::Got;
 use record::WriteAnswer;
-use record::bands::Band;
 use scheme::Scheme;
 use sheet_text::SheetAnswer;
 
@@ -126,14 +126,14 @@ fn answer(b: Bounds) {
 fn rules(bytes: &[u8], class: u64) {
     console::bytes(b"RULES");
     console::number(class);
-    let part = record::rule_row(bytes, class);
+    let part = bands::rule_row(bytes, class);
     hex(part, part.len());
     console::end();
 }
 
 // The band of a column, if there is one.
 fn band(bytes: &[u8], column: usize) {
-    match record::bands::band_at(bytes, column) {
+    match bands::band_at(bytes, column) {
         Band::Ends { lower, upper } => {
             console::number(wider(lower));
             console::number(wider(upper));

@@ -9,10 +9,7 @@ use Rattle.record.specs.Numbers.{beAt, beBytes}
 use Rattle.record.specs.Joined.{joined}
 use Rattle.scheme.specs.Stored.{upTo, schemeOf}
 use Rattle.record.specs.Layout.{version1, schemeIn, headerBytes, bytesOf}
-use Rattle.record.specs.declared.bands.Band.the-variants.{Ends, NoMore}
 use Rattle.record.specs.Read.{frameCause, readCause}
-use Rattle.record.specs.Reader.{bandAt, openPart, answers}
-use Rattle.record.specs.RuleRow.{ruleRow}
 
 -- its record
 abbrev pub exampleA : List ℕ
@@ -31,12 +28,3 @@ read-a = refl
 pub bytes-a : bytesOf version1 (schemeIn version1 exampleA) ≡ exampleA
 unfolding bytesOf headerBytes joined beBytes beAt schemeOf upTo tab
 bytes-a = refl
-
-pub row-a : ruleRow exampleA 2 ≡ 1 ∷ 2 ∷ 2 ∷ []
-unfolding ruleRow frameCause beAt schemeOf upTo tab causeWhere sizeOut startOut horizonOut ruleOut bandOut sumOut premiumOut anyBelow sumTo
-row-a = refl
-
--- the first 5 answers of a reader over it
-pub bands-a : answers (openPart exampleA) 5 0 ≡ Ends 800000000 900000000 ∷ Ends 100000000 200000000 ∷ Ends 0 50000000 ∷ NoMore ∷ NoMore ∷ []
-unfolding answers bandAt openPart frameCause beAt schemeOf upTo tab causeWhere sizeOut startOut horizonOut ruleOut bandOut sumOut premiumOut anyBelow sumTo
-bands-a = refl

@@ -4,7 +4,6 @@ pub mod Numbers
 pub mod Frame
 pub mod Stored
 pub mod Read
-pub mod Reader
 pub mod Layout
 pub mod Write
 pub mod Made

@@ -3,8 +3,6 @@ pub mod Numbers
 pub mod Joined
 pub mod Layout
 pub mod Read
-pub mod RuleRow
-pub mod Reader
 pub mod Write
 pub mod Frame
 pub mod Laws

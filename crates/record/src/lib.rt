@@ -1,11 +1,9 @@
-// The record of document 01: bytes to a scheme and back, the rule row of a class, and the band reader (in bands).
+// The record of document 01: bytes to a scheme and back, and the cause of any bytes.
 ghost use mathlib.Core.Path.{_≡_};
 ghost use Rattle.record.specs.Read.{readCause, declinedWith, readAnswer};
-ghost use Rattle.record.specs.RuleRow.{rowCause, ruleRow};
 ghost use Rattle.record.specs.Write.{writeAnswer, writeLeaves};
 use scheme::Scheme;
 
-pub mod bands;
 mod parts;
 mod reading;
 mod writing;
@@ -64,8 +62,8 @@ pub fn read(bytes: &[u8]) -> ReadAnswer
     ReadAnswer { number, scheme }
 }
 
-// The first cause of the bytes, or 0.
-fn cause_in(bytes: &[u8]) -> u8
+// The first cause of any bytes, or 0.
+pub fn cause(bytes: &[u8]) -> u8
     ensures { λ r. ⌜ r ≡ readCause (now (bytes .entry)) ⌝ }
 {
     let frame = reading::frame(bytes);
@@ -73,36 +71,6 @@ fn cause_in(bytes: &[u8]) -> u8
         return frame;
     }
     scheme::cause(reading::parsed(bytes))
-}
-
-// The first cause of a rule row, or 0.
-fn row_cause(bytes: &[u8], class: u64) -> u8
-    ensures { λ r. ⌜ r ≡ rowCause (now (bytes .entry)) class ⌝ }
-{
-    let number = cause_in(bytes);
-    if number != 0 {
-        return number;
-    }
-    if class == 0 {
-        return scheme::CLASS_OUT;
-    }
-    let classes = parts::wide(bytes[3]);
-    if classes < class {
-        return scheme::CLASS_OUT;
-    }
-    0
-}
-
-// The rule row of a class: the part of the record that holds it, or an empty part for every cause.
-pub fn rule_row(bytes: &[u8], class: u64) -> &[u8]
-    ensures { λ r. ⌜ now r ≡ ruleRow (now (bytes .entry)) class ⌝ }
-{
-    if row_cause(bytes, class) != 0 {
-        return &bytes[0..0];
-    }
-    let columns = parts::count(bytes[4]);
-    let start = 7 + ((class - 1) as usize) * columns;
-    &bytes[start..start + columns]
 }
 
 // Writes the record of a scheme into the slice, and leaves bytes past it unchanged; declined, all of them.

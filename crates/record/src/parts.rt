@@ -11,13 +11,6 @@ pub fn count(x: u8) -> usize
     x as usize
 }
 
-// a byte as a class number
-pub fn wide(x: u8) -> u64
-    ensures { λ r. ⌜ r ≡ x ⌝ }
-{
-    x as u64
-}
-
 // copies n bytes
 pub fn copy(from: &[u8], at: usize, out: &mut [u8], to: usize, n: usize)
     requires { ⌜ (at + n ≤ length (now from)) × (to + n ≤ length (now out)) ⌝ }
