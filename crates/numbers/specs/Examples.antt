@@ -8,6 +8,7 @@ pub number-read : (numberAt 4 (9 ∷ 47 ∷ 175 ∷ 8 ∷ 0 ∷ []) 1 ≡ 800000
 unfolding numberAt beAt
 number-read = (refl, refl, refl)
 
+-- the same numbers put there
 pub number-put : (numberPut 4 (9 ∷ 0 ∷ 0 ∷ 0 ∷ 1 ∷ []) 1 800000000 ≡ 9 ∷ 47 ∷ 175 ∷ 8 ∷ 0 ∷ []) × (numberPut 2 (1 ∷ 7 ∷ 7 ∷ []) 1 45 ≡ 1 ∷ 0 ∷ 45 ∷ []) × (numberPut 2 (1 ∷ 7 ∷ 7 ∷ []) 2 45 ≡ 1 ∷ 7 ∷ 7 ∷ [])
 unfolding numberPut beBytes
 number-put = (refl, refl, refl)
