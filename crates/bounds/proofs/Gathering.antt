@@ -10,7 +10,7 @@ use Rattle.setchain.specs.Sums.{sumTo, onlyIf}
 use Rattle.setchain.specs.Rows.{ONE}
 use Rattle.setchain.specs.Laws.Sums.{sumTo-eq}
 use Rattle.scheme.specs.Tables.{tab}
-use Rattle.scheme.specs.Rows.{gathered}
+use Rattle.rows.specs.Rows.{gathered}
 use Rattle.scheme.specs.Laws.Tab.{length-tab, getD-tab}
 use Rattle.bounds.specs.Lists.{at}
 use Rattle.bounds.specs.Entries.{sumOf, Addable, Added, Listable, RowListed}

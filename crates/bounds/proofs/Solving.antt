@@ -14,7 +14,7 @@ use Rattle.setchain.specs.Step.{Parts}
 use Rattle.setchain.specs.Laws.Sums.{sumTo-eq}
 use Rattle.setchain.specs.Laws.Step.{low-figure-only, high-figure-only}
 use Rattle.scheme.specs.Tables.{tab}
-use Rattle.scheme.specs.Rows.{gathered}
+use Rattle.rows.specs.Rows.{gathered}
 use Rattle.scheme.specs.Laws.Tab.{length-tab, getD-tab}
 use Rattle.order.specs.Order.{NotAfter, Arranged, arranged}
 use Rattle.order.specs.Laws.Arranging.{arranged-holds}

@@ -3,7 +3,7 @@ use crate::StepAnswer;
 use crate::step::step;
 use order::arrange;
 use scheme::Scheme;
-use scheme::gathering::gather;
+use rows::gathering::gather;
 ghost use mathlib.Core.Path.{_≡_};
 ghost use Prim.Native.Nat.{_≤_};
 ghost use lib.Dec.{ltb};

@@ -2,7 +2,7 @@
 // The list of state j stands from place j × 32 on: of each entry the state whose row has it, its lower end, and the room from there to its upper end.
 use crate::fill::total;
 use scheme::Scheme;
-use scheme::gathering::gather;
+use rows::gathering::gather;
 ghost use lib.ListN.{take};
 ghost use Rattle.scheme.specs.Accepted.{Accepted};
 ghost use Rattle.bounds.specs.Entries.{Addable, Added, Empty, Listable, Listed, RowListed, Storable, StoredParts};

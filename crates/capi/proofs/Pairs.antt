@@ -6,7 +6,7 @@ use mathlib.Core.List.{List}
 use native.Mathlib.Decide.{ℕ-discrete}
 use lib.ListN.{length}
 use Rattle.scheme.specs.declared.Scheme.{Scheme}
-use Rattle.scheme.specs.declared.RowAnswer.{RowAnswer}
+use Rattle.rows.specs.declared.RowAnswer.{RowAnswer}
 use Rattle.scheme.specs.Stored.{schemeOf}
 use Rattle.scheme.specs.Cause.{orElse}
 use Rattle.scheme.specs.Laws.Cause.{first-cause, second-cause, declined}

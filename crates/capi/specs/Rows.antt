@@ -5,11 +5,11 @@ use mathlib.Core.List.{List}
 use lib.Dec.{eqb}
 use lib.ListN.{length}
 use Rattle.scheme.specs.declared.Scheme.{Scheme}
-use Rattle.scheme.specs.declared.RowAnswer.{RowAnswer}
+use Rattle.rows.specs.declared.RowAnswer.{RowAnswer}
 use Rattle.scheme.specs.Tables.{tab}
 use Rattle.scheme.specs.Access.{lowerAt, upperAt}
 use Rattle.scheme.specs.Cause.{orElse}
-use Rattle.scheme.specs.Rows.{rowAnswer}
+use Rattle.rows.specs.Rows.{rowAnswer}
 use Rattle.record.specs.Layout.{version1, schemeIn, columnsIn}
 use Rattle.record.specs.Read.{readCause}
 use Rattle.bands.specs.RuleRow.{rowCause}

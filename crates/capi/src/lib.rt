@@ -162,7 +162,7 @@ pub extern "C" fn joguyvi_row(bytes: &[u8], class: u64, lower: &mut [u64], upper
     if number != 0 {
         return number;
     }
-    rows::put_row(scheme::row(answer.scheme, class), lower, upper)
+    rows::put_row(::rows::row(answer.scheme, class), lower, upper)
 }
 
 // The low step of a class: its figure into a buffer of 1 number, and a row that reaches it into one of 32; the payoff is of 32 numbers.

@@ -1,6 +1,6 @@
 // Rows and bands put into lent buffers.
 use crate::copies;
-use scheme::RowAnswer;
+use rows::RowAnswer;
 use scheme::Scheme;
 ghost use mathlib.Core.Path.{_≡_};
 ghost use Prim.Native.Nat.{_≤_};

@@ -115,7 +115,7 @@ fn refused_schemes() {
 
 // Queries that are refused, by number.
 fn refused_queries(s: Scheme) {
-    line(b"ROW OF CLASS 2 OF 1", wide(scheme::row(s, 2).number));
+    line(b"ROW OF CLASS 2 OF 1", wide(rows::row(s, 2).number));
     answer(b"SHARE OF CLASS 2 OF 1", bounds::share(s, 2, 101));
     answer(b"SHARE IN YEAR 101", bounds::share(s, 1, 101));
     answer(b"TOTAL IN YEAR 101", bounds::total(s, 101));

@@ -211,7 +211,7 @@ fn weighted(row: [u64; 32]) -> u64 {
 fn row(scheme: Scheme, class: u64) {
     console::bytes(b"ROW");
     console::number(class);
-    let answer = scheme::row(scheme, class);
+    let answer = rows::row(scheme, class);
     if answer.number == 0 {
         let lower = answer.lower;
         let upper = answer.upper;

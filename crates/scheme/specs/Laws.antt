@@ -4,7 +4,4 @@ pub mod Cause
 pub mod Judged
 pub mod Sound
 pub mod Tab
-pub mod Rows
-pub mod Clear
-pub mod Entries
 pub mod Filled

@@ -1,17 +1,9 @@
--- The interval rows of a scheme (document 01, "Interval rows"), and the answer of the row operation.
-use Prim.Native.Nat.{ℕ, suc, min, _+_, _-_, _*_, _≤_}
-use mathlib.Core.Bool.{cond}
-use mathlib.Core.List.{List}
-use lib.Dec.{eqb, ltb}
-use lib.ListN.{length, getD, replicate, take, drop}
-use Rattle.setchain.specs.Sums.{sumTo, onlyIf}
-use Rattle.setchain.specs.Rows.{ONE, SetChain}
+-- The interval rows of a scheme (document 01, "Interval rows").
+use Prim.Native.Nat.{ℕ, _-_}
+use Rattle.setchain.specs.Rows.{SetChain}
 use Rattle.setchain.specs.Cells.{Cells, rowOf}
 use Rattle.scheme.specs.declared.Scheme.{Scheme}
-use Rattle.scheme.specs.declared.RowAnswer.{RowAnswer}
-use Rattle.scheme.specs.Tables.{tab}
 use Rattle.scheme.specs.Access.{cellCount, ruleAt, lowerAt, upperAt}
-use Rattle.scheme.specs.Cause.{causeOf, orElse, classCause}
 
 -- the cells of class i: where each column leads, and its band
 abbrev pub cellsOf : Scheme → ℕ → Cells
@@ -20,50 +12,3 @@ cellsOf s i = record { count = cellCount s; target = λ k. ruleAt s i k - 1; low
 -- the set-chain of a scheme: a state for each class, and the interval row that its cells make
 abbrev pub chainOf : Scheme → SetChain
 chainOf s = record { states = s .classes; row = λ i. rowOf (cellsOf s i) }
-
--- what the bands of the cells whose rule is class j + 1 come to, at most ONE; lists of different lengths are read as far as both go
-abbrev pub gathered : List ℕ → List ℕ → ℕ → ℕ
-gathered rules band j =
-    min ONE (sumTo (min (length rules) (length band)) (λ k. onlyIf (eqb (getD rules k 0) (suc j)) (getD band k 0)))
-
--- the entries of 32 classes that some rules make with their bands' ends: 0 beyond s
-unfoldable pub entriesOf : List ℕ → List ℕ → ℕ → List ℕ
-entriesOf rules ends classes = tab 32 (λ j. onlyIf (ltb j classes) (gathered rules ends j))
-
--- no entry is above ONE
-abbrev pub Capped : List ℕ → Type 0
-Capped l = (j : ℕ) → getD l j 0 ≤ ONE
-
--- a row of entries with the band's end added at the class that a rule leads to, at most ONE
-abbrev pub raised : List ℕ → ℕ → ℕ → List ℕ
-raised l rule end = tab (length l) (λ j. min ONE (getD l j 0 + onlyIf (eqb rule (suc j)) end))
-
--- the cause of the row operation: 3, 5 to 10, then 11
-abbrev pub rowCause : Scheme → ℕ → ℕ
-rowCause s class = orElse (causeOf s) (classCause s class)
-
--- a refusal: the number, and 0 everywhere else
-abbrev pub rowRefused : ℕ → RowAnswer
-rowRefused number = record { number = number; lower = replicate 32 0; upper = replicate 32 0 }
-
--- the row of class i + 1, 0 beyond s
-unfoldable pub rowAt : Scheme → ℕ → RowAnswer
-rowAt s i =
-    record {
-      number = 0;
-      lower = tab 32 (λ j. onlyIf (ltb j (s .classes)) (chainOf s .row i .lower j));
-      upper = tab 32 (λ j. onlyIf (ltb j (s .classes)) (chainOf s .row i .upper j));
-    }
-
--- "The row of a queried class is public, lower and upper, with 0 beyond s"; declined: the number, and 0 everywhere
-abbrev pub rowAnswer : Scheme → ℕ → RowAnswer
-rowAnswer s class = cond (eqb (rowCause s class) 0) (rowAt s (class - 1)) (rowRefused (rowCause s class))
-
--- the row of class i + 1 that the code makes of a scheme's parts
-abbrev pub rowFrom : List ℕ → List ℕ → List ℕ → ℕ → ℕ → ℕ → RowAnswer
-rowFrom rules lowers uppers columns classes i =
-    record {
-      number = 0;
-      lower = entriesOf (take columns (drop (i * 8) rules)) (take columns lowers) classes;
-      upper = entriesOf (take columns (drop (i * 8) rules)) (take columns uppers) classes;
-    }

@@ -1,10 +1,7 @@
-// The scheme of document 01, its acceptance, and its interval rows.
+// The scheme of document 01 and its acceptance.
 ghost use mathlib.Core.Path.{_≡_};
-ghost use Rattle.scheme.specs.Cause.{causeOf, outside};
-ghost use Rattle.scheme.specs.Rows.{rowAnswer};
+ghost use Rattle.scheme.specs.Cause.{causeOf, outside, orElse};
 
-pub mod gathering;
-mod rows;
 mod tests;
 
 // The limits of document 01, "Units and the scheme"; ONE is setchain's.
@@ -92,26 +89,9 @@ pub fn class_out(classes: u8, class: u64) -> bool
     class == 0 || (classes as u64) < class
 }
 
-// The answer of the row operation: a refusal number or 0, and the lower and upper entries.
-pub struct RowAnswer {
-    pub number: u8,
-    pub lower: [u64; 32],
-    pub upper: [u64; 32],
-}
-
-// The interval row of a class.
-pub fn row(scheme: Scheme, class: u64) -> RowAnswer
-    ensures { λ r. ⌜ r ≡ rowAnswer scheme class ⌝ }
+// The first of two causes, where 0 is none.
+pub fn or_else(first: u8, second: u8) -> u8
+    ensures { λ r. ⌜ r ≡ orElse first second ⌝ }
 {
-    let number = cause(scheme);
-    if number != 0 {
-        return rows::refused(number);
-    }
-    if class_out(scheme.classes, class) {
-        return rows::refused(CLASS_OUT);
-    }
-    let rules = scheme.rules;
-    let lowers = scheme.lowers;
-    let uppers = scheme.uppers;
-    rows::answered(rules, lowers, uppers, scheme.columns, scheme.classes, class)
+    if first == 0 { second } else { first }
 }

@@ -1,7 +1,7 @@
 -- `joguyvi_row` meets its contract: the cause of reading, or the row put into its buffers.
 -- Assumes nothing.
 use mathlib.Core.Path.{ap, _∙_}
-use Rattle.scheme.specs.Rows.{rowAnswer}
+use Rattle.rows.specs.Rows.{rowAnswer}
 use Rattle.capi.specs.Rows.{rowIn, putRowNumber}
 use Rattle.capi.proofs.Putting.{read-cause, read-passed, read-in}
 use Rattle.capi.proofs.Pairs.{pair-stopped, pair-passed, row-same}

@@ -1,11 +1,11 @@
 -- `row` meets its contract, by the cases of `Laws.Entries`.
 use mathlib.Core.Path.{sym, _∙_}
 use Rattle.scheme.specs.Laws.Cause.{outside-false}
 use Rattle.scheme.specs.Laws.Judged.{accepted-cause}
-use Rattle.scheme.specs.Laws.Entries.{row-declined, row-no-class, row-answered}
+use Rattle.rows.specs.Laws.Entries.{row-declined, row-no-class, row-answered}
 use borrow.Author.Needs.{needs}
-use Rattle.scheme.proofs.row.Statement.{statement}
-use Rattle.scheme.proofs.row.Tie as tie
+use Rattle.rows.proofs.row.Statement.{statement}
+use Rattle.rows.proofs.row.Tie as tie
 
 cause-requires : tie.Need-cause-requires
 cause-requires c κs = search needs

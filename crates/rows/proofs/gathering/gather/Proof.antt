@@ -3,9 +3,9 @@ use Prim.Native.Nat.{_≤_, _-_}
 use mathlib.Core.Path.{_≡_}
 use native.Mathlib.Omega.{arith}
 use lib.ListN.{length}
-use Rattle.scheme.specs.Laws.Rows.{gatheredTo, loop-begins, loop-turn, loop-capped, loop-ends}
-use Rattle.scheme.proofs.gathering.gather.Statement.{statement}
-use Rattle.scheme.proofs.gathering.gather.Tie as tie
+use Rattle.rows.specs.Laws.Rows.{gatheredTo, loop-begins, loop-turn, loop-capped, loop-ends}
+use Rattle.rows.proofs.gathering.gather.Statement.{statement}
+use Rattle.rows.proofs.gathering.gather.Tie as tie
 
 abbrev Inv-loop : tie.InvT-loop
 Inv-loop rules band out₀ n k₀ out k = (k ≤ n) × (out ≡ gatheredTo (length out₀) rules band k)

@@ -3,8 +3,8 @@ ghost use mathlib.Core.Path.{_≡_};
 ghost use Prim.Native.Nat.{min, _+_, _≤_};
 ghost use lib.ListN.{length, replicate};
 ghost use Rattle.setchain.specs.Rows.{ONE};
 ghost use Rattle.scheme.specs.Tables.{tab};
-ghost use Rattle.scheme.specs.Rows.{gathered, raised, Capped};
+ghost use Rattle.rows.specs.Rows.{gathered, raised, Capped};
 
 // b more than a, at most ONE
 fn add_capped(a: u64, b: u32) -> u64

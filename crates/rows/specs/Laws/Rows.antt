@@ -11,9 +11,9 @@ use borrow.Author.Tests.{eq-eqb, ne-eqb}
 use Rattle.setchain.specs.Sums.{sumTo, onlyIf}
 use Rattle.setchain.specs.Rows.{ONE}
 use Rattle.setchain.specs.Laws.Sums.{onlyIf-true, onlyIf-false, total-more}
 use Rattle.scheme.specs.Tables.{tab}
-use Rattle.scheme.specs.Rows.{gathered, Capped, raised}
+use Rattle.rows.specs.Rows.{gathered, Capped, raised}
 use Rattle.scheme.specs.Laws.Tab.{length-tab, getD-tab, as-tab, tab-eq}
 
 -- a rule that leads to none of the entries leaves them
 pub raised-none : (l : List ℕ) (rule end : ℕ) → Capped l → ((j : ℕ) → j < length l → rule ≡ suc j → ⊥) → l ≡ raised l rule end

@@ -3,10 +3,10 @@ use lib.ListN.{replicate}
 use lib.Seq.{length-take-le}
 use mathlib.Core.Path.{sym}
 use native.Mathlib.Omega.{arith}
-use Rattle.scheme.specs.Laws.Entries.{entries-joined}
+use Rattle.rows.specs.Laws.Entries.{entries-joined}
 use borrow.Author.Needs.{needs}
-use Rattle.scheme.proofs.rows.entries.Statement.{statement}
-use Rattle.scheme.proofs.rows.entries.Tie as tie
+use Rattle.rows.proofs.rows.entries.Statement.{statement}
+use Rattle.rows.proofs.rows.entries.Tie as tie
 
 array-borrow-prefix-out : tie.Need-array-borrow-prefix-out
 array-borrow-prefix-out c = search needs

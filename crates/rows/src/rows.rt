@@ -1,7 +1,7 @@
 // The row operation's parts.
 ghost use mathlib.Core.Path.{_≡_};
 ghost use Prim.Native.Nat.{_-_, _≤_};
-ghost use Rattle.scheme.specs.Rows.{entriesOf, rowRefused, rowFrom};
+ghost use Rattle.rows.specs.Rows.{entriesOf, rowRefused, rowFrom};
 use crate::RowAnswer;
 use crate::gathering::gather;
 

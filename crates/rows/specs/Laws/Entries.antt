@@ -16,17 +16,18 @@ use Rattle.setchain.specs.Rows.{ONE}
 use Rattle.setchain.specs.Cells.{sumInto}
 use Rattle.setchain.specs.Laws.Cells.{into-all}
 use Rattle.setchain.specs.Laws.Sums.{onlyIf-true, onlyIf-false, onlyIf-zero, sumTo-eq, sumTo-longer}
 use Rattle.scheme.specs.declared.Scheme.{Scheme}
-use Rattle.scheme.specs.declared.RowAnswer.{RowAnswer}
+use Rattle.rows.specs.declared.RowAnswer.{RowAnswer}
 use Rattle.scheme.specs.Tables.{tab}
 use Rattle.scheme.specs.Access.{ruleAt, lowerAt, upperAt}
 use Rattle.scheme.specs.Accepted.{Accepted}
 use Rattle.scheme.specs.Cause.{outside, causeOf, orElse, classCause}
 use Rattle.scheme.specs.Laws.Cause.{outside-false, first-cause, second-cause, declined, answered, cond-true, cond-false}
 use Rattle.scheme.specs.Laws.Judged.{accepted-cause}
-use Rattle.scheme.specs.Rows.{cellsOf, chainOf, gathered, entriesOf, rowCause, rowRefused, rowAt, rowAnswer, rowFrom}
+use Rattle.scheme.specs.Rows.{cellsOf, chainOf}
+use Rattle.rows.specs.Rows.{gathered, entriesOf, rowCause, rowRefused, rowAt, rowAnswer, rowFrom}
 use Rattle.scheme.specs.Laws.Sound.{accepted-cells}
 use Rattle.scheme.specs.Laws.Tab.{length-tab, getD-tab, as-tab, tab-eq}
 
 -- gathered entries followed by what stood beyond them
 pub entries-joined : (rules ends : List ℕ) (classes : ℕ) (g : List ℕ) → classes ≤ 32

@@ -2,9 +2,9 @@
 use Prim.Native.Nat.{_-_}
 use native.Mathlib.Omega.{arith}
 use lib.ListN.{length, length-set}
-use Rattle.scheme.specs.Laws.Clear.{Cleared, cleared-none, cleared-more, cleared-all}
-use Rattle.scheme.proofs.gathering.clear.Statement.{statement}
-use Rattle.scheme.proofs.gathering.clear.Tie as tie
+use Rattle.rows.specs.Laws.Clear.{Cleared, cleared-none, cleared-more, cleared-all}
+use Rattle.rows.proofs.gathering.clear.Statement.{statement}
+use Rattle.rows.proofs.gathering.clear.Tie as tie
 
 abbrev Inv-loop : tie.InvT-loop
 Inv-loop out₀ i₀ out i = Cleared out₀ i out

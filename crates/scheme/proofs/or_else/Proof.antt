@@ -1,7 +1,7 @@
 -- `or_else` meets its contract.
 use borrow.Author.Tests.{eq-eqb, ne-eqb}
-use Rattle.queries.proofs.or_else.Statement.{statement}
-use Rattle.queries.proofs.or_else.Tie as tie
+use Rattle.scheme.proofs.or_else.Statement.{statement}
+use Rattle.scheme.proofs.or_else.Tie as tie
 
 returns : tie.Need-returns
 returns c = simp (eq-eqb _ _ (c .if1 .taken))

@@ -2,10 +2,10 @@
 use mathlib.Core.Path.{sym}
 use Prim.Native.Nat.{_-_}
 use lib.Seq.{length-take-le}
-use Rattle.scheme.specs.Laws.Entries.{row-made}
+use Rattle.rows.specs.Laws.Entries.{row-made}
 use borrow.Author.Needs.{needs}
-use Rattle.scheme.proofs.rows.answered.Statement.{statement}
-use Rattle.scheme.proofs.rows.answered.Tie as tie
+use Rattle.rows.proofs.rows.answered.Statement.{statement}
+use Rattle.rows.proofs.rows.answered.Tie as tie
 
 sub-from : tie.Need-sub-from
 sub-from c = search needs

@@ -1,9 +1,9 @@
 -- `raise` meets its contract: the rule leads to no entry, or to one.
 use native.Mathlib.Omega.{arith}
-use Rattle.scheme.specs.Laws.Rows.{raised-none, raised-set}
+use Rattle.rows.specs.Laws.Rows.{raised-none, raised-set}
 use borrow.Author.Needs.{needs}
-use Rattle.scheme.proofs.gathering.raise.Statement.{statement}
-use Rattle.scheme.proofs.gathering.raise.Tie as tie
+use Rattle.rows.proofs.gathering.raise.Statement.{statement}
+use Rattle.rows.proofs.gathering.raise.Tie as tie
 
 returns : tie.Need-returns
 returns c = raised-none _ _ _ (c .before .before .pre) (λ j g e. omega arith)
