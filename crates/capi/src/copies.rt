@@ -1,4 +1,5 @@
-// Causes joined, and numbers copied into lent buffers.
+// The causes of buffers, and numbers copied into lent buffers.
+use scheme::or_else;
 ghost use mathlib.Core.Path.{_≡_};
 ghost use mathlib.Core.Bool.{cond, not};
 ghost use Prim.Native.Nat.{_≤_};
@@ -6,13 +7,6 @@ ghost use lib.Dec.{eqb};
 ghost use lib.ListN.{getD, length};
 ghost use Rattle.scheme.specs.Cause.{orElse};
 ghost use Rattle.scheme.specs.Tables.{tab};
-
-// The first of two causes, where 0 is none.
-pub fn or_else(first: u8, second: u8) -> u8
-    ensures { λ r. ⌜ r ≡ orElse first second ⌝ }
-{
-    if first == 0 { second } else { first }
-}
 
 // Cause 13: a length that is not the size asked for.
 pub fn size_cause(size: usize, given: usize) -> u8

@@ -2,6 +2,7 @@
 use crate::copies;
 use rows::RowAnswer;
 use scheme::Scheme;
+use scheme::or_else;
 ghost use mathlib.Core.Path.{_≡_};
 ghost use Prim.Native.Nat.{_≤_};
 ghost use Rattle.capi.specs.Buffers.{buffersCause, filledWhere};
@@ -14,7 +15,7 @@ pub fn put_row(answer: RowAnswer, lower: &mut [u64], upper: &mut [u64]) -> u8
     ensures uppers { λ r. ⌜ now (upper .exit) ≡ filledWhere r (answer .upper) (now (upper .entry)) ⌝ }
 {
     let sizes = copies::sizes_cause(32, lower.len(), upper.len());
-    let number = copies::or_else(answer.number, sizes);
+    let number = or_else(answer.number, sizes);
     if number != 0 {
         return number;
     }

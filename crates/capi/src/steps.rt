@@ -2,6 +2,7 @@
 use crate::copies;
 use bounds::StepAnswer;
 use scheme::Scheme;
+use scheme::or_else;
 ghost use mathlib.Core.Path.{_≡_};
 ghost use mathlib.Core.List.{[], _∷_};
 ghost use mathlib.Core.Bool.{cond, not};
@@ -40,8 +41,8 @@ fn payoff_of(numbers: &[u64]) -> [u64; 32]
 fn buffers_cause(payoff: &[u64], figure: usize, row: usize) -> u8
     ensures { λ r. ⌜ r ≡ orElse (bufferCause 32 (now (payoff .entry))) (orElse (cond (not (eqb figure 1)) 13 0) (cond (not (eqb row 32)) 13 0)) ⌝ }
 {
-    let answers = copies::or_else(copies::size_cause(1, figure), copies::size_cause(32, row));
-    copies::or_else(copies::size_cause(32, payoff.len()), answers)
+    let answers = or_else(copies::size_cause(1, figure), copies::size_cause(32, row));
+    or_else(copies::size_cause(32, payoff.len()), answers)
 }
 
 // Puts a step's figure into a buffer of 1 number and its row into one of 32, and answers the cause, or 0; the payoff was lent as `payoff`.
@@ -51,7 +52,7 @@ fn put_step(answer: StepAnswer, payoff: &[u64], figure: &mut [u64], row: &mut [u
     ensures rows { λ r. ⌜ now (row .exit) ≡ filledWhere r (answer .row) (now (row .entry)) ⌝ }
 {
     let sizes = buffers_cause(payoff, figure.len(), row.len());
-    let number = copies::or_else(answer.number, sizes);
+    let number = or_else(answer.number, sizes);
     if number != 0 {
         return number;
     }

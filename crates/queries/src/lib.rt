@@ -1,5 +1,6 @@
 // The causes for which a query of a scheme is declined, tests in number order (document 01, "When a call is declined").
 use scheme::Scheme;
+use scheme::or_else;
 ghost use mathlib.Core.Path.{_≡_};
 ghost use Prim.Native.Nat.{_+_, _*_};
 ghost use mathlib.Core.Bool.{cond, not, _||_};
@@ -9,13 +10,6 @@ ghost use Rattle.queries.specs.Causes.{moneyCause, shareCause, tableSize
 
 // A sheet slice not of s numbers.
 pub const SLICE_OUT: u8 = 13;
-
-// The first of two causes, where 0 is none.
-fn or_else(first: u8, second: u8) -> u8
-    ensures { λ r. ⌜ r ≡ orElse first second ⌝ }
-{
-    if first == 0 { second } else { first }
-}
 
 // Cause 11: a class that is not one of 1 to s.
 fn class_cause(classes: u8, class: u64) -> u8

@@ -2,13 +2,13 @@
 ghost use mathlib.Core.Path.{_≡_};
 ghost use Prim.Native.Nat.{_/_, _≤_, _<_};
 ghost use Rattle.scheme.specs.Tables.{tab};
-ghost use Rattle.scheme.specs.Cause.{orElse};
 ghost use Rattle.ready.specs.Scales.{chosen, classesOf, factorOf, tenthsOf};
 ghost use Rattle.ready.specs.Moves.{held, movedClass, Movable};
 ghost use Rattle.ready.specs.Ready.{ruleEntry, premiumEntry, readyScheme};
 ghost use Rattle.scheme.specs.Stored.{noScheme};
 ghost use Rattle.ready.specs.Answer.{numberCause, baseCause, readyCause, readyAnswer};
 use scheme::Scheme;
+use scheme::or_else;
 
 // The whole of a share, in parts.
 const ONE: u32 = 1000000000;
@@ -280,16 +280,6 @@ fn none() -> Scheme
         uppers: [0; 8],
         premiums: [0; 32],
     }
-}
-
-// The first of two causes: 0 is none.
-fn or_else(first: u8, second: u8) -> u8
-    ensures { λ r. ⌜ r ≡ orElse first second ⌝ }
-{
-    if first == 0 {
-        return second;
-    }
-    first
 }
 
 // The cause of a number that is not 1 to 3, or 0.
