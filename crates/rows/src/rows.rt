@@ -43,8 +43,9 @@ pub fn answered(
     let m = columns as usize;
     let from = (class - 1) as usize * 8;
     let to = from + m;
-    let lower = entries(&rules[from..to], &lowers[..m], classes);
-    let upper = entries(&rules[from..to], &uppers[..m], classes);
+    let own = &rules[from..to];
+    let lower = entries(own, &lowers[..m], classes);
+    let upper = entries(own, &uppers[..m], classes);
     RowAnswer {
         number: 0,
         lower,
