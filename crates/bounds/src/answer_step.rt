@@ -4,6 +4,7 @@ use crate::step::step;
 use order::arrange;
 use scheme::Scheme;
 use rows::gathering::gather;
+use scheme::Scheme;
 ghost use mathlib.Core.Path.{_≡_};
 ghost use Prim.Native.Nat.{_≤_};
 ghost use lib.Dec.{ltb};

@@ -1,8 +1,8 @@
 // The entries of all interval rows, listed by the class that they lead to: a year then passes each of them once, along the order of the payoffs.
 // The list of state j stands from place j × 32 on: of each entry the state whose row has it, its lower end, and the room from there to its upper end.
 use crate::fill::total;
-use scheme::Scheme;
 use rows::gathering::gather;
+use scheme::Scheme;
 ghost use lib.ListN.{take};
 ghost use Rattle.scheme.specs.Accepted.{Accepted};
 ghost use Rattle.bounds.specs.Entries.{Addable, Added, Empty, Listable, Listed, RowListed, Storable, StoredParts};

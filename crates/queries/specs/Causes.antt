@@ -1,5 +1,7 @@
 -- The first cause for which a query of a scheme is declined (document 01, "When a call is declined").
 use Prim.Native.Nat.{ℕ, suc, _+_, _*_}
+use mathlib.Core.Bool.{cond, not, _||_}
+use lib.Dec.{eqb}
 use Rattle.scheme.specs.declared.Scheme.{Scheme}
 use Rattle.scheme.specs.Cause.{causeOf, orElse, classCause, yearCause}
 
@@ -11,6 +13,14 @@ shareCause s class year = orElse (causeOf s) (orElse (classCause s class) (yearC
 abbrev pub moneyCause : Scheme → ℕ → ℕ
 moneyCause s year = orElse (causeOf s) (yearCause s year)
 
+-- cause 13: one of two slices is not of as many numbers as are wanted
+abbrev pub slicesCause : (size low high : ℕ) → ℕ
+slicesCause size low high = cond (not (eqb low size) || not (eqb high size)) 13 0
+
+-- of a share sheet into slices of two lengths: causes 3, 5 to 10, 12, then 13
+abbrev pub sheetCause : Scheme → (year low high : ℕ) → ℕ
+sheetCause s year low high = orElse (moneyCause s year) (slicesCause (s .classes) low high)
+
 -- the place of the total in the table of all figures, after the shares and the mean of every year
 abbrev pub totalPlace : Scheme → ℕ
 totalPlace s = suc (s .horizon) * suc (s .classes)
@@ -18,3 +28,7 @@ totalPlace s = suc (s .horizon) * suc (s .classes)
 -- how many numbers the table has
 abbrev pub tableSize : Scheme → ℕ
 tableSize s = totalPlace s + 1
+
+-- of the table into slices of two lengths: causes 3, 5 to 10, then 13
+abbrev pub tableCause : Scheme → (low high : ℕ) → ℕ
+tableCause s low high = orElse (causeOf s) (slicesCause (tableSize s) low high)

@@ -3,10 +3,10 @@ use scheme::Scheme;
 use scheme::or_else;
 ghost use mathlib.Core.Path.{_≡_};
 ghost use Prim.Native.Nat.{_+_, _*_};
-ghost use mathlib.Core.Bool.{cond, not, _||_};
-ghost use lib.Dec.{eqb, ltb};
-ghost use Rattle.scheme.specs.Cause.{causeOf, outside, orElse};
-ghost use Rattle.queries.specs.Causes.{moneyCause, shareCause, tableSize};
+ghost use mathlib.Core.Bool.{cond};
+ghost use lib.Dec.{ltb};
+ghost use Rattle.scheme.specs.Cause.{outside};
+ghost use Rattle.queries.specs.Causes.{moneyCause, shareCause, sheetCause, slicesCause, tableCause};
 
 // A sheet slice not of s numbers.
 pub const SLICE_OUT: u8 = 13;
@@ -33,7 +33,7 @@ fn year_cause(horizon: u8, year: u64) -> u8
 
 // Cause 13: one of two slices is not of as many numbers as are wanted.
 fn slice_cause(size: usize, low: usize, high: usize) -> u8
-    ensures { λ r. ⌜ r ≡ cond (not (eqb low size) || not (eqb high size)) 13 0 ⌝ }
+    ensures { λ r. ⌜ r ≡ slicesCause size low high ⌝ }
 {
     if low != size {
         return SLICE_OUT;
@@ -66,7 +66,7 @@ pub fn share_cause(scheme: Scheme, class: u64, year: u64) -> u8
 
 // The first cause of a call for a share sheet with slices of two lengths, or 0.
 pub fn sheet_cause(scheme: Scheme, year: u64, low: usize, high: usize) -> u8
-    ensures { λ r. ⌜ r ≡ orElse (moneyCause scheme year) (cond (not (eqb low (scheme .classes)) || not (eqb high (scheme .classes))) 13 0) ⌝ }
+    ensures { λ r. ⌜ r ≡ sheetCause scheme year low high ⌝ }
 {
     let money = money_cause(scheme, year);
     let slices = slice_cause(scheme.classes as usize, low, high);
@@ -84,7 +84,7 @@ fn table_size(classes: u8, horizon: u8) -> usize
 
 // The first cause of a call for all figures with slices of two lengths, or 0.
 pub fn table_cause(scheme: Scheme, low: usize, high: usize) -> u8
-    ensures { λ r. ⌜ r ≡ orElse (causeOf scheme) (cond (not (eqb low (tableSize scheme)) || not (eqb high (tableSize scheme))) 13 0) ⌝ }
+    ensures { λ r. ⌜ r ≡ tableCause scheme low high ⌝ }
 {
     let own = scheme::cause(scheme);
     let size = table_size(scheme.classes, scheme.horizon);

@@ -31,7 +31,8 @@ fn raise(out: &mut [u64], rule: u8, end: u32)
     if out.len() < class {
         return;
     }
-    out[class - 1] = add_capped(out[class - 1], end);
+    let place = class - 1;
+    out[place] = add_capped(out[place], end);
 }
 
 // 0 everywhere

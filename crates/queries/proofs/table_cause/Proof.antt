@@ -1,12 +1,10 @@
 -- `table_cause` meets its contract: the causes are the definition's, in its order.
 use Prim.Native.Nat.{_+_, _*_}
 use mathlib.Core.Path.{_≡_, ap, ap₂, _∙_}
-use mathlib.Core.Bool.{cond, not, _||_}
-use lib.Dec.{eqb}
 use native.Mathlib.Omega.{arith}
 use Rattle.scheme.specs.declared.Scheme.{Scheme}
 use Rattle.scheme.specs.Cause.{orElse}
-use Rattle.queries.specs.Causes.{tableSize}
+use Rattle.queries.specs.Causes.{slicesCause, tableSize}
 use borrow.Author.Needs.{needs}
 use Rattle.queries.proofs.table_cause.Statement.{statement}
 use Rattle.queries.proofs.table_cause.Tie as tie
@@ -32,7 +30,7 @@ returns c =
     c .or-else .ensures
     ∙ ap₂ (λ a b. orElse a b) (c .before .before .before .cause .ensures)
     (c .before .slice-cause .ensures
-    ∙ ap (λ n. cond (not (eqb (c .before .before .before .before .args .low) n) || not (eqb (c .before .before .before .before .args .high) n)) 13 0) (c .before .before .table-size .ensures ∙ sized (c .before .before .before .before .args .scheme)))
+    ∙ ap (λ n. slicesCause n (c .before .before .before .before .args .low) (c .before .before .before .before .args .high)) (c .before .before .table-size .ensures ∙ sized (c .before .before .before .before .args .scheme)))
 
 pub table-cause-spec : {M : Type 1} → statement M
 table-cause-spec =

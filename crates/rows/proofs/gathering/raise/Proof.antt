@@ -11,8 +11,8 @@ returns c = raised-none _ _ _ (c .before .before .pre) (λ j g e. omega arith)
 returns-2 : tie.Need-returns-2
 returns-2 c = raised-none _ _ _ (c .before .before .before .pre) (λ j g e. omega arith)
 
-sub-add-capped : tie.Need-sub-add-capped
-sub-add-capped c = search needs
+sub-place : tie.Need-sub-place
+sub-place c = search needs
 
 mul-add-capped : tie.Need-mul-add-capped
 mul-add-capped c = search needs
@@ -22,9 +22,6 @@ slice-read-add-capped c = search needs
 
 add-capped-requires : tie.Need-add-capped-requires
 add-capped-requires c κs = c .before .before .before .before .pre _
-
-sub-out : tie.Need-sub-out
-sub-out c = search needs
 
 mul-out : tie.Need-mul-out
 mul-out c = search needs
@@ -46,11 +43,10 @@ raise-spec =
     (tie.spec
     returns
     returns-2
-    sub-add-capped
+    sub-place
     mul-add-capped
     slice-read-add-capped
     add-capped-requires
-    sub-out
     mul-out
     slice-write-out
     same-length

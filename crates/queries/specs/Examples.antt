@@ -1,0 +1,36 @@
+-- Worked cases, computed: the causes of queries of Example A, which has 2 classes and a horizon of 2 years, and their order.
+use mathlib.Core.Path.{_≡_, refl}
+use Rattle.setchain.specs.Sums.{sumTo}
+use Rattle.scheme.specs.Tables.{anyBelow}
+use Rattle.scheme.specs.Cause.{sizeOut, startOut, horizonOut, ruleOut, bandOut, sumOut, premiumOut, causeWhere}
+use Rattle.scheme.specs.Examples.{schemeA, single}
+use Rattle.queries.specs.Causes.{shareCause, moneyCause, sheetCause, tableSize, tableCause}
+
+-- a class above s, a year above the horizon, and both
+pub record ShareCauses : Type 0 where
+  pub class : shareCause schemeA 3 2 ≡ 11
+  pub noClass : shareCause schemeA 0 2 ≡ 11
+  pub year : shareCause schemeA 2 3 ≡ 12
+  pub both : shareCause schemeA 3 9 ≡ 11
+  pub none : shareCause schemeA 2 2 ≡ 0
+  pub scheme : shareCause (single 2 0 1000000000 0) 3 101 ≡ 7
+
+-- a slice one too long or too short: of s numbers for a sheet, and of 3 × 3 + 1 for the table
+pub record SliceCauses : Type 0 where
+  pub money : moneyCause schemeA 3 ≡ 12
+  pub moneyNone : moneyCause schemeA 2 ≡ 0
+  pub sheet : sheetCause schemeA 2 2 3 ≡ 13
+  pub sheetYear : sheetCause schemeA 3 2 3 ≡ 12
+  pub sheetNone : sheetCause schemeA 2 2 2 ≡ 0
+  pub size : tableSize schemeA ≡ 10
+  pub table : tableCause schemeA 9 10 ≡ 13
+  pub tableNone : tableCause schemeA 10 10 ≡ 0
+
+pub share-causes : ShareCauses
+unfolding causeWhere sizeOut startOut horizonOut ruleOut bandOut sumOut premiumOut anyBelow sumTo
+share-causes = record { class = refl; noClass = refl; year = refl; both = refl; none = refl; scheme = refl }
+
+pub slice-causes : SliceCauses
+unfolding causeWhere sizeOut startOut horizonOut ruleOut bandOut sumOut premiumOut anyBelow sumTo
+slice-causes =
+    record { money = refl; moneyNone = refl; sheet = refl; sheetYear = refl; sheetNone = refl; size = refl; table = refl; tableNone = refl }

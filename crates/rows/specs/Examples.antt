@@ -1,0 +1,36 @@
+-- Worked cases, computed: the row operation's answers for Example A (document 01, "Sheet program and examples"), and entries that are capped.
+use Prim.Native.Nat.{ℕ}
+use mathlib.Core.Path.{_≡_, refl}
+use mathlib.Core.List.{List, [], _∷_}
+use Rattle.setchain.specs.Sums.{sumTo, onlyIf}
+use Rattle.setchain.specs.Rows.{ONE}
+use Rattle.scheme.specs.Tables.{anyBelow, tab}
+use Rattle.scheme.specs.Cause.{sizeOut, startOut, horizonOut, ruleOut, bandOut, sumOut, premiumOut, causeWhere}
+use Rattle.scheme.specs.Examples.{padded, schemeA, single}
+use Rattle.rows.specs.declared.RowAnswer.{RowAnswer}
+use Rattle.rows.specs.Rows.{gathered, rowRefused, rowAt, rowAnswer}
+
+-- the answer with these entries, and 0 beyond
+abbrev pub answerOf : (lower upper : List ℕ) → RowAnswer
+answerOf lower upper = record { number = 0; lower = padded 30 lower; upper = padded 30 upper }
+
+-- "class 1 row: lower 900000000, 0; upper 1000000000, 50000000. Class 2: lower 800000000, 100000000; upper 900000000, 250000000."
+pub record RowAnswersA : Type 0 where
+  pub row1 : rowAnswer schemeA 1 ≡ answerOf (900000000 ∷ 0 ∷ []) (1000000000 ∷ 50000000 ∷ [])
+  pub row2 : rowAnswer schemeA 2 ≡ answerOf (800000000 ∷ 100000000 ∷ []) (900000000 ∷ 250000000 ∷ [])
+  pub noClass : rowAnswer schemeA 0 ≡ rowRefused 11
+  pub beyond : rowAnswer schemeA 3 ≡ rowRefused 11
+  pub declined : rowAnswer (single 2 0 1000000000 0) 2 ≡ rowRefused 7
+
+pub row-answers-a : RowAnswersA
+unfolding causeWhere sizeOut startOut horizonOut ruleOut bandOut sumOut premiumOut anyBelow sumTo onlyIf rowAt tab
+row-answers-a = record { row1 = refl; row2 = refl; noClass = refl; beyond = refl; declined = refl }
+
+-- two cells that lead to class 1, and one with no band
+pub record GatheredTwice : Type 0 where
+  pub capped : gathered (1 ∷ 1 ∷ 1 ∷ []) (600000000 ∷ 600000000 ∷ []) 0 ≡ ONE
+  pub elsewhere : gathered (1 ∷ 1 ∷ 1 ∷ []) (600000000 ∷ 600000000 ∷ []) 1 ≡ 0
+
+pub gathered-twice : GatheredTwice
+unfolding sumTo onlyIf
+gathered-twice = record { capped = refl; elsewhere = refl }
