@@ -22,7 +22,7 @@ ghost use Rattle.capi.specs.Steps.{figureOf, RowKept, stepNumber};
 mod buffers;
 mod copies;
 mod records;
-mod rows;
+mod row_buffers;
 mod steps;
 mod texts;
 
@@ -162,7 +162,7 @@ pub extern "C" fn joguyvi_row(bytes: &[u8], class: u64, lower: &mut [u64], upper
     if number != 0 {
         return number;
     }
-    rows::put_row(::rows::row(answer.scheme, class), lower, upper)
+    row_buffers::put_row(rows::row(answer.scheme, class), lower, upper)
 }
 
 // The low step of a class: its figure into a buffer of 1 number, and a row that reaches it into one of 32; the payoff is of 32 numbers.
@@ -222,5 +222,5 @@ pub extern "C" fn joguyvi_bands(bytes: &[u8], lower: &mut [u32], upper: &mut [u3
     if number != 0 {
         return number;
     }
-    rows::put_bands(answer.scheme, lower, upper)
+    row_buffers::put_bands(answer.scheme, lower, upper)
 }

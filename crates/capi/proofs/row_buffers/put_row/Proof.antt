@@ -8,8 +8,8 @@ use Rattle.capi.specs.Rows.{putRowNumber}
 use Rattle.capi.proofs.Putting.{second-none}
 use Rattle.capi.proofs.Pairs.{pair-sizes, pair-left, pair-filled}
 use borrow.Author.Needs.{needs}
-use Rattle.capi.proofs.rows.put_row.Statement.{statement}
-use Rattle.capi.proofs.rows.put_row.Tie as tie
+use Rattle.capi.proofs.row_buffers.put_row.Statement.{statement}
+use Rattle.capi.proofs.row_buffers.put_row.Tie as tie
 
 sizes-cause-requires : tie.Need-sizes-cause-requires
 sizes-cause-requires c κs = search needs

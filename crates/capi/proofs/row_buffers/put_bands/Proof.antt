@@ -8,8 +8,8 @@ use Rattle.capi.specs.Buffers.{buffersCause}
 use Rattle.capi.specs.Rows.{lowerBands, upperBands}
 use Rattle.capi.proofs.Pairs.{pair-sizes, pair-left, pair-filled}
 use borrow.Author.Needs.{needs}
-use Rattle.capi.proofs.rows.put_bands.Statement.{statement}
-use Rattle.capi.proofs.rows.put_bands.Tie as tie
+use Rattle.capi.proofs.row_buffers.put_bands.Statement.{statement}
+use Rattle.capi.proofs.row_buffers.put_bands.Tie as tie
 
 count-requires : tie.Need-count-requires
 count-requires c κs = search needs

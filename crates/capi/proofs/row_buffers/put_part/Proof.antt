@@ -2,8 +2,8 @@
 -- Assumes nothing.
 use Rattle.capi.proofs.Parts.{part-empty, part-out, part-copied}
 use borrow.Author.Needs.{needs}
-use Rattle.capi.proofs.rows.put_part.Statement.{statement}
-use Rattle.capi.proofs.rows.put_part.Tie as tie
+use Rattle.capi.proofs.row_buffers.put_part.Statement.{statement}
+use Rattle.capi.proofs.row_buffers.put_part.Tie as tie
 
 returns : tie.Need-returns
 returns c = part-empty (c .before .before .before .args .part .now) (c .before .before .before .args .out .now) (c .if1 .taken)
