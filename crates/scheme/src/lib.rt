@@ -66,20 +66,14 @@ pub fn cause(scheme: Scheme) -> u8
         return form;
     }
     let rules = scheme.rules;
-    if tests::rule_out(&rules, classes, columns) {
-        return RULE_OUT;
-    }
     let lowers = scheme.lowers;
     let uppers = scheme.uppers;
-    let bands = tests::band_cause(&lowers, &uppers, columns);
-    if bands != 0 {
-        return bands;
-    }
     let premiums = scheme.premiums;
-    if tests::premium_out(&premiums, classes) {
-        return MONEY_OUT;
-    }
-    0
+    let leads = tests::rule_cause(&rules, classes, columns);
+    let bands = tests::band_cause(&lowers, &uppers, columns);
+    let money = tests::premium_cause(&premiums, classes);
+    let later = or_else(bands, money);
+    or_else(leads, later)
 }
 
 // Whether a class is not one of 1 to s: cause 11.

@@ -1,6 +1,6 @@
 // The tests of acceptance, each over the numbers that it is about.
 ghost use mathlib.Core.Path.{_≡_};
-ghost use mathlib.Core.Bool.{true, false, _||_};
+ghost use mathlib.Core.Bool.{true, false, cond, _||_};
 ghost use Prim.Native.Nat.{_+_, _*_, _<_, _≤_};
 ghost use lib.Dec.{ltb};
 ghost use lib.ListN.{getD};
@@ -53,19 +53,19 @@ fn row_out(rules: &[u8; 256], from: usize, classes: u8, columns: u8) -> bool
 }
 
 // some rule of some class is outside 1 to s
-pub fn rule_out(rules: &[u8; 256], classes: u8, columns: u8) -> bool
+pub fn rule_cause(rules: &[u8; 256], classes: u8, columns: u8) -> u8
     requires { ⌜ (classes ≤ 32) × (columns ≤ 8) ⌝ }
-    ensures { λ r. ⌜ r ≡ anyBelow classes (λ i. anyBelow columns (λ k. outside classes (getD (now (rules .entry)) (i * 8 + k) 0))) ⌝ }
+    ensures { λ r. ⌜ r ≡ cond (anyBelow classes (λ i. anyBelow columns (λ k. outside classes (getD (now (rules .entry)) (i * 8 + k) 0)))) 7 0 ⌝ }
 {
     let n = classes as usize;
     let mut i: usize = 0;
     while i < n {
         if row_out(rules, i * 8, classes, columns) {
-            return true;
+            return crate::RULE_OUT;
         }
         i += 1;
     }
-    false
+    0
 }
 
 // a band's lower end is above its upper, or its upper above ONE
@@ -136,17 +136,17 @@ pub fn band_cause(lowers: &[u32; 8], uppers: &[u32; 8], columns: u8) -> u8
 }
 
 // some class's premium is above 10,000,000
-pub fn premium_out(premiums: &[u32; 32], classes: u8) -> bool
+pub fn premium_cause(premiums: &[u32; 32], classes: u8) -> u8
     requires { ⌜ classes ≤ 32 ⌝ }
-    ensures { λ r. ⌜ r ≡ anyBelow classes (λ i. ltb 10000000 (getD (now (premiums .entry)) i 0)) ⌝ }
+    ensures { λ r. ⌜ r ≡ cond (anyBelow classes (λ i. ltb 10000000 (getD (now (premiums .entry)) i 0))) 10 0 ⌝ }
 {
     let n = classes as usize;
     let mut i: usize = 0;
     while i < n {
         if crate::MOST_PREMIUM < premiums[i] {
-            return true;
+            return crate::MONEY_OUT;
         }
         i += 1;
     }
-    false
+    0
 }

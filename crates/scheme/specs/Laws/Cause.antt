@@ -48,15 +48,13 @@ form-on false true c rest n e h = absurd (omega arith)
 form-on false false true rest n e h = absurd (omega arith)
 form-on false false false rest n e h = refl
 
-bands-hit : (a b : Bool) (rest n : ℕ) → n ≡ cond a 8 (cond b 9 0) → (n ≡ 0 → ⊥) → n ≡ cond a 8 (cond b 9 rest)
-bands-hit true b rest n e h = e
-bands-hit false true rest n e h = e
-bands-hit false false rest n e h = absurd (h e)
-
-bands-on : (a b : Bool) (rest n : ℕ) → n ≡ cond a 8 (cond b 9 0) → n ≡ 0 → cond a 8 (cond b 9 rest) ≡ rest
-bands-on true b rest n e h = absurd (omega arith)
-bands-on false true rest n e h = absurd (omega arith)
-bands-on false false rest n e h = refl
+-- the stages after the form, joined
+joined : (a b c d : Bool) → orElse (cond a 7 0) (orElse (cond b 8 (cond c 9 0)) (cond d 10 0)) ≡ cond a 7 (cond b 8 (cond c 9 (cond d 10 0)))
+joined true b c d = refl
+joined false true c d = refl
+joined false false true d = refl
+joined false false false true = refl
+joined false false false false = refl
 
 pub cond-true : (b : Bool) (x y : ℕ) → b ≡ true → cond b x y ≡ x
 cond-true b x y e = rw e
@@ -83,8 +81,8 @@ module _ (s : Scheme) (moneyOut : Bool) where
   afterForm = cond (ruleOut s) 7 (cond (bandOut s) 8 (cond (sumOut s) 9 (cond moneyOut 10 0)))
 
   pub cause-form : (n : ℕ) → n ≡ formCause (s .classes) (s .columns) (s .start) (s .horizon) → (n ≡ 0 → ⊥) → n ≡ causeWhere s moneyOut
-  unfolding causeWhere sizeOut startOut horizonOut afterForm
-  cause-form n e h = form-hit (sizeOut s) (startOut s) (horizonOut s) afterForm n e h
+  unfolding causeWhere sizeOut startOut horizonOut
+  cause-form n e h = form-hit (sizeOut s) (startOut s) (horizonOut s) _ n e h
 
   module _ (number : ℕ) (is : number ≡ formCause (s .classes) (s .columns) (s .start) (s .horizon)) (none : number ≡ 0) where
     after-form : causeWhere s moneyOut ≡ afterForm
@@ -97,17 +95,9 @@ module _ (s : Scheme) (moneyOut : Bool) where
         let some = size-fits s number is none .someClass in
         ap₂ (λ x y. cond x 8 (cond y 9 0)) (sym (any-same (s .classes) _ some)) (sym (any-same (s .classes) _ some))
 
-    pub cause-rule : ruleOut s ≡ true → 7 ≡ causeWhere s moneyOut
+    pub cause-later : orElse (cond (ruleOut s) 7 0) (orElse (bandCause (cellCount s) (lowerAt s 0) (upperAt s 0)) (cond moneyOut 10 0)) ≡ causeWhere s moneyOut
     unfolding afterForm
-    cause-rule h = sym (after-form ∙ cond-true (ruleOut s) 7 _ h)
-
-    module _ (rulesIn : ruleOut s ≡ false) where
-      after-rules : causeWhere s moneyOut ≡ cond (bandOut s) 8 (cond (sumOut s) 9 (cond moneyOut 10 0))
-      unfolding afterForm
-      after-rules = after-form ∙ cond-false (ruleOut s) 7 _ rulesIn
-
-      pub cause-bands : (n : ℕ) → n ≡ bandCause (cellCount s) (lowerAt s 0) (upperAt s 0) → (n ≡ 0 → ⊥) → n ≡ causeWhere s moneyOut
-      cause-bands n e h = bands-hit (bandOut s) (sumOut s) (cond moneyOut 10 0) n (e ∙ same-bands) h ∙ sym after-rules
-
-      pub cause-money : (n : ℕ) → n ≡ bandCause (cellCount s) (lowerAt s 0) (upperAt s 0) → n ≡ 0 → cond moneyOut 10 0 ≡ causeWhere s moneyOut
-      cause-money n e h = sym (after-rules ∙ bands-on (bandOut s) (sumOut s) (cond moneyOut 10 0) n (e ∙ same-bands) h)
+    cause-later =
+        ap (λ n. orElse (cond (ruleOut s) 7 0) (orElse n (cond moneyOut 10 0))) same-bands
+        ∙ joined (ruleOut s) (bandOut s) (sumOut s) moneyOut
+        ∙ sym after-form

@@ -1,4 +1,4 @@
--- `rule_out` meets its contract: no class before i has a rule outside 1 to s.
+-- `rule_cause` meets its contract: no class before i has a rule outside 1 to s.
 use Prim.Native.Nat.{_≤_, _+_, _*_, _-_}
 use mathlib.Core.Path.{_≡_, sym, _∙_}
 use mathlib.Core.Bool.{false}
@@ -6,9 +6,10 @@ use native.Mathlib.Omega.{arith}
 use lib.ListN.{getD}
 use Rattle.scheme.specs.Tables.{anyBelow}
 use Rattle.scheme.specs.Cause.{outside}
+use Rattle.scheme.specs.Laws.Cause.{cond-true, cond-false}
 use Rattle.scheme.specs.Laws.Tables.{any-none, any-more, any-hit, any-end}
-use Rattle.scheme.proofs.tests.rule_out.Statement.{statement}
-use Rattle.scheme.proofs.tests.rule_out.Tie as tie
+use Rattle.scheme.proofs.tests.rule_cause.Statement.{statement}
+use Rattle.scheme.proofs.tests.rule_cause.Tie as tie
 
 abbrev Inv-loop : tie.InvT-loop
 Inv-loop rules classes columns n i₀ i = (i ≤ n) × (anyBelow i (λ a. anyBelow columns (λ k. outside classes (getD rules (a * 8 + k) 0))) ≡ false)
@@ -26,7 +27,7 @@ row-out-requires : tie.Need-row-out-requires Inv-loop μ-loop
 row-out-requires c κs = omega arith
 
 returns : tie.Need-returns Inv-loop μ-loop
-returns c = sym (any-hit _ (c .before .before .before .loop .i) _ (omega arith) (sym (c .before .row-out .ensures) ∙ c .if1 .taken))
+returns c = sym (cond-true _ 7 0 (any-hit _ (c .before .before .before .loop .i) _ (omega arith) (sym (c .before .row-out .ensures) ∙ c .if1 .taken)))
 
 add-i : tie.Need-add-i Inv-loop μ-loop
 add-i c = omega arith
@@ -38,10 +39,10 @@ loop-again : tie.Need-loop-again Inv-loop μ-loop
 loop-again c = (omega arith, any-more _ _ (c .before .before .before .loop .inv .1) (sym (c .before .row-out .ensures) ∙ c .if1 .left))
 
 returns-2 : tie.Need-returns-2 Inv-loop μ-loop
-returns-2 c = any-end _ _ _ (omega arith) (c .before .loop .inv .1)
+returns-2 c = sym (cond-false _ 7 0 (sym (any-end _ _ _ (omega arith) (c .before .loop .inv .1))))
 
-pub rule-out-spec : {M : Type 1} → statement M
-rule-out-spec =
+pub rule-cause-spec : {M : Type 1} → statement M
+rule-cause-spec =
     tie.close
     (tie.spec
     Inv-loop

@@ -1,4 +1,4 @@
--- `premium_out` meets its contract: no class before i has a premium above the limit.
+-- `premium_cause` meets its contract: no class before i has a premium above the limit.
 use Prim.Native.Nat.{_≤_, _-_}
 use mathlib.Core.Path.{_≡_, sym}
 use mathlib.Core.Bool.{false}
@@ -7,9 +7,10 @@ use lib.Dec.{ltb}
 use lib.ListN.{getD}
 use borrow.Author.Tests.{lt-ltb, le-ltb}
 use Rattle.scheme.specs.Tables.{anyBelow}
+use Rattle.scheme.specs.Laws.Cause.{cond-true, cond-false}
 use Rattle.scheme.specs.Laws.Tables.{any-none, any-more, any-hit, any-end}
-use Rattle.scheme.proofs.tests.premium_out.Statement.{statement}
-use Rattle.scheme.proofs.tests.premium_out.Tie as tie
+use Rattle.scheme.proofs.tests.premium_cause.Statement.{statement}
+use Rattle.scheme.proofs.tests.premium_cause.Tie as tie
 
 abbrev Inv-loop : tie.InvT-loop
 Inv-loop premiums classes n i₀ i = (i ≤ n) × (anyBelow i (λ j. ltb 10000000 (getD premiums j 0)) ≡ false)
@@ -27,7 +28,7 @@ element-copy-out-if1 : tie.Need-element-copy-out-if1 Inv-loop μ-loop
 element-copy-out-if1 c = omega arith
 
 returns : tie.Need-returns Inv-loop μ-loop
-returns c = sym (any-hit _ (c .before .before .before .loop .i) _ (omega arith) (lt-ltb _ _ (c .if1 .taken)))
+returns c = sym (cond-true _ 10 0 (any-hit _ (c .before .before .before .loop .i) _ (omega arith) (lt-ltb _ _ (c .if1 .taken))))
 
 add-i : tie.Need-add-i Inv-loop μ-loop
 add-i c = omega arith
@@ -39,10 +40,10 @@ loop-again : tie.Need-loop-again Inv-loop μ-loop
 loop-again c = (omega arith, any-more _ _ (c .before .before .before .loop .inv .1) (le-ltb _ _ (c .if1 .left)))
 
 returns-2 : tie.Need-returns-2 Inv-loop μ-loop
-returns-2 c = any-end _ _ _ (omega arith) (c .before .loop .inv .1)
+returns-2 c = sym (cond-false _ 10 0 (sym (any-end _ _ _ (omega arith) (c .before .loop .inv .1))))
 
-pub premium-out-spec : {M : Type 1} → statement M
-premium-out-spec =
+pub premium-cause-spec : {M : Type 1} → statement M
+premium-cause-spec =
     tie.close
     (tie.spec
     Inv-loop
