@@ -2,7 +2,6 @@
 use crate::StepAnswer;
 use crate::step::step;
 use order::arrange;
-use scheme::Scheme;
 use rows::gathering::gather;
 use scheme::Scheme;
 ghost use mathlib.Core.Path.{_≡_};

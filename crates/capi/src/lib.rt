@@ -207,7 +207,7 @@ pub extern "C" fn joguyvi_rule_row(bytes: &[u8], class: u64, out: &mut [u8]) -> 
     if number != 0 {
         return number;
     }
-    rows::put_part(bands::rule_row(bytes, class), out)
+    row_buffers::put_part(bands::rule_row(bytes, class), out)
 }
 
 // The bands of all columns, in parts, into two buffers of as many numbers as there are columns.
