@@ -21,7 +21,7 @@ use Rattle.scheme.specs.Laws.Judged.{accepted-cause}
 use Rattle.scheme.specs.Laws.Sound.{accepted-sound}
 use Rattle.bounds.specs.declared.Bounds.{Bounds}
 use Rattle.bounds.specs.declared.Bounds.the-variants.{Answered, Refused}
-use Rattle.bounds.specs.Lists.{at}
+use Rattle.step.specs.Lists.{at}
 use Rattle.bounds.specs.Years.{yearsFigure}
 use Rattle.bounds.specs.Start.{Ready, startFigure, startBounds, ShareHeld}
 use Rattle.bounds.specs.Answers.{answerBy, startOf, shareCause, shareAnswer, moneyCause, meanAnswer, totalAnswer}

@@ -12,10 +12,9 @@ use lib.Seq.{getD-set-same, getD-set-other}
 use borrow.Author.Count.{below-none, below-more}
 use Rattle.setchain.specs.Sums.{onlyIf}
 use Rattle.setchain.specs.Rows.{ONE}
-use Rattle.setchain.specs.Laws.Sums.{sumTo-eq, onlyIf-zero}
-use Rattle.bounds.specs.Lists.{at}
+use Rattle.setchain.specs.Laws.Sums.{sumTo-eq, onlyIf-zero, sumTo-more}
+use Rattle.step.specs.Lists.{at}
 use Rattle.bounds.specs.Entries.{sumOf, Arrays, Addable, Added}
-use Rattle.bounds.proofs.Summing.{sumTo-more}
 
 -- what list k has for row q
 abbrev pub listSum : (from ends counts : List ℕ) → ℕ → ℕ → ℕ

@@ -10,9 +10,9 @@ use Rattle.setchain.specs.Sums.{sumTo, onlyIf}
 use Rattle.setchain.specs.Rows.{ONE}
 use Rattle.setchain.specs.Laws.Sums.{sumTo-eq}
 use Rattle.scheme.specs.Tables.{tab}
-use Rattle.rows.specs.Rows.{gathered}
+use Rattle.rows.specs.Rows.{gathered, spareOf}
 use Rattle.scheme.specs.Laws.Tab.{length-tab, getD-tab}
-use Rattle.bounds.specs.Lists.{at}
+use Rattle.step.specs.Lists.{at}
 use Rattle.bounds.specs.Entries.{sumOf, Addable, Added, Listable, RowListed}
 use Rattle.bounds.proofs.Forming.{zeros, front-made}
 
@@ -68,17 +68,10 @@ module _ {rules lowers uppers : List ℕ} {n i : ℕ} {from lows rooms counts : 
   row-sum =
       ap (λ k. sumTo k (at (front lower))) lower-size ∙ sumTo-eq n (at (front lower)) (gathered rules lowers) lower-at
 
-  pub row-fits : sumTo (length (take n (lower ++ drop n zeros))) (at (take n (lower ++ drop n zeros))) ≤ ONE
-  unfolding front
-  row-fits = omega (arith, row-sum, able .sound .lowers)
-
-  pub row-spares : {t : ℕ} → t ≡ sumTo (length (take n (lower ++ drop n zeros))) (at (take n (lower ++ drop n zeros))) → t ≤ ONE
-  row-spares e = omega (arith, row-fits)
-
   pub row-listed : {from′ lows′ rooms′ counts′ : List ℕ} {t : ℕ}
       → Added (take n (lower ++ drop n zeros)) (take n (upper ++ drop n zeros)) i from lows rooms counts from′ lows′ rooms′ counts′
-      → t ≡ sumTo (length (take n (lower ++ drop n zeros))) (at (take n (lower ++ drop n zeros)))
-      → RowListed rules lowers uppers n i from lows rooms counts from′ lows′ rooms′ counts′ (ONE - t)
+      → t ≡ spareOf (take n (lower ++ drop n zeros))
+      → RowListed rules lowers uppers n i from lows rooms counts from′ lows′ rooms′ counts′ t
   unfolding front
   row-listed a e =
       record {

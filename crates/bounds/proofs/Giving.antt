@@ -12,12 +12,11 @@ use lib.Seq.{getD-set-same, getD-set-other}
 use borrow.Author.Tests.{eq-eqb, ne-eqb}
 use Rattle.setchain.specs.Sums.{sumTo, onlyIf}
 use Rattle.setchain.specs.Rows.{ONE}
-use Rattle.setchain.specs.Laws.Sums.{onlyIf-true, onlyIf-false}
-use Rattle.bounds.specs.Lists.{at}
-use Rattle.bounds.specs.Figure.{LARGEST}
+use Rattle.setchain.specs.Laws.Sums.{onlyIf-true, onlyIf-false, sumTo-front}
+use Rattle.step.specs.Lists.{at}
+use Rattle.step.specs.Figure.{LARGEST}
 use Rattle.bounds.specs.Entries.{sumOf}
 use Rattle.bounds.specs.Walk.{taken, Givable, Given}
-use Rattle.bounds.proofs.Summing.{sumTo-front}
 
 -- no entry, and one entry more
 sum-none : (from ends : List ℕ) (first i : ℕ) → sumOf from ends first (first - first) i ≡ 0

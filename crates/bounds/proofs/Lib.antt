@@ -1,7 +1,4 @@
 -- Laws over plain lists, which the functions' proofs cite.
-pub mod Summing
-pub mod Filling
-pub mod Reaching
 pub mod Walking
 pub mod Giving
 pub mod Passing
@@ -18,5 +15,3 @@ pub mod Sheeting
 pub mod Tracking
 pub mod Tabling
 pub mod Figuring
-pub mod Solving
-pub mod AnsweringStep

@@ -16,12 +16,12 @@ use Rattle.setchain.specs.Step.{room}
 use Rattle.order.specs.Order.{Placed, Arranged, sorted}
 use Rattle.order.specs.Laws.Writing.{Rewritten}
 use Rattle.order.specs.Laws.Arranging.{arranged-placed, sorted-holds}
-use Rattle.bounds.specs.Lists.{at}
-use Rattle.bounds.specs.Figure.{rounded, stepFigure, LARGEST}
+use Rattle.step.specs.Lists.{at}
+use Rattle.step.specs.Figure.{rounded, stepFigure, LARGEST}
 use Rattle.bounds.specs.Entries.{sumOf, listedRow, chainListed, Held}
 use Rattle.bounds.specs.Walk.{leftAt, sumAt, taken, Givable, Given, Walkable, Walked, Settleable, Settled}
 use Rattle.bounds.specs.Years.{Yearly, Formed}
-use Rattle.bounds.proofs.Agreeing.{step-same-payoff}
+use Rattle.step.specs.Laws.Agreeing.{step-same-payoff}
 use Rattle.bounds.proofs.Walking.{sum-fits, walk-figure}
 use Rattle.bounds.proofs.Forming.{zeros}
 

@@ -9,8 +9,8 @@ use native.Mathlib.Nat.{le-trans, mul-le-mul-right}
 use lib.ListN.{length}
 use Rattle.setchain.specs.Rows.{SetChain}
 use Rattle.order.specs.Order.{Placed}
-use Rattle.bounds.specs.Lists.{at}
-use Rattle.bounds.specs.Figure.{LARGEST}
+use Rattle.step.specs.Lists.{at}
+use Rattle.step.specs.Figure.{LARGEST}
 use Rattle.bounds.specs.Entries.{chainListed}
 use Rattle.bounds.specs.Years.{yearsFigure, Yearly, Formed, Roomy, Runnable, Ran}
 use Rattle.bounds.proofs.Agreeing.{years-none, years-next, years-at-most}

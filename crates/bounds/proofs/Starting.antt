@@ -17,7 +17,7 @@ use Rattle.scheme.specs.declared.Scheme.{Scheme}
 use Rattle.scheme.specs.Rows.{chainOf}
 use Rattle.order.specs.Order.{Placed, numbered}
 use Rattle.order.specs.Laws.Arranging.{numbered-placed}
-use Rattle.bounds.specs.Lists.{at}
+use Rattle.step.specs.Lists.{at}
 use Rattle.bounds.specs.Entries.{chainListed, Held}
 use Rattle.bounds.specs.Years.{yearsFigure, Runnable, Ran}
 use Rattle.bounds.specs.Start.{Entered, Startable, Ready, startFigure, ShareHeld}

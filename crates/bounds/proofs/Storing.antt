@@ -12,10 +12,10 @@ use Rattle.scheme.specs.Accepted.{Accepted}
 use Rattle.scheme.specs.Rows.{chainOf}
 use Rattle.scheme.specs.Laws.Sound.{accepted-sound}
 use Rattle.rows.specs.Laws.Entries.{lower-is, upper-is}
-use Rattle.bounds.specs.Lists.{gatheredRow, rulesOf, Agree}
+use Rattle.step.specs.Lists.{gatheredRow, rulesOf, Agree}
 use Rattle.bounds.specs.Entries.{listedRow, Empty, Storable, StoredParts, Listed}
 use Rattle.bounds.specs.Start.{Entered}
-use Rattle.bounds.proofs.Agreeing.{sound-same}
+use Rattle.step.specs.Laws.Agreeing.{sound-same}
 
 -- arrays of zeros hold lists with no entry
 pub empty-listed : Empty (replicate 1024 0) (replicate 1024 0) (replicate 1024 0) (replicate 32 0) (replicate 32 0)

@@ -11,8 +11,8 @@ use lib.Seq.{getD-set-same, getD-set-other}
 use borrow.Author.Count.{below-none, below-more}
 use Rattle.setchain.specs.Rows.{SetChain}
 use Rattle.order.specs.Order.{Placed}
-use Rattle.bounds.specs.Lists.{at}
-use Rattle.bounds.specs.Figure.{LARGEST}
+use Rattle.step.specs.Lists.{at}
+use Rattle.step.specs.Figure.{LARGEST}
 use Rattle.bounds.specs.Entries.{chainListed}
 use Rattle.bounds.specs.Years.{yearsFigure, Yearly, Formed, Ran}
 use Rattle.bounds.specs.Tracks.{Trackable, Tracked}

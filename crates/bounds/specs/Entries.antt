@@ -7,7 +7,7 @@ use lib.Dec.{eqb}
 use lib.ListN.{length, take}
 use Rattle.setchain.specs.Sums.{sumTo, onlyIf}
 use Rattle.setchain.specs.Rows.{ONE, IntervalRow, SoundRow, SetChain, SoundChain}
-use Rattle.bounds.specs.Lists.{at, gatheredRow, rulesOf, Agree}
+use Rattle.step.specs.Lists.{at, gatheredRow, rulesOf, Agree}
 
 -- what the `count` entries from place `first` on have for state i's row
 abbrev pub sumOf : (from ends : List ℕ) → ℕ → ℕ → ℕ → ℕ

@@ -1,8 +1,4 @@
--- Read in this order, after crate `order`: lists as rows and payoffs, the fill along an order, the figure, the whole step.
-pub mod Lists
-pub mod Fill
-pub mod Figure
-pub mod Step
+-- Read in this order, after crate `step`: the entries of all rows, a walk along an order, a year, the answers, what they promise.
 pub mod Entries
 pub mod Walk
 pub mod Years
@@ -11,7 +7,5 @@ pub mod Start
 pub mod Table
 pub mod Tracks
 pub mod Promises
-pub mod StepAnswer
-pub mod Solve
 pub mod Examples
 pub mod Laws

@@ -10,7 +10,7 @@ use Rattle.scheme.specs.Accepted.{Accepted}
 use Rattle.scheme.specs.Rows.{chainOf}
 use Rattle.bounds.specs.declared.Bounds.{Bounds}
 use Rattle.bounds.specs.declared.Bounds.the-variants.{Answered}
-use Rattle.bounds.specs.Lists.{at, Agree}
+use Rattle.step.specs.Lists.{at, Agree}
 use Rattle.bounds.specs.Entries.{listedRow, Held}
 use Rattle.bounds.specs.Years.{yearsFigure, Roomy}
 use Rattle.bounds.specs.Answers.{startOf}

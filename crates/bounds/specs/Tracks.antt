@@ -8,8 +8,8 @@ use Rattle.setchain.specs.Years.{sharePayoff, nothing}
 use Rattle.scheme.specs.declared.Scheme.{Scheme}
 use Rattle.scheme.specs.Accepted.{Accepted}
 use Rattle.scheme.specs.Rows.{chainOf}
-use Rattle.bounds.specs.Lists.{at}
-use Rattle.bounds.specs.Figure.{LARGEST}
+use Rattle.step.specs.Lists.{at}
+use Rattle.step.specs.Figure.{LARGEST}
 use Rattle.bounds.specs.Years.{yearsFigure, Runnable}
 use Rattle.bounds.specs.Start.{Startable, Ready}
 use Rattle.bounds.specs.Answers.{startOf}

@@ -7,8 +7,8 @@ use lib.ListN.{length}
 use Rattle.setchain.specs.Rows.{ONE, IntervalRow}
 use Rattle.setchain.specs.Step.{room}
 use Rattle.order.specs.Order.{Placed}
-use Rattle.bounds.specs.Lists.{at}
-use Rattle.bounds.specs.Figure.{rounded, LARGEST}
+use Rattle.step.specs.Lists.{at}
+use Rattle.step.specs.Figure.{rounded, LARGEST}
 use Rattle.bounds.specs.Entries.{sumOf, listedRow, Held}
 
 -- the spare parts that a row has left when the states at the first k places of the order had theirs

@@ -1,7 +1,7 @@
 // The entries of all interval rows, listed by the class that they lead to: a year then passes each of them once, along the order of the payoffs.
 // The list of state j stands from place j × 32 on: of each entry the state whose row has it, its lower end, and the room from there to its upper end.
-use crate::fill::total;
 use rows::gathering::gather;
+use rows::gathering::spare;
 use scheme::Scheme;
 ghost use lib.ListN.{take};
 ghost use Rattle.scheme.specs.Accepted.{Accepted};
@@ -54,7 +54,7 @@ fn list_row(
     let mut upper = [0u64; 32];
     gather(rules, uppers, &mut upper[..n]);
     add_row(&lower[..n], &upper[..n], i, from, lows, rooms, counts);
-    setchain::ONE - total(&lower[..n])
+    spare(&lower[..n])
 }
 
 // Lists the entries of all rows of n states, and writes the parts that each row's lowers leave.

@@ -1,28 +1,18 @@
-// The bounds of a scheme: the one-year step, shares, means and totals, with what they promise (document 01, "One year" and "Years").
+// The bounds of a scheme: shares, means and totals, with what they promise (document 01, "Years").
 use scheme::Scheme;
 ghost use mathlib.Core.Path.{_≡_};
-ghost use mathlib.Core.Bool.{true, false};
-ghost use Rattle.bounds.specs.StepAnswer.{StepAnswered};
 ghost use Rattle.bounds.specs.Answers.{highShares, lowShares, meanAnswer, shareAnswer, sheetCause, sheetSlice, totalAnswer};
 ghost use Rattle.bounds.specs.Table.{highTable, lowTable, tableCause};
 ghost use Rattle.bounds.specs.Promises.{FiguresPromise, MeanPromise, SharePromise, SheetPromise, TotalPromise};
 
-mod answer_step;
 mod entries;
-mod figure;
-mod fill;
 mod payoffs;
 mod sheet;
 mod start;
-mod state;
-mod step;
 mod table;
 mod track;
 mod year;
 mod years;
-
-// The limit of a payoff in the one-year step.
-pub const MOST_PAYOFF: u64 = 1_000_000_000;
 
 // What a call for bounds answers: low and high, or the number of the cause for which it is declined.
 pub enum Bounds {
@@ -103,25 +93,4 @@ pub fn figures(scheme: Scheme, low: &mut [u64], high: &mut [u64]) -> u8
     }
     table::write_tables(scheme, low, high);
     0
-}
-
-// What the one-year step answers: the number of the cause for which it is declined, or 0; the figure; and a row that reaches it.
-pub struct StepAnswer {
-    pub number: u8,
-    pub figure: u64,
-    pub row: [u64; 32],
-}
-
-// The low step: the least figure of a class one year on, rounded down, and a row that reaches it unrounded.
-pub fn low_step(scheme: Scheme, payoff: [u64; 32], class: u64) -> StepAnswer
-    ensures { λ r. ⌜ StepAnswered false scheme payoff class r ⌝ }
-{
-    answer_step::answer(scheme, payoff, class, false)
-}
-
-// The high step: the greatest figure of a class one year on, rounded up, and a row that reaches it unrounded.
-pub fn high_step(scheme: Scheme, payoff: [u64; 32], class: u64) -> StepAnswer
-    ensures { λ r. ⌜ StepAnswered true scheme payoff class r ⌝ }
-{
-    answer_step::answer(scheme, payoff, class, true)
 }

@@ -1,13 +1,13 @@
 // The start class's figures of t years (document 01, "Years": "The answer is the start class's figure").
 use crate::Bounds;
 use crate::entries::list_scheme;
-use crate::state::state;
 use crate::years::years;
 use order::number;
+use order::state;
 use scheme::Scheme;
 ghost use mathlib.Core.Path.{_≡_};
 ghost use Prim.Native.Nat.{_-_};
-ghost use Rattle.bounds.specs.Lists.{at};
+ghost use Rattle.step.specs.Lists.{at};
 ghost use Rattle.bounds.specs.Entries.{chainListed};
 ghost use Rattle.bounds.specs.Years.{yearsFigure};
 ghost use Rattle.bounds.specs.Start.{Entered, Ready, Startable, startBounds, startFigure};

@@ -1,7 +1,7 @@
 // One figure vector carried through the years, a year's figures from those of the year before (document 01, "Years").
 use crate::years::advance;
 ghost use lib.ListN.{length};
-ghost use Rattle.bounds.specs.Lists.{at};
+ghost use Rattle.step.specs.Lists.{at};
 ghost use Rattle.bounds.specs.Entries.{chainListed};
 ghost use Rattle.bounds.specs.Years.{yearsFigure};
 ghost use Rattle.bounds.specs.Tracks.{Trackable, Tracked};

@@ -12,10 +12,10 @@ use Rattle.scheme.specs.Laws.Cause.{first-cause, second-cause, declined, answer
 use Rattle.record.specs.declared.ReadAnswer.{ReadAnswer}
 use Rattle.record.specs.Layout.{schemeIn, version1}
 use Rattle.record.specs.Read.{readCause, readAnswer}
-use Rattle.bounds.specs.declared.StepAnswer.{StepAnswer}
-use Rattle.bounds.specs.Lists.{at}
-use Rattle.bounds.specs.Figure.{stepFigure}
-use Rattle.bounds.specs.StepAnswer.{stepCause, classRow, Reaches, StepAnswered}
+use Rattle.step.specs.declared.StepAnswer.{StepAnswer}
+use Rattle.step.specs.Lists.{at}
+use Rattle.step.specs.Figure.{stepFigure}
+use Rattle.step.specs.StepAnswer.{stepCause, classRow, Reaches, StepAnswered}
 use Rattle.bounds.specs.Laws.Kept.{first-none}
 use Rattle.capi.specs.Buffers.{bufferCause, filledWhere}
 use Rattle.capi.specs.Steps.{payoffOf, stepBuffers, stepNumber, figureOf, RowKept}

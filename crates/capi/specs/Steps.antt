@@ -9,9 +9,9 @@ use Rattle.scheme.specs.Tables.{tab}
 use Rattle.scheme.specs.Cause.{orElse}
 use Rattle.record.specs.Layout.{version1, schemeIn}
 use Rattle.record.specs.Read.{readCause}
-use Rattle.bounds.specs.Lists.{at}
-use Rattle.bounds.specs.Figure.{stepFigure}
-use Rattle.bounds.specs.StepAnswer.{stepCause, classRow, Reaches}
+use Rattle.step.specs.Lists.{at}
+use Rattle.step.specs.Figure.{stepFigure}
+use Rattle.step.specs.StepAnswer.{stepCause, classRow, Reaches}
 use Rattle.capi.specs.Buffers.{bufferCause}
 
 -- a payoff of 32 numbers: what is missing counts as 0, and what lies beyond 32 is ignored

@@ -1,8 +1,8 @@
 // The one-year step's payoff from a lent buffer, and its answer put into lent buffers.
 use crate::copies;
-use bounds::StepAnswer;
 use scheme::Scheme;
 use scheme::or_else;
+use step::StepAnswer;
 ghost use mathlib.Core.Path.{_≡_};
 ghost use mathlib.Core.List.{[], _∷_};
 ghost use mathlib.Core.Bool.{cond, not};
@@ -10,7 +10,7 @@ ghost use lib.Dec.{eqb};
 ghost use lib.ListN.{getD};
 ghost use Rattle.scheme.specs.Cause.{orElse};
 ghost use Rattle.record.specs.Layout.{schemeIn, version1};
-ghost use Rattle.bounds.specs.StepAnswer.{StepAnswered};
+ghost use Rattle.step.specs.StepAnswer.{StepAnswered};
 ghost use Rattle.capi.specs.Buffers.{bufferCause, filledWhere};
 ghost use Rattle.capi.specs.Steps.{figureOf, payoffOf, RowKept, stepBuffers, stepNumber};
 
@@ -67,9 +67,9 @@ fn answer_of(scheme: Scheme, payoff: [u64; 32], class: u64, high: bool) -> StepA
     ensures { λ r. ⌜ StepAnswered high scheme payoff class r ⌝ }
 {
     if high {
-        return bounds::high_step(scheme, payoff, class);
+        return step::high_step(scheme, payoff, class);
     }
-    bounds::low_step(scheme, payoff, class)
+    step::low_step(scheme, payoff, class)
 }
 
 // The low step of a record, or the high step where `high` is true: its figure and its row into their buffers. Answers the cause, or 0.

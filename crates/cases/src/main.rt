@@ -305,16 +305,16 @@ fn payoff_a(second: u64) -> [u64; 32] {
 
 // The one-year step.
 fn steps(s: Scheme) {
-    let low = bounds::low_step(s, payoff_a(10), 2);
+    let low = step::low_step(s, payoff_a(10), 2);
     line(b"LOW STEP", wide(low.number));
     line(b"FIGURE", low.figure);
     let row = low.row;
     line(b"PART 1", row[0]);
     line(b"PART 2", row[1]);
-    line(b"HIGH STEP", bounds::high_step(s, payoff_a(10), 2).figure);
+    line(b"HIGH STEP", step::high_step(s, payoff_a(10), 2).figure);
     line(
         b"PAYOFF ABOVE ITS LIMIT",
-        wide(bounds::high_step(s, payoff_a(1_000_000_001), 3).number),
+        wide(step::high_step(s, payoff_a(1_000_000_001), 3).number),
     );
 }
 

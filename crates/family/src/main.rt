@@ -268,8 +268,8 @@ fn step(scheme: Scheme, number: u8, class: u64, kind: u8) {
     console::number(wide(kind));
     let premiums = scheme.premiums;
     let payoff = payoff(kind, scheme.classes, number, premiums);
-    let low = bounds::low_step(scheme, payoff, class);
-    let high = bounds::high_step(scheme, payoff, class);
+    let low = step::low_step(scheme, payoff, class);
+    let high = step::high_step(scheme, payoff, class);
     if low.number != 0 {
         no(low.number);
     } else if high.number != 0 {

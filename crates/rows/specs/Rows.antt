@@ -21,6 +21,10 @@ gathered rules band j =
 unfoldable pub entriesOf : List ℕ → List ℕ → ℕ → List ℕ
 entriesOf rules ends classes = tab 32 (λ j. onlyIf (ltb j classes) (gathered rules ends j))
 
+-- the parts that the lower entries of a row leave of ONE, none where they come to more
+abbrev pub spareOf : List ℕ → ℕ
+spareOf lower = ONE - sumTo (length lower) (λ j. getD lower j 0)
+
 -- no entry is above ONE
 abbrev pub Capped : List ℕ → Type 0
 Capped l = (j : ℕ) → getD l j 0 ≤ ONE

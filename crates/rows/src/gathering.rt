@@ -1,10 +1,10 @@
 // The entries that the cells of one class make, over slices.
 ghost use mathlib.Core.Path.{_≡_};
-ghost use Prim.Native.Nat.{min, _+_, _≤_};
+ghost use Prim.Native.Nat.{min, _+_, _-_, _≤_};
 ghost use lib.ListN.{length, replicate};
 ghost use Rattle.setchain.specs.Rows.{ONE};
 ghost use Rattle.scheme.specs.Tables.{tab};
-ghost use Rattle.rows.specs.Rows.{gathered, raised, Capped};
+ghost use Rattle.rows.specs.Rows.{gathered, raised, spareOf, Capped};
 
 // b more than a, at most ONE
 fn add_capped(a: u64, b: u32) -> u64
@@ -64,4 +64,24 @@ pub fn gather(rules: &[u8], band: &[u32], out: &mut [u64])
         raise(out, rules[k], band[k]);
         k += 1;
     }
+}
+
+// a less b, and 0 where b is more
+fn less(a: u64, b: u64) -> u64
+    ensures { λ r. ⌜ r ≡ a - b ⌝ }
+{
+    if a < b { 0 } else { a - b }
+}
+
+// The parts of ONE that the lower entries of a row leave; none where they come to more.
+pub fn spare(lower: &[u64]) -> u64
+    ensures { λ r. ⌜ r ≡ spareOf (now (lower .entry)) ⌝ }
+{
+    let mut left = setchain::ONE;
+    let mut i: usize = 0;
+    while i < lower.len() {
+        left = less(left, lower[i]);
+        i += 1;
+    }
+    left
 }

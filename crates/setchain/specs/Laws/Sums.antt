@@ -125,6 +125,33 @@ sumTo-point (suc n) f p h =
     (arith, sumTo-point n f p l, onlyIf-false (eqb n p) (f n) (ne-eqb n p (λ e. omega arith))))
     (eq-or-lt-of-le (le-of-suc-le-suc h))
 
+-- no term, one more, and a front's sum, which is at most the whole
+pub sumTo-empty : (f : ℕ → ℕ) → 0 ≡ sumTo 0 f
+unfolding sumTo
+sumTo-empty f = refl
+
+pub sumTo-more : (f : ℕ → ℕ) (i : ℕ) → sumTo (i + 1) f ≡ sumTo i f + f i
+unfolding sumTo
+sumTo-more f i = rw add-one
+
+pub sumTo-front : (f : ℕ → ℕ) (n i : ℕ) → i ≤ n → sumTo i f ≤ sumTo n f
+unfolding sumTo
+sumTo-front f zero i h = let e : i ≡ 0 = omega arith in rw e (le-refl 0)
+sumTo-front f (suc n) i h =
+    ⊎-elim (λ e. rw e (le-refl _)) (λ l. omega (arith, sumTo-front f n i (le-of-suc-le-suc l))) (eq-or-lt-of-le h)
+
+-- two functions that differ at j alone
+pub sumTo-change : (n : ℕ) (f g : ℕ → ℕ) (j : ℕ) → j < n → ((k : ℕ) → k < n → (k ≡ j → ⊥) → g k ≡ f k) → sumTo n g + f j ≡ sumTo n f + g j
+unfolding sumTo
+sumTo-change zero f g j l h = absurd (not-suc-le-zero l)
+sumTo-change (suc n) f g j l h =
+    ⊎-elim
+    (λ e.
+    rw e
+    (omega (arith, sumTo-eq n g f (λ k kn. h k (le-step kn) (λ z. omega arith)))))
+    (λ jn. omega (arith, sumTo-change n f g j jn (λ k kn. h k (le-step kn)), h n (le-refl (suc n)) (λ z. omega arith)))
+    (eq-or-lt-of-le (le-of-suc-le-suc l))
+
 -- the smaller of c and a sum is at most the sum of what is smaller at each index
 pub min-sum-le : (n c : ℕ) (f : ℕ → ℕ) → min c (sumTo n f) ≤ sumTo n (λ j. min c (f j))
 unfolding sumTo

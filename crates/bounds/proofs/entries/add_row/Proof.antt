@@ -5,7 +5,7 @@ use mathlib.Core.Logic.{⊎-elim}
 use native.Mathlib.Omega.{arith}
 use lib.ListN.{length}
 use Rattle.setchain.specs.Rows.{ONE}
-use Rattle.bounds.specs.Lists.{at}
+use Rattle.step.specs.Lists.{at}
 use Rattle.bounds.proofs.Entering.{Adding, adding-none, adding-here, adding-skip, adding-more, adding-as, adding-all}
 use Rattle.bounds.proofs.entries.add_row.Statement.{statement}
 use Rattle.bounds.proofs.entries.add_row.Tie as tie

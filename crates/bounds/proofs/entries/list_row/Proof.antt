@@ -5,7 +5,7 @@ use native.Mathlib.Omega.{arith}
 use lib.ListN.{replicate, drop}
 use lib.Seq.{length-take-le}
 use Rattle.bounds.proofs.Forming.{front-fits, front-size}
-use Rattle.bounds.proofs.Gathering.{row-adds, row-fits, row-spares, row-listed}
+use Rattle.bounds.proofs.Gathering.{row-adds, row-listed}
 use borrow.Author.Needs.{needs}
 use Rattle.bounds.proofs.entries.list_row.Statement.{statement}
 use Rattle.bounds.proofs.entries.list_row.Tie as tie
@@ -62,25 +62,18 @@ array-share-prefix-lower-2 c =
     let s = c .before .before .before .before .before .before .before .before .before .before .before .before .before .before .before .before in
     front-fits (s .args .n) (replicate 32 0) _ (drop (s .args .n) (replicate 32 0)) (omega arith) _ (c .before .before .before .before .before .before .before .before .before .before .before .gather .ensures)
 
-slice-aggregate-total : tie.Need-slice-aggregate-total
-slice-aggregate-total c =
+slice-aggregate-spare : tie.Need-slice-aggregate-spare
+slice-aggregate-spare c =
     let s = c .before .before .before .before .before .before .before .before .before .before .before .before .before .before .before .before .before in
     front-size (s .args .n) (replicate 32 0) _ (drop (s .args .n) (replicate 32 0)) (omega arith) _ (c .before .before .before .before .before .before .before .before .before .before .before .before .gather .ensures)
 
-total-requires : tie.Need-total-requires
-total-requires c κs =
-    let s = c .before .before .before .before .before .before .before .before .before .before .before .before .before .before .before .before .before in
-    row-fits _ _ (s .pre) (c .before .before .before .before .before .before .before .before .before .before .before .before .gather .ensures) (c .before .before .before .before .before .before .before .before .before .gather2 .ensures)
-
-sub-result : tie.Need-sub-result
-sub-result c =
-    let s = c .before .before .before .before .before .before .before .before .before .before .before .before .before .before .before .before .before .before in
-    row-spares _ _ (s .pre) (c .before .before .before .before .before .before .before .before .before .before .before .before .before .gather .ensures) (c .before .before .before .before .before .before .before .before .before .before .gather2 .ensures) (c .total .ensures)
+spare-requires : tie.Need-spare-requires
+spare-requires c κs = tt
 
 returns : tie.Need-returns
 returns c =
     let s = c .before .before .before .before .before .before .before .before .before .before .before .before .before .before .before .before .before .before in
-    row-listed _ _ (s .pre) (c .before .before .before .before .before .before .before .before .before .before .before .before .before .gather .ensures) (c .before .before .before .before .before .before .before .before .before .before .gather2 .ensures) (c .before .before .add-row .ensures) (c .total .ensures)
+    row-listed _ _ (s .pre) (c .before .before .before .before .before .before .before .before .before .before .before .before .before .gather .ensures) (c .before .before .before .before .before .before .before .before .before .before .gather2 .ensures) (c .before .before .add-row .ensures) (c .spare .ensures)
 
 pub list-row-spec : {M : Type 1} → statement M
 list-row-spec =
@@ -98,7 +91,6 @@ list-row-spec =
     slice-aggregate-add-row-2
     add-row-requires
     array-share-prefix-lower-2
-    slice-aggregate-total
-    total-requires
-    sub-result
+    slice-aggregate-spare
+    spare-requires
     returns)

@@ -5,8 +5,8 @@ use mathlib.Core.Path.{_≡_, refl}
 use native.Mathlib.Omega.{arith}
 use lib.ListN.{length}
 use Rattle.setchain.specs.Rows.{ONE}
-use Rattle.bounds.specs.Lists.{at}
-use Rattle.bounds.specs.Figure.{LARGEST}
+use Rattle.step.specs.Lists.{at}
+use Rattle.step.specs.Figure.{LARGEST}
 use Rattle.bounds.proofs.Giving.{Giving, giving-none, row-inside, giving-fits, giving-more, giving-all}
 use Rattle.bounds.proofs.year.give.Statement.{statement}
 use Rattle.bounds.proofs.year.give.Tie as tie

@@ -5,7 +5,7 @@ use mathlib.Core.Path.{ap}
 use native.Mathlib.Omega.{arith}
 use lib.ListN.{length}
 use Rattle.order.specs.Laws.Writing.{Rewritten, rewritten-none, rewritten-more}
-use Rattle.bounds.specs.Lists.{at}
+use Rattle.step.specs.Lists.{at}
 use Rattle.bounds.proofs.Passing.{settled, settling-fits, settling-all}
 use Rattle.bounds.proofs.year.settle.Statement.{statement}
 use Rattle.bounds.proofs.year.settle.Tie as tie

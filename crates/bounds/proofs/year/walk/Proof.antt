@@ -3,7 +3,7 @@
 use Prim.Native.Nat.{_-_, _≤_, _<_}
 use native.Mathlib.Omega.{arith}
 use lib.ListN.{length}
-use Rattle.bounds.specs.Lists.{at}
+use Rattle.step.specs.Lists.{at}
 use Rattle.bounds.proofs.Passing.{Passing, passing-none, state-inside, list-short, pass-gives, passing-more, passing-all}
 use Rattle.bounds.proofs.year.walk.Statement.{statement}
 use Rattle.bounds.proofs.year.walk.Tie as tie
@@ -31,7 +31,7 @@ shared-slice-read-state : tie.Need-shared-slice-read-state Inv-loop μ-loop
 shared-slice-read-state c = omega arith
 
 state-requires : tie.Need-state-requires Inv-loop μ-loop
-state-requires c κs = c .before .before .before .before .before .before .before .pre .placed .within (c .before .before .loop .k) (omega (arith, c .before .before .before .before .before .before .before .pre .placed .size)) .0
+state-requires c κs = tt
 
 mul-first : tie.Need-mul-first Inv-loop μ-loop
 mul-first c = omega (arith, here c)

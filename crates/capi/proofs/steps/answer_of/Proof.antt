@@ -1,7 +1,7 @@
 -- `answer_of` meets its contract: the answer of the step that is asked for.
 -- Assumes nothing.
 use mathlib.Core.Path.{sym, subst}
-use Rattle.bounds.specs.StepAnswer.{StepAnswered}
+use Rattle.step.specs.StepAnswer.{StepAnswered}
 use borrow.Author.Needs.{needs}
 use Rattle.capi.proofs.steps.answer_of.Statement.{statement}
 use Rattle.capi.proofs.steps.answer_of.Tie as tie

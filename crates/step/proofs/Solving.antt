@@ -1,0 +1,208 @@
+-- The step over gathered entries: rows, payoffs and intervals that agree at every state have the same figure.
+-- Assumes nothing.
+use Prim.Native.Nat.{ℕ, _+_, _-_, _*_, _≤_, _<_}
+use mathlib.Core.Path.{_≡_, refl, ap, sym, _∙_, subst, subst₂}
+use mathlib.Core.Bool.{Bool, true, false}
+use mathlib.Core.List.{List, _++_}
+use native.Mathlib.Decide.{decLt}
+use native.Mathlib.Omega.{arith}
+use lib.ListN.{length, getD, take, drop, replicate, length-append, length-replicate, length-drop, getD-replicate, List·getD-append, List·getD-eq-default}
+use lib.Seq.{take-at, length-take-le, getD-take, getD-drop, getD-append-add}
+use Rattle.setchain.specs.Sums.{dot}
+use Rattle.setchain.specs.Rows.{IntervalRow, SoundRow}
+use Rattle.setchain.specs.Step.{Parts}
+use Rattle.setchain.specs.Laws.Sums.{sumTo-eq}
+use Rattle.setchain.specs.Laws.Step.{low-figure-only, high-figure-only}
+use Rattle.scheme.specs.Tables.{tab}
+use Rattle.rows.specs.Rows.{gathered}
+use Rattle.scheme.specs.Laws.Tab.{length-tab, getD-tab}
+use Rattle.order.specs.Order.{NotAfter, Arranged, arranged}
+use Rattle.order.specs.Laws.Arranging.{arranged-holds}
+use Rattle.step.specs.Lists.{at, rowIn, gatheredRow, Agree}
+use Rattle.step.specs.Figure.{rounded, stepFigure}
+use Rattle.step.specs.Step.{Steppable, Stepped}
+use Rattle.step.specs.StepAnswer.{Reaches}
+use Rattle.step.specs.Laws.Agreeing.{same-back, parts-same, sound-same}
+use Rattle.step.specs.Solve.{rowFromParts, Solvable, Solved, Answerable, Made}
+
+-- the sum of part times payoff looks at states below n alone
+dot-same : (n : ℕ) (p p′ f f′ : ℕ → ℕ) → ((j : ℕ) → j < n → p j ≡ p′ j) → ((j : ℕ) → j < n → f j ≡ f′ j) → dot n p f ≡ dot n p′ f′
+dot-same n p p′ f f′ e g = sumTo-eq n (λ j. p j * f j) (λ j. p′ j * f′ j) (λ j l. ap (λ x. x * f j) (e j l) ∙ ap (λ x. p′ j * x) (g j l))
+
+-- so a figure that is reached is reached for all that agrees below n
+pub reaches-same : {d : Bool} {n : ℕ} {r r′ : IntervalRow} {f f′ p p′ : ℕ → ℕ} {v : ℕ}
+    → Agree n r r′ → ((j : ℕ) → j < n → f j ≡ f′ j) → ((j : ℕ) → j < n → p j ≡ p′ j) → Reaches d n r f p v → Reaches d n r′ f′ p′ v
+reaches-same {d} {n} {r} {r′} {f} {f′} {p} {p′} {v} s g e w =
+    record {
+      inside = parts-same s e (w .inside);
+      extreme = λ q h.
+          subst₂ (NotAfter d) (dot-same n p p′ f f′ e g) (dot-same n q q f f′ (λ j l. refl) g)
+          (w .extreme q (parts-same (same-back s) (λ j l. refl) h));
+      rounded = w .rounded ∙ ap (rounded d) (dot-same n p p′ f f′ e g);
+    }
+
+-- a figure that is reached is the step's
+pub reached-figure : (d : Bool) (n : ℕ) (r : IntervalRow) → SoundRow n r → (f p : ℕ → ℕ) (v : ℕ) → Reaches d n r f p v → v ≡ stepFigure d n r f
+reached-figure false n r sound f p v w =
+    low-figure-only n r sound f v (record { parts = p; inside = w .inside; least = w .extreme; rounded = w .rounded })
+reached-figure true n r sound f p v w =
+    high-figure-only n r sound f v (record { parts = p; inside = w .inside; greatest = w .extreme; rounded = w .rounded })
+
+-- a part of an array that was lent, back in its place before the rest
+pub back-room : (n : ℕ) (g rest : List ℕ) → length g ≡ n → n ≤ length (g ++ rest)
+back-room n g rest e = omega (arith, length-append g rest)
+
+-- and read again as the part that it was
+pub back-size : (n : ℕ) (g rest : List ℕ) → length g ≡ n → n ≡ length (take n (g ++ rest))
+back-size n g rest e = sym (ap length (take-at g rest n e) ∙ e)
+
+-- the first n of 32
+pub lent-size : (n : ℕ) → n ≤ 32 → length (take n (replicate {A = ℕ} 32 0)) ≡ n
+lent-size n h = length-take-le {A = ℕ} n (replicate 32 0) (omega (arith, length-replicate {A = ℕ} 32 0))
+
+-- what is gathered into the first n of 32 is n long
+pub gather-size : (n : ℕ) (f : ℕ → ℕ) (g : List ℕ) → n ≤ 32 → g ≡ tab (length (take n (replicate {A = ℕ} 32 0))) f → length g ≡ n
+gather-size n f g h e = ap length e ∙ length-tab (length (take n (replicate {A = ℕ} 32 0))) f ∙ lent-size n h
+
+-- what is gathered into the first n of 32, read as a list of n
+gather-back : (n : ℕ) (f : ℕ → ℕ) (g rest : List ℕ) → n ≤ 32 → g ≡ tab (length (take n (replicate {A = ℕ} 32 0))) f → take n (g ++ rest) ≡ tab n f
+gather-back n f g rest h e = take-at g rest n (gather-size n f g h e) ∙ e ∙ ap (λ k. tab k f) (lent-size n h)
+
+-- gathered lists and the rules that they were written by
+tab-same : (n : ℕ) (f g : ℕ → ℕ) → Agree n (rowIn (tab n f) (tab n g)) (record { lower = f; upper = g })
+tab-same n f g = record { lower = λ j l. getD-tab n f j 0 l; upper = λ j l. getD-tab n g j 0 l }
+
+module _ {rules lowers uppers payoff row : List ℕ} (able : Solvable rules lowers uppers payoff row) where
+  -- how many classes there are
+  n : ℕ
+  n = length payoff
+
+  -- the lower ends as a list
+  low : List ℕ
+  low = tab n (gathered rules lowers)
+
+  -- the upper ends as a list
+  high : List ℕ
+  high = tab n (gathered rules uppers)
+
+  -- over the parts that were lent before
+  module _ {d : Bool} (g u o rest : List ℕ)
+      (lower : g ≡ tab (length (take (length payoff) (replicate {A = ℕ} 32 0))) (gathered rules lowers))
+      (upper : u ≡ tab (length (take (length payoff) (replicate {A = ℕ} 32 0))) (gathered rules uppers))
+      (is : o ≡ arranged payoff d (take (length payoff) (replicate {A = ℕ} 32 0))) where
+    -- the order has the classes by payoff
+    by-payoff : Arranged payoff d o
+    by-payoff =
+        subst (Arranged payoff d) (sym is)
+        (arranged-holds payoff d (take (length payoff) (replicate {A = ℕ} 32 0)) (lent-size (length payoff) (able .few)) (omega (arith, able .few)))
+
+    -- the step over the lists that were gathered
+    steps : Steppable low high payoff o d row
+    unfolding low high n
+    steps =
+        record {
+          uppers = length-tab n (gathered rules uppers) ∙ sym (length-tab n (gathered rules lowers));
+          payoffs = sym (length-tab n (gathered rules lowers));
+          rows = able .rows ∙ sym (length-tab n (gathered rules lowers));
+          sound =
+              subst (λ k. SoundRow k (rowIn low high)) (sym (length-tab n (gathered rules lowers)))
+              (sound-same n _ _ (same-back (tab-same n (gathered rules lowers) (gathered rules uppers))) (able .sound));
+          small = λ j l. able .small j (omega (arith, length-tab n (gathered rules lowers)));
+          arranged = by-payoff;
+        }
+
+    -- the same over the parts as they were lent again
+    pub solve-steps : Steppable (take (length payoff) (g ++ rest)) (take (length payoff) (u ++ rest)) payoff (take (length payoff) (o ++ rest)) d row
+    unfolding low high n
+    solve-steps =
+        rw (gather-back n (gathered rules lowers) g rest (able .few) lower, gather-back n (gathered rules uppers) u rest (able .few) upper, take-at o rest n (by-payoff .size)) steps
+
+    -- what the step leaves is what is asked
+    pub solve-solved : {row′ : List ℕ} {r : ℕ} → Stepped (take (length payoff) (g ++ rest)) (take (length payoff) (u ++ rest)) payoff d row′ r
+        → Solved rules lowers uppers payoff d row′ r
+    unfolding low high n
+    solve-solved {row′} {r} w = made (rw (gather-back n (gathered rules lowers) g rest (able .few) lower, gather-back n (gathered rules uppers) u rest (able .few) upper) at w)
+      where
+        size : length low ≡ n
+        size = length-tab n (gathered rules lowers)
+
+        made : Stepped low high payoff d row′ r → Solved rules lowers uppers payoff d row′ r
+        made w =
+            record {
+              size = w .size ∙ size;
+              reaches =
+                  reaches-same (tab-same n (gathered rules lowers) (gathered rules uppers)) (λ j l. refl) (λ j l. refl)
+                  (subst (λ k. Reaches d k (rowIn low high) (at payoff) (at row′) r) size
+                  (record { inside = w .parts; extreme = w .extreme; rounded = w .reached }));
+            }
+
+-- the whole answer from a scheme's parts
+module _ {rules lowers uppers payoff : List ℕ} {columns classes class : ℕ} (able : Answerable rules lowers uppers payoff columns classes class)
+    (enough : classes ≤ length payoff) where
+  -- the code's part of the rules runs from the class's first to its last
+  width : (class - 1) * 8 + columns - (class - 1) * 8 ≡ columns
+  width = omega arith
+
+  -- the payoffs lent are those of the classes
+  count : length (take classes payoff) ≡ classes
+  count = length-take-le classes payoff enough
+
+  -- and each is the class's payoff
+  pays : (j : ℕ) → j < classes → at (take classes payoff) j ≡ at payoff j
+  pays j l = getD-take classes payoff j 0 l
+
+  -- what is lent can be solved
+  pub answer-solves : Solvable (take ((class - 1) * 8 + columns - (class - 1) * 8) (drop ((class - 1) * 8) rules)) (take columns lowers) (take columns uppers) (take classes payoff) (take classes (replicate 32 0))
+  answer-solves =
+      rw width
+      (record {
+        rows = lent-size classes (able .fewClasses) ∙ sym count;
+        few = omega (arith, count, able .fewClasses);
+        sound = subst (λ k. SoundRow k (rowFromParts rules lowers uppers columns class)) (sym count) (able .sound);
+        small = λ j l. let h : j < classes = rw count at l in omega (arith, pays j h, able .small j h);
+      })
+
+  module _ {d : Bool} (g : List ℕ) {r : ℕ}
+      (solved : Solved (take ((class - 1) * 8 + columns - (class - 1) * 8) (drop ((class - 1) * 8) rules)) (take columns lowers) (take columns uppers) (take classes payoff) d g r) where
+    -- what stands beyond the part that was lent
+    rest : List ℕ
+    rest = drop classes (replicate 32 0)
+
+    -- the row that came back has a part for each class
+    size : length g ≡ classes
+    size = solved .size ∙ count
+
+    -- with what stands beyond it 32 parts
+    whole : length (g ++ rest) ≡ 32
+    unfolding rest
+    whole =
+        length-append g rest
+        ∙ omega (arith, size, able .fewClasses, length-drop {A = ℕ} classes (replicate 32 0), length-replicate {A = ℕ} 32 0)
+
+    -- of which those beyond s are 0
+    past : (j : ℕ) → classes ≤ j → at (g ++ rest) j ≡ 0
+    unfolding rest
+    past j l = by (decLt j 32)
+      where
+        by : Dec (j < 32) → at (g ++ rest) j ≡ 0
+        by (yes h) =
+            ap (λ n. getD (g ++ rest) n 0) (omega (arith, size))
+            ∙ getD-append-add g rest (j - classes) 0
+            ∙ getD-drop classes (replicate 32 0) (j - classes) 0
+            ∙ getD-replicate 32 (classes + (j - classes)) 0 0 (omega arith)
+        by (no h) = List·getD-eq-default (g ++ rest) 0 {n = j} (omega (arith, whole))
+
+    -- the answer that holds them
+    pub answer-made : Made rules lowers uppers payoff columns classes class d (record { number = 0; figure = r; row = g ++ drop classes (replicate 32 0) })
+    unfolding rest
+    answer-made =
+        record {
+          number = refl;
+          size = whole;
+          beyond = past;
+          reaches =
+              reaches-same (record { lower = λ j l. refl; upper = λ j l. refl }) pays
+              (λ j l. sym (List·getD-append g rest 0 j (omega (arith, size))))
+              (subst (λ k. Reaches d k (rowFromParts rules lowers uppers columns class) (at (take classes payoff)) (at g) r) count
+              (subst (λ w. Reaches d (length (take classes payoff)) (gatheredRow (take w (drop ((class - 1) * 8) rules)) (take columns lowers) (take columns uppers)) (at (take classes payoff)) (at g) r) width (solved .reaches)));
+        }

@@ -1,0 +1,123 @@
+-- `pour` gives the spare parts along the order: the row with what is left sums to ONE, full where it passed and bare elsewhere.
+-- Assumes nothing.
+use Prim.Native.Nat.{_-_, _≤_, _<_}
+use native.Mathlib.Omega.{arith}
+use lib.ListN.{length, length-set}
+use Rattle.step.specs.Lists.{at}
+use Rattle.setchain.specs.Rows.{ONE}
+use Rattle.step.specs.Laws.Filling.{Filling, filling-none, filling-more, filling-last, turn-inside}
+use Rattle.step.proofs.fill.pour.Statement.{statement}
+use Rattle.step.proofs.fill.pour.Tie as tie
+
+abbrev Inv-loop : tie.InvT-loop
+Inv-loop upper order row₀ parts spare₀ k₀ row spare k = Filling row₀ upper order row spare k
+
+abbrev μ-loop : tie.MeasureT-loop
+μ-loop upper order row₀ parts spare₀ k₀ row spare k = length row₀ - k
+
+-- the class at place k has a state, whose entry lies between its ends
+here : (c : tie.After-state Inv-loop μ-loop)
+    → let a = c .before .before .before .before .before .before .args in
+    let l = c .before .before .loop in
+    (c .state .result < length (a .row .now)) × (at (l .row) (c .state .result) ≤ at (a .upper .now) (c .state .result)) × (at (a .upper .now) (c .state .result) ≤ ONE)
+here c =
+    turn-inside (c .before .before .before .before .before .before .pre) (c .before .before .loop .inv) (c .state .ensures)
+
+loop-holds : tie.Need-loop-holds Inv-loop μ-loop
+loop-holds c = filling-none (c .before .before .before .pre)
+
+shared-slice-read-state : tie.Need-shared-slice-read-state Inv-loop μ-loop
+shared-slice-read-state c = omega arith
+
+state-requires : tie.Need-state-requires Inv-loop μ-loop
+state-requires c κs = tt
+
+mul-room : tie.Need-mul-room Inv-loop μ-loop
+mul-room c = omega (arith, here c)
+
+shared-slice-read-room : tie.Need-shared-slice-read-room Inv-loop μ-loop
+shared-slice-read-room c = omega (arith, here (c .before))
+
+mul-room-2 : tie.Need-mul-room-2 Inv-loop μ-loop
+mul-room-2 c = omega (arith, here (c .before))
+
+slice-read-room : tie.Need-slice-read-room Inv-loop μ-loop
+slice-read-room c = omega (arith, here (c .before .before))
+
+sub-room : tie.Need-sub-room Inv-loop μ-loop
+sub-room c = omega (arith, here (c .before .before))
+
+mul-row : tie.Need-mul-row Inv-loop μ-loop
+mul-row c = omega (arith, here (c .before .before .before))
+
+slice-read-row : tie.Need-slice-read-row Inv-loop μ-loop
+slice-read-row c = omega (arith, here (c .before .before .before .before))
+
+add-row : tie.Need-add-row Inv-loop μ-loop
+add-row c = omega (arith, here (c .before .before .before .before))
+
+slice-write-row : tie.Need-slice-write-row Inv-loop μ-loop
+slice-write-row c = omega (arith, here (c .before .before .before .before))
+
+same-length : tie.Need-same-length Inv-loop μ-loop
+same-length c = simp length-set (omega arith)
+
+returns : tie.Need-returns Inv-loop μ-loop
+returns c =
+    let t = c .before .before .before .before in
+    filling-last (t .before .before .before .before .before .before .pre) (t .before .before .loop .inv) (t .state .ensures) (omega arith)
+
+mul-row-2 : tie.Need-mul-row-2 Inv-loop μ-loop
+mul-row-2 c = omega (arith, here (c .before .before .before))
+
+slice-read-row-2 : tie.Need-slice-read-row-2 Inv-loop μ-loop
+slice-read-row-2 c = omega (arith, here (c .before .before .before .before))
+
+add-row-2 : tie.Need-add-row-2 Inv-loop μ-loop
+add-row-2 c = omega (arith, here (c .before .before .before .before))
+
+slice-write-row-2 : tie.Need-slice-write-row-2 Inv-loop μ-loop
+slice-write-row-2 c = omega (arith, here (c .before .before .before .before))
+
+sub-spare : tie.Need-sub-spare Inv-loop μ-loop
+sub-spare c = omega arith
+
+add-k : tie.Need-add-k Inv-loop μ-loop
+add-k c = omega arith
+
+loop-less : tie.Need-loop-less Inv-loop μ-loop
+loop-less c = omega arith
+
+loop-again : tie.Need-loop-again Inv-loop μ-loop
+loop-again c =
+    let t = c .before .before .before .before in
+    filling-more (t .before .before .before .before .before .before .pre) (t .before .before .loop .inv) (t .state .ensures) (omega arith)
+
+pub pour-spec : {M : Type 1} → statement M
+pour-spec =
+    tie.close
+    (tie.spec
+    Inv-loop
+    μ-loop
+    loop-holds
+    shared-slice-read-state
+    state-requires
+    mul-room
+    shared-slice-read-room
+    mul-room-2
+    slice-read-room
+    sub-room
+    mul-row
+    slice-read-row
+    add-row
+    slice-write-row
+    same-length
+    returns
+    mul-row-2
+    slice-read-row-2
+    add-row-2
+    slice-write-row-2
+    sub-spare
+    add-k
+    loop-less
+    loop-again)

@@ -1,0 +1,31 @@
+-- The figure of a row: the sum of part times payoff over ONE, rounded away from what it bounds.
+use Prim.Native.Nat.{ℕ, _*_, _≤_, _<_}
+use mathlib.Core.Path.{_≡_}
+use mathlib.Core.Bool.{Bool, true, false}
+use mathlib.Core.List.{List}
+use lib.ListN.{length}
+use Rattle.setchain.specs.Sums.{sumTo, dot}
+use Rattle.setchain.specs.Rows.{ONE, IntervalRow}
+use Rattle.setchain.specs.Step.{lowStep, highStep}
+pub use Rattle.direction.specs.Direction.{rounded}
+use Rattle.step.specs.Lists.{at}
+
+-- the figure of document 01, "One year": low where payoffs rise along the order, high where they fall
+abbrev pub stepFigure : Bool → ℕ → IntervalRow → (ℕ → ℕ) → ℕ
+stepFigure false = lowStep
+stepFigure true = highStep
+
+-- the largest payoff for which every sum of part times payoff fits 64 bits
+abbrev pub LARGEST : ℕ
+LARGEST = 10000000000
+
+-- a row of parts and a payoff whose sum of part times payoff fits
+pub record Weighable (row payoff : List ℕ) : Type 0 where
+  pub size : length payoff ≡ length row
+  pub sums : sumTo (length row) (at row) ≡ ONE
+  pub small : (j : ℕ) → j < length row → at payoff j ≤ LARGEST
+
+-- the sum of part times payoff, and that it fits
+pub record Weighed (row payoff : List ℕ) (r : ℕ) : Type 0 where
+  pub is : r ≡ dot (length row) (at row) (at payoff)
+  pub fits : r ≤ LARGEST * ONE

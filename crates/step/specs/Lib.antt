@@ -1,0 +1,8 @@
+-- Read in this order, after crate `order`: lists as rows and payoffs, the fill along an order, the figure, the whole step, its answer.
+pub mod Lists
+pub mod Fill
+pub mod Figure
+pub mod Step
+pub mod StepAnswer
+pub mod Solve
+pub mod Laws

@@ -1,0 +1,29 @@
+// The figure of a row: the sum of part times payoff over ONE, rounded.
+ghost use mathlib.Core.Path.{_≡_};
+ghost use Prim.Native.Nat.{_*_};
+ghost use lib.ListN.{length};
+ghost use Rattle.setchain.specs.Sums.{dot};
+ghost use Rattle.step.specs.Lists.{at};
+ghost use Rattle.step.specs.Figure.{Weighable, Weighed, rounded};
+
+// The sum of part times payoff.
+fn weigh(row: &[u64], payoff: &[u64]) -> u64
+    requires { ⌜ Weighable (now row) (now payoff) ⌝ }
+    ensures { λ r. ⌜ Weighed (now (row .entry)) (now (payoff .entry)) r ⌝ }
+{
+    let mut sum: u64 = 0;
+    let mut j = 0;
+    while j < row.len() {
+        sum += row[j] * payoff[j];
+        j += 1;
+    }
+    sum
+}
+
+// The row's figure: rounded down for a low figure, up for a high one.
+pub fn figure(row: &[u64], payoff: &[u64], falling: bool) -> u64
+    requires { ⌜ Weighable (now row) (now payoff) ⌝ }
+    ensures { λ r. ⌜ r ≡ rounded falling (dot (length (now (row .entry))) (at (now (row .entry))) (at (now (payoff .entry)))) ⌝ }
+{
+    direction::round(weigh(row, payoff), falling)
+}
