@@ -12,7 +12,7 @@ use lib.Seq.{getD-set-same, getD-set-other}
 use borrow.Author.Tests.{eq-eqb, ne-eqb}
 use Rattle.setchain.specs.Sums.{sumTo, onlyIf}
 use Rattle.setchain.specs.Rows.{ONE}
-use Rattle.setchain.specs.Laws.Sums.{onlyIf-true, onlyIf-false, sumTo-front}
+use Rattle.setchain.specs.Laws.Sums.{onlyIf-true, onlyIf-false, sumTo-more, sumTo-front}
 use Rattle.step.specs.Lists.{at}
 use Rattle.step.specs.Figure.{LARGEST}
 use Rattle.bounds.specs.Entries.{sumOf}
@@ -31,6 +31,16 @@ sum-more from ends first e i h =
     let p : first + (e - first) ≡ e = omega arith in
     ap (λ k. sumOf from ends first k i) n
     ∙ ap (λ q. sumOf from ends first (e - first) i + onlyIf (eqb (at from q) i) (at ends q)) p
+
+-- one entry is at most what its row has of the list
+pub entry-in : (from ends : List ℕ) (first count e : ℕ) → first ≤ e → e < first + count → at ends e ≤ sumOf from ends first count (at from e)
+entry-in from ends first count e h l =
+    let f : ℕ → ℕ = λ k. onlyIf (eqb (at from (first + k)) (at from e)) (at ends (first + k)) in
+    let p : first + (e - first) ≡ e = omega arith in
+    let term : f (e - first) ≡ at ends e =
+    ap (λ q. onlyIf (eqb (at from q) (at from e)) (at ends q)) p
+    ∙ onlyIf-true (eqb (at from e) (at from e)) (at ends e) (eq-eqb (at from e) (at from e) refl) in
+    omega (arith, term, sumTo-more f (e - first), sumTo-front f count (e - first + 1) (omega arith))
 
 -- the entries below place e are given
 pub record Giving (from lows rooms : List ℕ) (first end pays : ℕ) (left sums left′ sums′ : List ℕ) (e : ℕ) : Type 0 where

@@ -22,6 +22,7 @@ use Rattle.bounds.specs.Entries.{sumOf, listedRow, chainListed, Held}
 use Rattle.bounds.specs.Walk.{leftAt, sumAt, taken, Givable, Given, Walkable, Walked, Settleable, Settled}
 use Rattle.bounds.specs.Years.{Yearly, Formed}
 use Rattle.step.specs.Laws.Agreeing.{step-same-payoff}
+use Rattle.bounds.proofs.Giving.{entry-in}
 use Rattle.bounds.proofs.Walking.{sum-fits, walk-figure}
 use Rattle.bounds.proofs.Forming.{zeros}
 
@@ -91,6 +92,16 @@ module _ {from lows rooms counts payoff order left sums₀ : List ℕ} (able : W
     unfolding leftAt
     left-more i l = rw (count-is, here) (omega (arith, w .rest i l))
 
+    entry-small : (e : ℕ) → j * 32 ≤ e → e < j * 32 + at counts j → at lows e + at rooms e ≤ ONE
+    entry-small e a b =
+        let i : at from e < length payoff = able .held .within e (omega (arith, state-inside, list-short, able .held .few)) in
+        omega (
+          arith,
+          entry-in from lows (j * 32) (at counts j) e a b,
+          entry-in from rooms (j * 32) (at counts j) e a b,
+          able .held .sound (at from e) i .capped j state-inside,
+        )
+
     pub pass-gives : Givable from lows rooms (j * 32) (j * 32 + at counts j) (at payoff j) left′ sums
     pass-gives =
         record {
@@ -98,6 +109,7 @@ module _ {from lows rooms counts payoff order left sums₀ : List ℕ} (able : W
           within = λ e l. omega (arith, able .held .within e l, w .lefts);
           rises = omega arith;
           ends = omega (arith, state-inside, list-short, able .held .few);
+          small = entry-small;
           fits = λ i l. omega (arith, one-more i (omega (arith, w .lefts)), fits i (omega (arith, w .lefts)) (suc k) more);
         }
 

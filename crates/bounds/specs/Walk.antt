@@ -26,12 +26,13 @@ sumAt r f order spare (suc k) =
 abbrev pub taken : (from lows rooms : List ℕ) → (first end : ℕ) → List ℕ → ℕ → ℕ
 taken from lows rooms first end left i = sumOf from lows first (end - first) i + min (at left i) (sumOf from rooms first (end - first) i)
 
--- what it takes to give the entries to one state: rows that all have a place, and sums that fit
+-- what it takes to give the entries to one state: rows that all have a place, entries of at most ONE, and sums that fit
 pub record Givable (from lows rooms : List ℕ) (first end pays : ℕ) (left sums : List ℕ) : Type 0 where
   pub size : length sums ≡ length left
   pub within : (e : ℕ) → e < 1024 → at from e < length left
   pub rises : first ≤ end
   pub ends : end ≤ 1024
+  pub small : (e : ℕ) → first ≤ e → e < end → at lows e + at rooms e ≤ ONE
   pub fits : (i : ℕ) → i < length left → at sums i + taken from lows rooms first end left i * pays ≤ LARGEST * ONE
 
 -- what it leaves

@@ -45,7 +45,7 @@ fn list_row(
     lows: &mut [u32; 1024],
     rooms: &mut [u32; 1024],
     counts: &mut [usize; 32],
-) -> u64
+) -> u32
     requires { ⌜ Listable (now rules) (now lowers) (now uppers) n i (now from) (now lows) (now rooms) (now counts) ⌝ }
     ensures { λ r. ⌜ RowListed (now (rules .entry)) (now (lowers .entry)) (now (uppers .entry)) n i (now (from .entry)) (now (lows .entry)) (now (rooms .entry)) (now (counts .entry)) (now (from .exit)) (now (lows .exit)) (now (rooms .exit)) (now (counts .exit)) r ⌝ }
 {
@@ -54,7 +54,7 @@ fn list_row(
     let mut upper = [0u64; 32];
     gather(rules, uppers, &mut upper[..n]);
     add_row(&lower[..n], &upper[..n], i, from, lows, rooms, counts);
-    spare(&lower[..n])
+    spare(&lower[..n]) as u32
 }
 
 // Lists the entries of all rows of n states, and writes the parts that each row's lowers leave.
@@ -67,7 +67,7 @@ fn list_rows(
     lows: &mut [u32; 1024],
     rooms: &mut [u32; 1024],
     counts: &mut [usize; 32],
-    spare: &mut [u64; 32],
+    spare: &mut [u32; 32],
 )
     requires { ⌜ Storable n (now rules) (now lowers) (now uppers) (now from) (now lows) (now rooms) (now counts) (now spare) ⌝ }
     ensures { λ _. ⌜ Listed n (now (rules .entry)) (now (lowers .entry)) (now (uppers .entry)) (now (from .exit)) (now (lows .exit)) (now (rooms .exit)) (now (counts .exit)) (now (spare .exit)) ⌝ }
@@ -103,7 +103,7 @@ fn list_parts(
     lows: &mut [u32; 1024],
     rooms: &mut [u32; 1024],
     counts: &mut [usize; 32],
-    spare: &mut [u64; 32],
+    spare: &mut [u32; 32],
 )
     requires { ⌜ StoredParts rules lowers uppers columns classes (now from) (now lows) (now rooms) (now counts) (now spare) ⌝ }
     ensures { λ _. ⌜ Listed classes rules (take columns lowers) (take columns uppers) (now (from .exit)) (now (lows .exit)) (now (rooms .exit)) (now (counts .exit)) (now (spare .exit)) ⌝ }
@@ -129,7 +129,7 @@ pub fn list_scheme(
     lows: &mut [u32; 1024],
     rooms: &mut [u32; 1024],
     counts: &mut [usize; 32],
-    spare: &mut [u64; 32],
+    spare: &mut [u32; 32],
 )
     requires { ⌜ (Accepted scheme) × Empty (now from) (now lows) (now rooms) (now counts) (now spare) ⌝ }
     ensures { λ _. ⌜ Entered scheme (now (from .exit)) (now (lows .exit)) (now (rooms .exit)) (now (counts .exit)) (now (spare .exit)) ⌝ }

@@ -16,7 +16,7 @@ pub fn share_payoff(class: u64) -> [u64; 32]
 
 // A 32-bit number in 64 bits.
 pub fn wide(x: u32) -> u64
-    ensures { λ r. ⌜ (r ≡ x) × (r ≤ 4294967295) ⌝ }
+    ensures { λ r. ⌜ r ≡ x ⌝ }
 {
     x as u64
 }

@@ -14,7 +14,7 @@ fn write_each(
     lows: &[u32; 1024],
     rooms: &[u32; 1024],
     counts: &[usize; 32],
-    spare: &[u64; 32],
+    spare: &[u32; 32],
     year: u64,
     low: &mut [u64],
     high: &mut [u64],
@@ -65,7 +65,7 @@ pub fn write_shares(scheme: Scheme, year: u64, low: &mut [u64], high: &mut [u64]
     let mut lows = [0u32; 1024];
     let mut rooms = [0u32; 1024];
     let mut counts = [0usize; 32];
-    let mut spare = [0u64; 32];
+    let mut spare = [0u32; 32];
     list_scheme(
         scheme,
         &mut from,

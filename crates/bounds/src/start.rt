@@ -18,7 +18,7 @@ fn figure_in(
     lows: &[u32; 1024],
     rooms: &[u32; 1024],
     counts: &[usize; 32],
-    spare: &[u64; 32],
+    spare: &[u32; 32],
     classes: u8,
     start: u8,
     gain: [u64; 32],
@@ -54,7 +54,7 @@ pub fn start_figure(
     lows: &[u32; 1024],
     rooms: &[u32; 1024],
     counts: &[usize; 32],
-    spare: &[u64; 32],
+    spare: &[u32; 32],
     gain: [u64; 32],
     falling: bool,
     payoff: [u64; 32],
@@ -87,7 +87,7 @@ pub fn start_bounds(scheme: Scheme, gain: [u64; 32], payoff: [u64; 32], t: u64) 
     let mut lows = [0u32; 1024];
     let mut rooms = [0u32; 1024];
     let mut counts = [0usize; 32];
-    let mut spare = [0u64; 32];
+    let mut spare = [0u32; 32];
     list_scheme(
         scheme,
         &mut from,

@@ -22,7 +22,7 @@ fn column_in(
     lows: &[u32; 1024],
     rooms: &[u32; 1024],
     counts: &[usize; 32],
-    spare: &[u64; 32],
+    spare: &[u32; 32],
     classes: u8,
     start: u8,
     horizon: u8,
@@ -63,7 +63,7 @@ fn column(
     lows: &[u32; 1024],
     rooms: &[u32; 1024],
     counts: &[usize; 32],
-    spare: &[u64; 32],
+    spare: &[u32; 32],
     gain: [u64; 32],
     falling: bool,
     payoff: [u64; 32],
@@ -97,7 +97,7 @@ fn share_columns(
     lows: &[u32; 1024],
     rooms: &[u32; 1024],
     counts: &[usize; 32],
-    spare: &[u64; 32],
+    spare: &[u32; 32],
     falling: bool,
     out: &mut [u64],
 )
@@ -133,7 +133,7 @@ fn write_figures(
     lows: &[u32; 1024],
     rooms: &[u32; 1024],
     counts: &[usize; 32],
-    spare: &[u64; 32],
+    spare: &[u32; 32],
     falling: bool,
     out: &mut [u64],
 )
@@ -184,7 +184,7 @@ pub fn write_tables(scheme: Scheme, low: &mut [u64], high: &mut [u64])
     let mut lows = [0u32; 1024];
     let mut rooms = [0u32; 1024];
     let mut counts = [0usize; 32];
-    let mut spare = [0u64; 32];
+    let mut spare = [0u32; 32];
     list_scheme(
         scheme,
         &mut from,

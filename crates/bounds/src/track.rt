@@ -12,7 +12,7 @@ pub fn track(
     lows: &[u32; 1024],
     rooms: &[u32; 1024],
     counts: &[usize; 32],
-    spare: &[u64; 32],
+    spare: &[u32; 32],
     gain: &[u64],
     falling: bool,
     order: &mut [u8],

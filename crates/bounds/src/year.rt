@@ -18,7 +18,7 @@ fn index(x: u8) -> usize
 }
 
 // The smaller of two numbers of parts.
-fn smaller(a: u64, b: u64) -> u64
+fn smaller(a: u32, b: u32) -> u32
     ensures { λ r. ⌜ r ≡ min a b ⌝ }
 {
     if a < b { a } else { b }
@@ -32,7 +32,7 @@ fn give(
     first: usize,
     end: usize,
     pays: u64,
-    left: &mut [u64],
+    left: &mut [u32],
     sums: &mut [u64],
 )
     requires { ⌜ Givable (now from) (now lows) (now rooms) first end pays (now left) (now sums) ⌝ }
@@ -41,9 +41,9 @@ fn give(
     let mut e = first;
     while e < end {
         let i = index(from[e]);
-        let given = smaller(wide(rooms[e]), left[i]);
+        let given = smaller(rooms[e], left[i]);
         left[i] -= given;
-        sums[i] += (wide(lows[e]) + given) * pays;
+        sums[i] += wide(lows[e] + given) * pays;
         e += 1;
     }
 }
@@ -56,7 +56,7 @@ fn walk(
     counts: &[usize; 32],
     payoff: &[u64],
     order: &[u8],
-    left: &mut [u64],
+    left: &mut [u32],
     sums: &mut [u64],
 )
     requires { ⌜ Walkable (now from) (now lows) (now rooms) (now counts) (now payoff) (now order) (now left) (now sums) ⌝ }
@@ -99,7 +99,7 @@ pub fn year(
     lows: &[u32; 1024],
     rooms: &[u32; 1024],
     counts: &[usize; 32],
-    spare: &[u64; 32],
+    spare: &[u32; 32],
     gain: &[u64],
     falling: bool,
     order: &mut [u8],

@@ -70,6 +70,9 @@ slice-aggregate-spare c =
 spare-requires : tie.Need-spare-requires
 spare-requires c κs = tt
 
+cast-result : tie.Need-cast-result
+cast-result c = omega (arith, c .spare .ensures)
+
 returns : tie.Need-returns
 returns c =
     let s = c .before .before .before .before .before .before .before .before .before .before .before .before .before .before .before .before .before .before in
@@ -93,4 +96,5 @@ list-row-spec =
     array-share-prefix-lower-2
     slice-aggregate-spare
     spare-requires
+    cast-result
     returns)

@@ -1,11 +1,14 @@
 -- `figure_in` numbers the classes, runs the years on the parts in use and reads the start class's place.
 -- Assumes nothing.
-use mathlib.Core.Path.{sym}
+use Prim.Native.Nat.{_<_}
+use mathlib.Core.Path.{sym, _∙_}
+use native.Mathlib.Omega.{arith}
 use lib.ListN.{drop}
 use lib.Seq.{length-take-le}
 use Rattle.bounds.proofs.Forming.{zeros}
 use Rattle.bounds.proofs.Starting.{order-fits, order-size, start-runs, start-is}
 use borrow.Author.Needs.{needs}
+use Rattle.order.specs.Laws.Arranging.{state-of}
 use Rattle.bounds.proofs.start.figure_in.Statement.{statement}
 use Rattle.bounds.proofs.start.figure_in.Tie as tie
 
@@ -36,14 +39,20 @@ years-requires c κs = start-runs (c .before .before .before .before .before .pr
 state-requires : tie.Need-state-requires
 state-requires c κs = search needs
 
+-- the start class's state
+begins : (c : tie.After-state) → c .state .result < 32
+begins c =
+    let able = c .before .before .before .before .before .before .before .before .pre in
+    omega (arith, c .state .ensures ∙ state-of _ (able .positive), able .positive, able .within, able .held .few)
+
 mul-result : tie.Need-mul-result
-mul-result c = search needs
+mul-result c = omega (arith, begins c)
 
 array-read-result : tie.Need-array-read-result
-array-read-result c = search needs
+array-read-result c = begins c
 
 returns : tie.Need-returns
-returns c = start-is (c .before .before .before .before .before .before .before .before .pre) (search needs) (c .state .result) (c .state .ensures) (c .before .before .years .ensures .0)
+returns c = start-is (c .before .before .before .before .before .before .before .before .pre) (search needs) (c .state .result) (c .state .ensures ∙ state-of _ (c .before .before .before .before .before .before .before .before .pre .positive)) (c .before .before .years .ensures .0)
 
 pub figure-in-spec : {M : Type 1} → statement M
 figure-in-spec =

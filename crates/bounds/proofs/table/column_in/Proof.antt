@@ -1,12 +1,13 @@
 -- `column_in` numbers the classes and carries a figure vector through the years on the parts in use.
 -- Assumes nothing.
-use mathlib.Core.Path.{sym}
+use mathlib.Core.Path.{sym, _∙_}
 use lib.ListN.{drop}
 use lib.Seq.{length-take-le}
 use Rattle.bounds.proofs.Forming.{zeros}
 use Rattle.bounds.proofs.Starting.{order-fits, order-size}
 use Rattle.bounds.proofs.Tabling.{column-tracks, column-tracked}
 use borrow.Author.Needs.{needs}
+use Rattle.order.specs.Laws.Arranging.{state-of}
 use Rattle.bounds.proofs.table.column_in.Statement.{statement}
 use Rattle.bounds.proofs.table.column_in.Tie as tie
 
@@ -38,13 +39,13 @@ add-track : tie.Need-add-track
 add-track c = search needs
 
 track-requires : tie.Need-track-requires
-track-requires c κs = column-tracks (c .before .before .before .before .before .before .before .before .pre) (search needs) (c .before .state .result) (c .before .state .ensures) (c .before .before .before .before .before .number .last .0) (drop (c .before .before .before .before .before .before .before .before .args .classes) zeros) (c .before .before .before .before .before .number .ensures)
+track-requires c κs = column-tracks (c .before .before .before .before .before .before .before .before .pre) (search needs) (c .before .state .result) (c .before .state .ensures ∙ state-of _ (c .before .before .before .before .before .before .before .before .pre .starts .positive)) (c .before .before .before .before .before .number .last .0) (drop (c .before .before .before .before .before .before .before .before .args .classes) zeros) (c .before .before .before .before .before .number .ensures)
 
 same-length : tie.Need-same-length
 same-length c = search needs
 
 returns : tie.Need-returns
-returns c = column-tracked (c .before .before .before .before .before .before .before .before .before .before .before .before .pre) (search needs) (c .before .before .before .before .before .state .result) (c .before .before .before .before .before .state .ensures) (c .before .before .before .before .before .before .before .before .before .before .before .before .args .falling) (c .before .before .before .track .ensures)
+returns c = column-tracked (c .before .before .before .before .before .before .before .before .before .before .before .before .pre) (search needs) (c .before .before .before .before .before .state .result) (c .before .before .before .before .before .state .ensures ∙ state-of _ (c .before .before .before .before .before .before .before .before .before .before .before .before .pre .starts .positive)) (c .before .before .before .before .before .before .before .before .before .before .before .before .args .falling) (c .before .before .before .track .ensures)
 
 pub column-in-spec : {M : Type 1} → statement M
 column-in-spec =

@@ -28,17 +28,17 @@ here c =
 
 -- what its row is given
 given : (c : tie.After-smaller Inv-loop μ-loop)
-    → let a = c .before .before .before .before .before .before .before .before .before .before .args in
-    let l = c .before .before .before .before .before .before .before .loop in
-    c .smaller .result ≡ min (at (a .rooms .now) (l .e)) (at (l .left) (c .before .before .before .before .index .result))
-given c = rw (c .before .before .wide .ensures .0) at (c .smaller .ensures)
+    → let a = c .before .before .before .before .before .before .before .before .before .args in
+    let l = c .before .before .before .before .before .before .loop in
+    c .smaller .result ≡ min (at (a .rooms .now) (l .e)) (at (l .left) (c .before .before .before .index .result))
+given c = c .smaller .ensures
 
 -- and that the row's sum fits
-fits : (c : tie.After-wide2 Inv-loop μ-loop)
-    → at (c .before .before .before .before .before .before .before .before .before .before .loop .sums) (c .before .before .before .before .before .before .before .index .result) + (c .wide2 .result + c .before .before .before .smaller .result) * c .before .before .before .before .before .before .before .before .before .before .before .before .before .args .pays ≤ LARGEST * ONE
+fits : (c : tie.After-wide Inv-loop μ-loop)
+    → at (c .before .before .before .before .before .before .before .before .before .loop .sums) (c .before .before .before .before .before .before .index .result) + c .wide .result * c .before .before .before .before .before .before .before .before .before .before .before .before .args .pays ≤ LARGEST * ONE
 fits c =
-    rw (c .wide2 .ensures .0)
-    (giving-fits (c .before .before .before .before .before .before .before .before .before .before .before .before .before .pre) (c .before .before .before .before .before .before .before .before .before .before .loop .inv) (omega arith) (c .before .before .before .before .before .before .before .index .ensures) (given (c .before .before .before)))
+    rw (c .wide .ensures)
+    (giving-fits (c .before .before .before .before .before .before .before .before .before .before .before .before .pre) (c .before .before .before .before .before .before .before .before .before .loop .inv) (omega arith) (c .before .before .before .before .before .before .index .ensures) (given (c .before .before .before)))
 
 loop-holds : tie.Need-loop-holds Inv-loop μ-loop
 loop-holds c = giving-none (c .before .before .pre)
@@ -49,71 +49,68 @@ element-copy-out-index c = omega (arith, c .before .before .before .before .pre 
 index-requires : tie.Need-index-requires Inv-loop μ-loop
 index-requires c κs = tt
 
-mul-wide : tie.Need-mul-wide Inv-loop μ-loop
-mul-wide c = omega (arith, here c)
-
-element-copy-out-wide : tie.Need-element-copy-out-wide Inv-loop μ-loop
-element-copy-out-wide c = here c .0
-
-wide-requires : tie.Need-wide-requires Inv-loop μ-loop
-wide-requires c κs = tt
-
 mul-smaller : tie.Need-mul-smaller Inv-loop μ-loop
-mul-smaller c = omega (arith, here (c .before .before))
+mul-smaller c = omega (arith, here c)
+
+element-copy-out-smaller : tie.Need-element-copy-out-smaller Inv-loop μ-loop
+element-copy-out-smaller c = here c .0
+
+mul-smaller-2 : tie.Need-mul-smaller-2 Inv-loop μ-loop
+mul-smaller-2 c = omega (arith, here (c .before))
 
 slice-read-smaller : tie.Need-slice-read-smaller Inv-loop μ-loop
-slice-read-smaller c = here (c .before .before .before) .1
+slice-read-smaller c = here (c .before .before) .1
 
 smaller-requires : tie.Need-smaller-requires Inv-loop μ-loop
 smaller-requires c κs = tt
 
 mul-left : tie.Need-mul-left Inv-loop μ-loop
-mul-left c = omega (arith, here (c .before .before .before .before))
+mul-left c = omega (arith, here (c .before .before .before))
 
 slice-read-left : tie.Need-slice-read-left Inv-loop μ-loop
-slice-read-left c = here (c .before .before .before .before .before) .1
+slice-read-left c = here (c .before .before .before .before) .1
 
 sub-left : tie.Need-sub-left Inv-loop μ-loop
 sub-left c = omega (arith, given (c .before))
 
 slice-write-left : tie.Need-slice-write-left Inv-loop μ-loop
-slice-write-left c = here (c .before .before .before .before .before) .1
+slice-write-left c = here (c .before .before .before .before) .1
 
-mul-wide-2 : tie.Need-mul-wide-2 Inv-loop μ-loop
-mul-wide-2 c = omega (arith, here (c .before .before .before .before .before))
+mul-wide : tie.Need-mul-wide Inv-loop μ-loop
+mul-wide c = omega (arith, here (c .before .before .before .before))
 
-element-copy-out-wide-2 : tie.Need-element-copy-out-wide-2 Inv-loop μ-loop
-element-copy-out-wide-2 c = here (c .before .before .before .before .before) .0
+element-copy-out-wide : tie.Need-element-copy-out-wide Inv-loop μ-loop
+element-copy-out-wide c = here (c .before .before .before .before) .0
 
-wide-requires-2 : tie.Need-wide-requires-2 Inv-loop μ-loop
-wide-requires-2 c κs = tt
+add-wide : tie.Need-add-wide Inv-loop μ-loop
+add-wide c = omega (arith, given (c .before .before), c .before .before .before .before .before .before .before .before .before .before .before .pre .small (c .before .before .before .before .before .before .before .before .loop .e) (c .before .before .before .before .before .before .before .before .loop .inv .begun) (omega arith))
 
-add-sums : tie.Need-add-sums Inv-loop μ-loop
-add-sums c = omega (arith, given (c .before .before .before), c .wide2 .ensures, c .before .before .before .before .before .wide .ensures)
+wide-requires : tie.Need-wide-requires Inv-loop μ-loop
+wide-requires c κs = tt
 
 mul-sums : tie.Need-mul-sums Inv-loop μ-loop
 mul-sums c = omega (arith, fits c)
 
 mul-sums-2 : tie.Need-mul-sums-2 Inv-loop μ-loop
-mul-sums-2 c = omega (arith, here (c .before .before .before .before .before .before .before))
+mul-sums-2 c = omega (arith, here (c .before .before .before .before .before .before))
 
 slice-read-sums : tie.Need-slice-read-sums Inv-loop μ-loop
-slice-read-sums c = here (c .before .before .before .before .before .before .before .before) .2
+slice-read-sums c = here (c .before .before .before .before .before .before .before) .2
 
-add-sums-2 : tie.Need-add-sums-2 Inv-loop μ-loop
-add-sums-2 c = omega (arith, fits (c .before))
+add-sums : tie.Need-add-sums Inv-loop μ-loop
+add-sums c = omega (arith, fits (c .before))
 
 slice-write-sums : tie.Need-slice-write-sums Inv-loop μ-loop
-slice-write-sums c = here (c .before .before .before .before .before .before .before .before) .2
+slice-write-sums c = here (c .before .before .before .before .before .before .before) .2
 
 add-e : tie.Need-add-e Inv-loop μ-loop
-add-e c = omega (arith, here (c .before .before .before .before .before .before .before .before))
+add-e c = omega (arith, here (c .before .before .before .before .before .before .before))
 
 loop-less : tie.Need-loop-less Inv-loop μ-loop
 loop-less c = omega arith
 
 loop-again : tie.Need-loop-again Inv-loop μ-loop
-loop-again c = rw (c .before .wide2 .ensures .0) (giving-more (c .before .before .before .before .before .before .before .before .before .before .before .before .before .before .pre) (c .before .before .before .before .before .before .before .before .before .before .before .loop .inv) (omega arith) (c .before .before .before .before .before .before .before .before .index .ensures) (given (c .before .before .before .before)))
+loop-again c = rw (c .before .wide .ensures) (giving-more (c .before .before .before .before .before .before .before .before .before .before .before .before .before .pre) (c .before .before .before .before .before .before .before .before .before .before .loop .inv) (omega arith) (c .before .before .before .before .before .before .before .index .ensures) (given (c .before .before .before .before)))
 
 same-length : tie.Need-same-length Inv-loop μ-loop
 same-length c = omega (arith, c .before .loop .inv .given .lefts)
@@ -133,24 +130,23 @@ give-spec =
     loop-holds
     element-copy-out-index
     index-requires
-    mul-wide
-    element-copy-out-wide
-    wide-requires
     mul-smaller
+    element-copy-out-smaller
+    mul-smaller-2
     slice-read-smaller
     smaller-requires
     mul-left
     slice-read-left
     sub-left
     slice-write-left
-    mul-wide-2
-    element-copy-out-wide-2
-    wide-requires-2
-    add-sums
+    mul-wide
+    element-copy-out-wide
+    add-wide
+    wide-requires
     mul-sums
     mul-sums-2
     slice-read-sums
-    add-sums-2
+    add-sums
     slice-write-sums
     add-e
     loop-less

@@ -1,10 +1,12 @@
 -- `walk` gives the entries to the states along the order.
 -- Assumes nothing.
 use Prim.Native.Nat.{_-_, _≤_, _<_}
+use mathlib.Core.Path.{_≡_, _∙_}
 use native.Mathlib.Omega.{arith}
 use lib.ListN.{length}
 use Rattle.step.specs.Lists.{at}
 use Rattle.bounds.proofs.Passing.{Passing, passing-none, state-inside, list-short, pass-gives, passing-more, passing-all}
+use Rattle.order.specs.Laws.Arranging.{state-of}
 use Rattle.bounds.proofs.year.walk.Statement.{statement}
 use Rattle.bounds.proofs.year.walk.Tie as tie
 
@@ -14,7 +16,13 @@ Inv-loop from lows rooms counts payoff order left₀ sums₀ k₀ left sums k = 
 abbrev μ-loop : tie.MeasureT-loop
 μ-loop from lows rooms counts payoff order left₀ sums₀ k₀ left sums k = length payoff - k
 
--- the state at place k, and its list's length
+-- the class at place k has a state
+named : (c : tie.After-state Inv-loop μ-loop) → c .state .result ≡ at (c .before .before .before .before .before .before .before .before .args .order .now) (c .before .before .before .loop .k) - 1
+named c =
+    let able = c .before .before .before .before .before .before .before .before .pre in
+    c .state .ensures ∙ state-of _ (able .placed .within (c .before .before .before .loop .k) (omega (arith, able .placed .size)) .0)
+
+-- and how long its list is
 here : (c : tie.After-state Inv-loop μ-loop)
     → let a = c .before .before .before .before .before .before .before .before .args in
     (c .state .result < 32) × (c .state .result < length (a .payoff .now)) × (at (a .counts .now) (c .state .result) ≤ 32)
@@ -22,7 +30,7 @@ here c =
     let able = c .before .before .before .before .before .before .before .before .pre in
     let w = c .before .before .before .loop .inv in
     let more : c .before .before .before .loop .k < length (c .before .before .before .before .before .before .before .before .args .payoff .now) = omega (arith, able .placed .size) in
-    omega (arith, able .held .few, state-inside able w more (c .state .ensures), list-short able w more (c .state .ensures))
+    omega (arith, able .held .few, state-inside able w more (named c), list-short able w more (named c))
 
 loop-holds : tie.Need-loop-holds Inv-loop μ-loop
 loop-holds c = passing-none (c .before .before .before .before .pre)
@@ -52,7 +60,7 @@ shared-slice-read-give : tie.Need-shared-slice-read-give Inv-loop μ-loop
 shared-slice-read-give c = omega (arith, here (c .before .before))
 
 give-requires : tie.Need-give-requires Inv-loop μ-loop
-give-requires c κs = pass-gives (c .before .before .before .before .before .before .before .before .before .before .before .before .pre) (c .before .before .before .before .before .before .before .loop .inv) (omega (arith, c .before .before .before .before .before .before .before .before .before .before .before .before .pre .placed .size)) (c .before .before .before .before .state .ensures)
+give-requires c κs = pass-gives (c .before .before .before .before .before .before .before .before .before .before .before .before .pre) (c .before .before .before .before .before .before .before .loop .inv) (omega (arith, c .before .before .before .before .before .before .before .before .before .before .before .before .pre .placed .size)) (named (c .before .before .before .before))
 
 add-k : tie.Need-add-k Inv-loop μ-loop
 add-k c = omega arith
@@ -61,7 +69,7 @@ loop-less : tie.Need-loop-less Inv-loop μ-loop
 loop-less c = omega (arith, c .before .before .before .before .before .before .before .before .before .before .before .before .before .before .before .before .before .pre .placed .size)
 
 loop-again : tie.Need-loop-again Inv-loop μ-loop
-loop-again c = passing-more (c .before .before .before .before .before .before .before .before .before .before .before .before .before .before .before .before .before .pre) (c .before .before .before .before .before .before .before .before .before .before .before .before .loop .inv) (omega (arith, c .before .before .before .before .before .before .before .before .before .before .before .before .before .before .before .before .before .pre .placed .size)) (c .before .before .before .before .before .before .before .before .before .state .ensures) (c .before .before .before .before .give .ensures)
+loop-again c = passing-more (c .before .before .before .before .before .before .before .before .before .before .before .before .before .before .before .before .before .pre) (c .before .before .before .before .before .before .before .before .before .before .before .before .loop .inv) (omega (arith, c .before .before .before .before .before .before .before .before .before .before .before .before .before .before .before .before .before .pre .placed .size)) (named (c .before .before .before .before .before .before .before .before .before)) (c .before .before .before .before .give .ensures)
 
 same-length : tie.Need-same-length Inv-loop μ-loop
 same-length c = omega (arith, c .before .loop .inv .lefts, c .before .before .before .before .before .before .pre .lefts)

@@ -1,11 +1,13 @@
 -- `pour` gives the spare parts along the order: the row with what is left sums to ONE, full where it passed and bare elsewhere.
 -- Assumes nothing.
 use Prim.Native.Nat.{_-_, _≤_, _<_}
+use mathlib.Core.Path.{_≡_, _∙_}
 use native.Mathlib.Omega.{arith}
 use lib.ListN.{length, length-set}
 use Rattle.step.specs.Lists.{at}
 use Rattle.setchain.specs.Rows.{ONE}
 use Rattle.step.specs.Laws.Filling.{Filling, filling-none, filling-more, filling-last, turn-inside}
+use Rattle.order.specs.Laws.Arranging.{state-of}
 use Rattle.step.proofs.fill.pour.Statement.{statement}
 use Rattle.step.proofs.fill.pour.Tie as tie
 
@@ -15,13 +17,17 @@ Inv-loop upper order row₀ parts spare₀ k₀ row spare k = Filling row₀ upp
 abbrev μ-loop : tie.MeasureT-loop
 μ-loop upper order row₀ parts spare₀ k₀ row spare k = length row₀ - k
 
--- the class at place k has a state, whose entry lies between its ends
+-- the class at place k has a state
+named : (c : tie.After-state Inv-loop μ-loop) → c .state .result ≡ at (c .before .before .before .before .before .before .args .order .now) (c .before .before .loop .k) - 1
+named c = c .state .ensures ∙ state-of _ (c .before .before .before .before .before .before .pre .placed .within (c .before .before .loop .k) (c .before .before .loop .inv .inside) .0)
+
+-- whose entry lies between its ends
 here : (c : tie.After-state Inv-loop μ-loop)
     → let a = c .before .before .before .before .before .before .args in
     let l = c .before .before .loop in
     (c .state .result < length (a .row .now)) × (at (l .row) (c .state .result) ≤ at (a .upper .now) (c .state .result)) × (at (a .upper .now) (c .state .result) ≤ ONE)
 here c =
-    turn-inside (c .before .before .before .before .before .before .pre) (c .before .before .loop .inv) (c .state .ensures)
+    turn-inside (c .before .before .before .before .before .before .pre) (c .before .before .loop .inv) (named c)
 
 loop-holds : tie.Need-loop-holds Inv-loop μ-loop
 loop-holds c = filling-none (c .before .before .before .pre)
@@ -65,7 +71,7 @@ same-length c = simp length-set (omega arith)
 returns : tie.Need-returns Inv-loop μ-loop
 returns c =
     let t = c .before .before .before .before in
-    filling-last (t .before .before .before .before .before .before .pre) (t .before .before .loop .inv) (t .state .ensures) (omega arith)
+    filling-last (t .before .before .before .before .before .before .pre) (t .before .before .loop .inv) (named t) (omega arith)
 
 mul-row-2 : tie.Need-mul-row-2 Inv-loop μ-loop
 mul-row-2 c = omega (arith, here (c .before .before .before))
@@ -91,7 +97,7 @@ loop-less c = omega arith
 loop-again : tie.Need-loop-again Inv-loop μ-loop
 loop-again c =
     let t = c .before .before .before .before in
-    filling-more (t .before .before .before .before .before .before .pre) (t .before .before .loop .inv) (t .state .ensures) (omega arith)
+    filling-more (t .before .before .before .before .before .before .pre) (t .before .before .loop .inv) (named t) (omega arith)
 
 pub pour-spec : {M : Type 1} → statement M
 pour-spec =
