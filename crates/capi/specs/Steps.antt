@@ -38,5 +38,5 @@ pub record RowKept (high : Bool) (s : Scheme) (payoff : List ℕ) (class number 
   pub size : number ≡ 0 → length after ≡ 32
   -- "with 0 beyond s"
   pub beyond : number ≡ 0 → (j : ℕ) → s .classes ≤ j → at after j ≡ 0
-  -- it lies inside the class's interval and reaches its unrounded figure (crate bounds, `StepAnswer`)
+  -- it lies inside the class's interval and reaches its unrounded figure (crate step, `StepAnswer`)
   pub reaches : number ≡ 0 → Reaches high (s .classes) (classRow s class) (at (payoffOf payoff)) (at after) figure

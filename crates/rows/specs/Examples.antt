@@ -8,7 +8,7 @@ use Rattle.scheme.specs.Tables.{anyBelow, tab}
 use Rattle.scheme.specs.Cause.{sizeOut, startOut, horizonOut, ruleOut, bandOut, sumOut, premiumOut, causeWhere}
 use Rattle.scheme.specs.Examples.{padded, schemeA, single}
 use Rattle.rows.specs.declared.RowAnswer.{RowAnswer}
-use Rattle.rows.specs.Rows.{gathered, rowRefused, rowAt, rowAnswer}
+use Rattle.rows.specs.Rows.{gathered, rowRefused, rowAt, rowAnswer, spareOf}
 
 -- the answer with these entries, and 0 beyond
 abbrev pub answerOf : (lower upper : List ℕ) → RowAnswer
@@ -34,3 +34,8 @@ pub record GatheredTwice : Type 0 where
 pub gathered-twice : GatheredTwice
 unfolding sumTo onlyIf
 gathered-twice = record { capped = refl; elsewhere = refl }
+
+-- what the lower entries of class 2 leave, and entries that come to more than ONE
+pub spare-examples : (spareOf (800000000 ∷ 100000000 ∷ []) ≡ 100000000) × (spareOf (800000000 ∷ 300000000 ∷ []) ≡ 0)
+unfolding sumTo
+spare-examples = (refl, refl)
