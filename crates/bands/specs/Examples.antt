@@ -9,7 +9,7 @@ use Rattle.numbers.specs.Numbers.{beAt}
 use Rattle.record.specs.Read.{frameCause}
 use Rattle.record.specs.Examples.{exampleA}
 use Rattle.bands.specs.declared.Band.the-variants.{Ends, NoMore}
-use Rattle.bands.specs.Reader.{bandAt, openPart, answers}
+use Rattle.bands.specs.Reader.{bandAt, openPart, answers, handedOut, endsOf}
 use Rattle.bands.specs.RuleRow.{ruleRow}
 
 pub row-a : ruleRow exampleA 2 ≡ 1 ∷ 2 ∷ 2 ∷ []
@@ -20,3 +20,10 @@ row-a = refl
 pub bands-a : answers (openPart exampleA) 5 0 ≡ Ends 800000000 900000000 ∷ Ends 100000000 200000000 ∷ Ends 0 50000000 ∷ NoMore ∷ NoMore ∷ []
 unfolding answers bandAt openPart frameCause beAt schemeOf upTo tab causeWhere sizeOut startOut horizonOut ruleOut bandOut sumOut premiumOut anyBelow sumTo
 bands-a = refl
+
+-- the number and the values of its first answer, and past its last band
+pub first-a :
+    (handedOut (bandAt exampleA 0) ≡ 1) × (endsOf (bandAt exampleA 0) ≡ 800000000 ∷ 900000000 ∷ [])
+    × (handedOut (bandAt exampleA 3) ≡ 0) × (endsOf (bandAt exampleA 3) ≡ [])
+unfolding bandAt frameCause beAt schemeOf upTo tab causeWhere sizeOut startOut horizonOut ruleOut bandOut sumOut premiumOut anyBelow sumTo
+first-a = (refl, refl, refl, refl)

@@ -12,13 +12,6 @@ fn count(x: u8) -> usize
     x as usize
 }
 
-// a byte as a class number
-fn wide(x: u8) -> u64
-    ensures { λ r. ⌜ r ≡ x ⌝ }
-{
-    x as u64
-}
-
 // the first cause of a rule row, or 0
 fn row_cause(bytes: &[u8], class: u64) -> u8
     ensures { λ r. ⌜ r ≡ rowCause (now (bytes .entry)) class ⌝ }
@@ -27,11 +20,7 @@ fn row_cause(bytes: &[u8], class: u64) -> u8
     if number != 0 {
         return number;
     }
-    if class == 0 {
-        return scheme::CLASS_OUT;
-    }
-    let classes = wide(bytes[3]);
-    if classes < class {
+    if scheme::class_out(bytes[3], class) {
         return scheme::CLASS_OUT;
     }
     0

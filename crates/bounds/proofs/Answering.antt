@@ -2,7 +2,7 @@
 -- Assumes nothing.
 use Prim.Native.Nat.{ℕ, _-_, _≤_, _<_}
 use mathlib.Core.Path.{_≡_, refl, ap, ap₂, sym, _∙_, subst}
-use mathlib.Core.Bool.{Bool, true, false, cond}
+use mathlib.Core.Bool.{Bool, true, false}
 use mathlib.Core.List.{List}
 use native.Mathlib.Omega.{arith}
 use lib.Dec.{eqb, ltb}
@@ -16,7 +16,7 @@ use Rattle.scheme.specs.Access.{premiumAt}
 use Rattle.scheme.specs.Accepted.{Accepted}
 use Rattle.scheme.specs.Cause.{outside, causeOf, orElse, classCause, yearCause}
 use Rattle.scheme.specs.Rows.{chainOf}
-use Rattle.scheme.specs.Laws.Cause.{second-cause, outside-false, declined, answered}
+use Rattle.scheme.specs.Laws.Cause.{outside-false, declined, answered, first-none, second-none, test-none}
 use Rattle.scheme.specs.Laws.Judged.{accepted-cause}
 use Rattle.scheme.specs.Laws.Sound.{accepted-sound}
 use Rattle.bounds.specs.declared.Bounds.{Bounds}
@@ -26,18 +26,9 @@ use Rattle.bounds.specs.Years.{yearsFigure}
 use Rattle.bounds.specs.Start.{Ready, startFigure, startBounds, ShareHeld}
 use Rattle.bounds.specs.Answers.{answerBy, startOf, shareCause, shareAnswer, moneyCause, meanAnswer, totalAnswer}
 use Rattle.bounds.specs.Promises.{SharePromise, MeanPromise, TotalPromise}
-use Rattle.bounds.specs.Laws.Kept.{first-none, share-kept, mean-kept, total-kept}
+use Rattle.bounds.specs.Laws.Kept.{share-kept, mean-kept, total-kept}
 use Rattle.bounds.proofs.Agreeing.{years-same}
 use Rattle.bounds.proofs.Forming.{zeros}
-
--- where the whole cause is 0 its second part is too
-pub second-none : (a b : ℕ) → orElse a b ≡ 0 → b ≡ 0
-second-none a b e = sym (second-cause a b (first-none a b e)) ∙ e
-
--- a test whose number is not given failed
-pub test-none : (b : Bool) (n : ℕ) → (n ≡ 0 → ⊥) → cond b n 0 ≡ 0 → b ≡ false
-test-none true n h e = absurd (h e)
-test-none false n h e = refl
 
 -- what a call about money, or about a share, may rely on
 pub money-accepted : (s : Scheme) (year : ℕ) → moneyCause s year ≡ 0 → Accepted s
@@ -46,7 +37,7 @@ money-accepted s year z = accepted-cause s (first-none (causeOf s) (yearCause s 
 pub money-within : (s : Scheme) (year : ℕ) → moneyCause s year ≡ 0 → year ≤ 100
 money-within s year z =
     let within : year ≤ s .horizon =
-    ltb-false (s .horizon) year (test-none (ltb (s .horizon) year) 12 (λ e. omega arith) (second-none (causeOf s) (yearCause s year) z)) in
+    ltb-false (s .horizon) year (test-none (ltb (s .horizon) year) 12 (omega arith) (second-none (causeOf s) (yearCause s year) z)) in
     omega (arith, money-accepted s year z .horizon .within)
 
 pub share-accepted : (s : Scheme) (class year : ℕ) → shareCause s class year ≡ 0 → Accepted s
@@ -56,7 +47,7 @@ pub share-class : (s : Scheme) (class year : ℕ) → shareCause s class year �
 share-class s class year z =
     let range : (1 ≤ class) × (class ≤ s .classes) =
     outside-false (s .classes) class
-    (test-none (outside (s .classes) class) 11 (λ e. omega arith)
+    (test-none (outside (s .classes) class) 11 (omega arith)
     (first-none (classCause s class) (yearCause s year) (second-none (causeOf s) (orElse (classCause s class) (yearCause s year)) z))) in
     (range .0, omega (arith, range .1, share-accepted s class year z .size .classes))
 

@@ -11,15 +11,14 @@ use borrow.Author.Tests.{eqb-true}
 use Rattle.scheme.specs.declared.Scheme.{Scheme}
 use Rattle.scheme.specs.Accepted.{Accepted}
 use Rattle.scheme.specs.Cause.{causeOf, orElse}
-use Rattle.scheme.specs.Laws.Cause.{declined}
+use Rattle.scheme.specs.Laws.Cause.{declined, first-none, second-none, test-none}
 use Rattle.scheme.specs.Laws.Judged.{accepted-cause}
 use Rattle.scheme.specs.Laws.Tables.{or-false-left, or-false-right}
 use Rattle.bounds.specs.Answers.{sheetSlice}
 use Rattle.bounds.specs.Table.{tableSize, lowTable, highTable, tableCause}
 use Rattle.bounds.specs.Tracks.{TableReady}
 use Rattle.bounds.specs.Promises.{FiguresPromise}
-use Rattle.bounds.specs.Laws.Kept.{first-none, figures-kept}
-use Rattle.bounds.proofs.Answering.{second-none, test-none}
+use Rattle.bounds.specs.Laws.Kept.{figures-kept}
 use Rattle.bounds.proofs.Sheeting.{test-not}
 
 -- the code's cause is the definition's
@@ -43,7 +42,7 @@ module _ (s : Scheme) (low high : List ℕ) {n : ℕ} (e : n ≡ tableCause s lo
 
     sizes : (lowOut || highOut) ≡ false
     unfolding tableCause
-    sizes = test-none (lowOut || highOut) 13 (λ g. omega arith) (second-none (causeOf s) (cond (lowOut || highOut) 13 0) (sym e ∙ z))
+    sizes = test-none (lowOut || highOut) 13 (omega arith) (second-none (causeOf s) (cond (lowOut || highOut) 13 0) (sym e ∙ z))
 
     pub low-ready : TableReady s low
     low-ready =

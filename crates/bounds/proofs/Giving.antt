@@ -12,7 +12,7 @@ use lib.Seq.{getD-set-same, getD-set-other}
 use borrow.Author.Tests.{eq-eqb, ne-eqb}
 use Rattle.setchain.specs.Sums.{sumTo, onlyIf}
 use Rattle.setchain.specs.Rows.{ONE}
-use Rattle.setchain.specs.Laws.Sums.{onlyIf-true, onlyIf-false, sumTo-more, sumTo-front}
+use Rattle.setchain.specs.Laws.Sums.{onlyIf-true, onlyIf-false, sumTo-front, term-le}
 use Rattle.step.specs.Lists.{at}
 use Rattle.step.specs.Figure.{LARGEST}
 use Rattle.bounds.specs.Entries.{sumOf}
@@ -40,7 +40,7 @@ entry-in from ends first count e h l =
     let term : f (e - first) ≡ at ends e =
     ap (λ q. onlyIf (eqb (at from q) (at from e)) (at ends q)) p
     ∙ onlyIf-true (eqb (at from e) (at from e)) (at ends e) (eq-eqb (at from e) (at from e) refl) in
-    omega (arith, term, sumTo-more f (e - first), sumTo-front f count (e - first + 1) (omega arith))
+    omega (arith, term, term-le count f (e - first) (omega arith))
 
 -- the entries below place e are given
 pub record Giving (from lows rooms : List ℕ) (first end pays : ℕ) (left sums left′ sums′ : List ℕ) (e : ℕ) : Type 0 where

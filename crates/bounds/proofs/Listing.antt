@@ -11,7 +11,7 @@ use borrow.Author.Count.{below-none, below-more}
 use borrow.Author.Tests.{eq-eqb, ne-eqb}
 use Rattle.setchain.specs.Sums.{sumTo, onlyIf}
 use Rattle.setchain.specs.Rows.{ONE, SoundRow}
-use Rattle.setchain.specs.Laws.Sums.{sumTo-eq, onlyIf-true, onlyIf-false, sumTo-empty}
+use Rattle.setchain.specs.Laws.Sums.{sumTo-eq, onlyIf-true, onlyIf-false, total-start}
 use Rattle.step.specs.Lists.{at, gatheredRow, rulesOf, Agree}
 use Rattle.bounds.specs.Entries.{sumOf, listedRow, Arrays, Listable, RowListed, Storable, Listed}
 use Rattle.step.specs.Laws.Agreeing.{sound-same}
@@ -44,7 +44,7 @@ module _ {n : ℕ} {rules lowers uppers from₀ lows₀ rooms₀ counts₀ spare
   no-sum : (ends : List ℕ) (j k : ℕ) → j < n → listSum from₀ ends counts₀ j k ≡ 0
   no-sum ends j k l =
       ap (λ c. sumOf from₀ ends (j * 32) c k) (able .empty .none j (omega (arith, able .few)))
-      ∙ sym (sumTo-empty (λ e. onlyIf (eqb (at from₀ (j * 32 + e)) k) (at ends (j * 32 + e))))
+      ∙ sym (total-start (λ e. onlyIf (eqb (at from₀ (j * 32 + e)) k) (at ends (j * 32 + e))))
 
   pub listing-none : Listing n rules lowers uppers from₀ lows₀ rooms₀ counts₀ spare₀ 0
   listing-none =

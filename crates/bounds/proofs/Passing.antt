@@ -4,11 +4,10 @@ use Prim.Native.Nat.{ℕ, suc, min, _+_, _-_, _*_, _≤_, _<_}
 use mathlib.Core.Path.{_≡_, refl, ap, sym, _∙_, subst}
 use mathlib.Core.Bool.{Bool, true, false}
 use mathlib.Core.List.{List, _++_}
-use native.Mathlib.Decide.{ℕ-discrete}
 use native.Mathlib.Omega.{arith}
 use native.Mathlib.Numerals.{add-one}
-use lib.ListN.{length, set, length-set, take, length-append, List·getD-append, getD-replicate}
-use lib.Seq.{getD-set-same, getD-set-other, length-take-le, getD-take, take-at}
+use lib.ListN.{length, take, length-append, List·getD-append, getD-replicate}
+use lib.Seq.{length-take-le, getD-take, take-at}
 use mir.Syntax.{w64}
 use mir.Val.{Fits}
 use Rattle.setchain.specs.Rows.{ONE, IntervalRow, SoundRow}

@@ -13,7 +13,7 @@ use Rattle.scheme.specs.declared.Scheme.{Scheme}
 use Rattle.scheme.specs.Accepted.{Accepted}
 use Rattle.scheme.specs.Cause.{orElse}
 use Rattle.scheme.specs.Rows.{chainOf}
-use Rattle.scheme.specs.Laws.Cause.{declined}
+use Rattle.scheme.specs.Laws.Cause.{declined, first-none, second-none, test-none}
 use Rattle.scheme.specs.Laws.Tab.{as-tab}
 use Rattle.scheme.specs.Laws.Tables.{or-false-left, or-false-right}
 use Rattle.order.specs.Laws.Writing.{Written, written-none, written-more}
@@ -21,9 +21,9 @@ use Rattle.bounds.specs.Years.{yearsFigure}
 use Rattle.bounds.specs.Start.{startFigure, ShareHeld, Sheeted}
 use Rattle.bounds.specs.Answers.{startOf, moneyCause, sliceCause, sheetCause, sheetSlice, lowShares, highShares}
 use Rattle.bounds.specs.Promises.{SheetPromise}
-use Rattle.bounds.specs.Laws.Kept.{first-none, sheet-kept}
+use Rattle.bounds.specs.Laws.Kept.{sheet-kept}
 use Rattle.bounds.proofs.Forming.{zeros}
-use Rattle.bounds.proofs.Answering.{second-none, test-none, money-accepted, share-figure}
+use Rattle.bounds.proofs.Answering.{money-accepted, share-figure}
 
 -- the share of state j as the definition has it
 abbrev pub shareOf : Bool → Scheme → ℕ → ℕ → ℕ
@@ -84,7 +84,7 @@ sheet-takes s year low high z =
     highOut = not (eqb (length high) (s .classes))
 
     sizes : (lowOut || highOut) ≡ false
-    sizes = test-none (lowOut || highOut) 13 (λ e. omega arith) (second-none (moneyCause s year) (sliceCause s low high) z)
+    sizes = test-none (lowOut || highOut) 13 (omega arith) (second-none (moneyCause s year) (sliceCause s low high) z)
 
 -- the code's cause is the definition's
 pub sheet-cause : (s : Scheme) (year : ℕ) (low high : List ℕ) (n : ℕ) → n ≡ orElse (moneyCause s year) (sliceCause s low high) → n ≡ sheetCause s year low high

@@ -1,6 +1,6 @@
 -- What the calls answer (document 01, "Years" and "When a call is declined").
 use Prim.Native.Nat.{ℕ, _-_}
-use mathlib.Core.Bool.{cond, not, _||_}
+use mathlib.Core.Bool.{cond}
 use mathlib.Core.List.{List}
 use lib.Dec.{eqb}
 use lib.ListN.{length}
@@ -8,8 +8,8 @@ use Rattle.setchain.specs.Years.{lowShare, highShare, lowMean, highMean, lowTot
 use Rattle.scheme.specs.declared.Scheme.{Scheme}
 use Rattle.scheme.specs.Tables.{tab}
 use Rattle.scheme.specs.Access.{premiumAt}
-use Rattle.scheme.specs.Cause.{orElse}
 use Rattle.scheme.specs.Rows.{chainOf}
+use Rattle.queries.specs.Causes as causes
 pub use Rattle.queries.specs.Causes.{shareCause, moneyCause}
 use Rattle.bounds.specs.declared.Bounds.{Bounds}
 use Rattle.bounds.specs.declared.Bounds.the-variants.{Answered, Refused}
@@ -60,11 +60,11 @@ totalAnswer s year =
 
 -- cause 13: a sheet slice not of s numbers
 abbrev pub sliceCause : Scheme → List ℕ → List ℕ → ℕ
-sliceCause s low high = cond (not (eqb (length low) (s .classes)) || not (eqb (length high) (s .classes))) 13 0
+sliceCause s low high = causes.slicesCause (s .classes) (length low) (length high)
 
--- causes 3, 5 to 10, 12, then 13
+-- the cause of a share sheet into two slices: 3, 5 to 10, 12, then 13
 unfoldable pub sheetCause : Scheme → ℕ → List ℕ → List ℕ → ℕ
-sheetCause s year low high = orElse (moneyCause s year) (sliceCause s low high)
+sheetCause s year low high = causes.sheetCause s year (length low) (length high)
 
 -- the slice `before` after a share sheet with cause `number`: "filled on success", and left as it was where the call is declined
 abbrev pub sheetSlice : ℕ → List ℕ → List ℕ → List ℕ

@@ -1,4 +1,4 @@
--- Read in this order, after crate `step`: the entries of all rows, a walk along an order, a year, the answers, what they promise.
+-- Read in this order, after crate `step`: the entries of all rows, a walk along an order, a year, the answers, the start class's figures, tables of all figures, what they promise.
 pub mod Entries
 pub mod Walk
 pub mod Years

@@ -1,16 +1,16 @@
 -- All figures of a sheet in one table (document 01, "Sheet program and examples"): for each year from 0 to the horizon the shares of the
 -- classes in order and the mean premium, and last the total of the horizon's premiums.
 use Prim.Native.Nat.{ℕ, suc, _+_, _*_, _/_, _%_}
-use mathlib.Core.Bool.{cond, not, _||_}
+use mathlib.Core.Bool.{cond}
 use mathlib.Core.List.{List}
-use lib.Dec.{eqb, ltb}
+use lib.Dec.{ltb}
 use lib.ListN.{length}
 use Rattle.setchain.specs.Years.{lowShare, highShare, lowMean, highMean, lowTotal, highTotal}
 use Rattle.scheme.specs.declared.Scheme.{Scheme}
 use Rattle.scheme.specs.Tables.{tab}
 use Rattle.scheme.specs.Access.{premiumAt}
-use Rattle.scheme.specs.Cause.{causeOf, orElse}
 use Rattle.scheme.specs.Rows.{chainOf}
+use Rattle.queries.specs.Causes as causes
 pub use Rattle.queries.specs.Causes.{totalPlace, tableSize}
 use Rattle.bounds.specs.Answers.{startOf}
 
@@ -45,5 +45,4 @@ highTable s =
 
 -- causes 3 and 5 to 10, then 13: a slice that is not of the table's size
 unfoldable pub tableCause : Scheme → List ℕ → List ℕ → ℕ
-tableCause s low high =
-    orElse (causeOf s) (cond (not (eqb (length low) (tableSize s)) || not (eqb (length high) (tableSize s))) 13 0)
+tableCause s low high = causes.tableCause s (length low) (length high)

@@ -9,12 +9,11 @@ use Rattle.scheme.specs.declared.Scheme.{Scheme}
 use Rattle.rows.specs.declared.RowAnswer.{RowAnswer}
 use Rattle.scheme.specs.Stored.{schemeOf}
 use Rattle.scheme.specs.Cause.{orElse}
-use Rattle.scheme.specs.Laws.Cause.{first-cause, second-cause, declined}
+use Rattle.scheme.specs.Laws.Cause.{first-cause, second-cause, declined, first-none, second-none}
 use Rattle.record.specs.Layout.{columnsIn, schemeIn, version1}
-use Rattle.bounds.specs.Laws.Kept.{first-none}
 use Rattle.capi.specs.Buffers.{bufferCause, buffersCause, filledWhere}
 use Rattle.capi.specs.Rows.{putRowNumber, lowerBands, upperBands}
-use Rattle.capi.proofs.Putting.{second-none, buffer-out, thirteen}
+use Rattle.capi.proofs.Putting.{buffer-out, thirteen}
 
 -- a buffer with no cause is of the size asked for
 pub buffer-size : (size : ℕ) (out : List ℕ) → bufferCause size out ≡ 0 → length out ≡ size

@@ -7,7 +7,7 @@ use native.Mathlib.Omega.{arith}
 use lib.ListN.{length, set}
 use borrow.Author.Tests.{eq-eqb, ne-eqb}
 use Rattle.scheme.specs.Cause.{orElse}
-use Rattle.scheme.specs.Laws.Cause.{first-cause, second-cause, declined, answered}
+use Rattle.scheme.specs.Laws.Cause.{first-cause, second-cause, declined, answered, first-none}
 use Rattle.scheme.specs.declared.Scheme.{Scheme}
 use Rattle.record.specs.declared.ReadAnswer.{ReadAnswer}
 use Rattle.record.specs.Layout.{schemeIn, version1}
@@ -16,13 +16,8 @@ use Rattle.sheet_text.specs.Laws.Answer.{read-number, read-scheme}
 use Rattle.bounds.specs.declared.Bounds.{Bounds}
 use Rattle.bounds.specs.Answers.{numberOf, lowOf, highOf, sheetCause, lowShares, highShares}
 use Rattle.bounds.specs.Promises.{SheetPromise}
-use Rattle.bounds.specs.Laws.Kept.{first-none}
 use Rattle.capi.specs.Shares.{sharesNumber}
 use Rattle.capi.specs.Buffers.{bufferCause, filledWhere, putNumber, putLeaves, boundsNumber, boundsLeaves, BufferKeeps}
-
--- where the whole cause is 0, its second part is
-pub second-none : (a b : ℕ) → orElse a b ≡ 0 → b ≡ 0
-second-none a b e = sym (second-cause a b (first-none a b e)) ∙ e
 
 -- a buffer of another length, and one that fits
 pub buffer-out : (size : ℕ) (out : List ℕ) → (length out ≡ size → ⊥) → bufferCause size out ≡ 13

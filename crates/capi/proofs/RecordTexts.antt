@@ -1,16 +1,15 @@
 -- An accepted scheme's record: the cause of writing is 0 or 13, and the buffer is left alone where it is 13.
 -- Assumes nothing.
 use Prim.Native.Nat.{ℕ}
-use mathlib.Core.Path.{_≡_, ap, sym, _∙_, subst}
+use mathlib.Core.Path.{_≡_, sym, _∙_, subst}
 use mathlib.Core.Bool.{Bool, true, false, cond}
 use mathlib.Core.List.{List, _++_}
-use native.Mathlib.Decide.{ℕ-discrete}
 use lib.Dec.{ltb}
 use lib.ListN.{length, drop}
+use Rattle.record.specs.Laws.Write.{answer-number}
 use Rattle.scheme.specs.declared.Scheme.{Scheme}
 use Rattle.scheme.specs.Cause.{orElse, causeOf}
-use Rattle.scheme.specs.Laws.Cause.{first-cause, second-cause, declined, answered}
-use Rattle.record.specs.declared.WriteAnswer.the-variants.{Written, Declined}
+use Rattle.scheme.specs.Laws.Cause.{first-cause, second-cause, declined}
 use Rattle.record.specs.Layout.{version1, bytesOf}
 use Rattle.record.specs.Write.{numberOf, valueOf, recordLength, writeCause, writeAnswer, writeLeaves}
 use Rattle.capi.specs.Records.{recordNumber}
@@ -22,21 +21,13 @@ room-only true n e h = e
 room-only false n e h = absurd (h e)
 
 module _ (s : Scheme) (out : List ℕ) where
-  answer-number : Dec (writeCause s out ≡ 0) → numberOf (writeAnswer s out) ≡ writeCause s out
-  unfolding writeAnswer
-  answer-number (yes z) = ap numberOf (answered (writeCause s out) (Written (recordLength s)) (Declined (writeCause s out)) z) ∙ sym z
-  answer-number (no h) = ap numberOf (declined (writeCause s out) (Written (recordLength s)) (Declined (writeCause s out)) h)
-
-  write-number : numberOf (writeAnswer s out) ≡ writeCause s out
-  write-number = answer-number (ℕ-discrete (writeCause s out) 0)
-
   pub write-only : causeOf s ≡ 0 → (numberOf (writeAnswer s out) ≡ 0 → ⊥) → numberOf (writeAnswer s out) ≡ 13
   write-only ok h =
-      room-only (ltb (length out) (recordLength s)) _ (write-number ∙ second-cause (causeOf s) (cond (ltb (length out) (recordLength s)) 13 0) ok) h
+      room-only (ltb (length out) (recordLength s)) _ (answer-number s out ∙ second-cause (causeOf s) (cond (ltb (length out) (recordLength s)) 13 0) ok) h
 
   pub write-left : (numberOf (writeAnswer s out) ≡ 0 → ⊥) → writeLeaves s out ≡ out
   unfolding writeLeaves
-  write-left h = declined (writeCause s out) (bytesOf version1 s ++ drop (recordLength s) out) out (λ z. h (write-number ∙ z))
+  write-left h = declined (writeCause s out) (bytesOf version1 s ++ drop (recordLength s) out) out (λ z. h (answer-number s out ∙ z))
 
 -- what is answered and left for a scheme's record
 abbrev pub Recorded : Scheme → (number cause : ℕ) (out size out′ size′ : List ℕ) → Type 0

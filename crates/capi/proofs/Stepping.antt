@@ -8,7 +8,7 @@ use native.Mathlib.Decide.{ℕ-discrete}
 use lib.ListN.{length, getD}
 use Rattle.scheme.specs.declared.Scheme.{Scheme}
 use Rattle.scheme.specs.Cause.{orElse}
-use Rattle.scheme.specs.Laws.Cause.{first-cause, second-cause, declined, answered}
+use Rattle.scheme.specs.Laws.Cause.{first-cause, second-cause, declined, answered, first-none, second-none}
 use Rattle.record.specs.declared.ReadAnswer.{ReadAnswer}
 use Rattle.record.specs.Layout.{schemeIn, version1}
 use Rattle.record.specs.Read.{readCause, readAnswer}
@@ -16,10 +16,9 @@ use Rattle.step.specs.declared.StepAnswer.{StepAnswer}
 use Rattle.step.specs.Lists.{at}
 use Rattle.step.specs.Figure.{stepFigure}
 use Rattle.step.specs.StepAnswer.{stepCause, classRow, Reaches, StepAnswered}
-use Rattle.bounds.specs.Laws.Kept.{first-none}
 use Rattle.capi.specs.Buffers.{bufferCause, filledWhere}
 use Rattle.capi.specs.Steps.{payoffOf, stepBuffers, stepNumber, figureOf, RowKept}
-use Rattle.capi.proofs.Putting.{second-none, read-cause, read-passed, read-in}
+use Rattle.capi.proofs.Putting.{read-cause, read-passed, read-in}
 use Rattle.capi.proofs.Pairs.{Paired, buffer-size}
 
 -- the buffers of a step with no cause have their sizes

@@ -43,7 +43,7 @@ pub fn put_bounds(out: &mut [u64], b: Bounds) -> u8
         return number;
     }
     if out.len() != 2 {
-        return record::SLICE_OUT;
+        return scheme::SLICE_OUT;
     }
     out[0] = low_of(b);
     out[1] = high_of(b);

@@ -13,7 +13,7 @@ pub fn size_cause(size: usize, given: usize) -> u8
     ensures { λ r. ⌜ r ≡ cond (not (eqb given size)) 13 0 ⌝ }
 {
     if given != size {
-        return record::SLICE_OUT;
+        return scheme::SLICE_OUT;
     }
     0
 }

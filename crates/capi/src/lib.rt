@@ -1,5 +1,4 @@
 // The operations over records and plain buffers, for C and for Rust: each answers 0 or the cause's number, and fills the lent buffers only where it answers 0.
-use bounds::Bounds;
 ghost use mathlib.Core.Path.{_≡_};
 ghost use mathlib.Core.Bool.{false, true};
 ghost use lib.ListN.{getD};
@@ -31,8 +30,7 @@ mod texts;
 pub extern "C" fn joguyvi_check(bytes: &[u8]) -> u8
     ensures { λ r. ⌜ r ≡ readCause (now (bytes .entry)) ⌝ }
 {
-    let answer = record::read(bytes);
-    answer.number
+    record::cause(bytes)
 }
 
 // The low and the high share of a class after a number of years, in parts, into a buffer of 2 numbers.
@@ -109,7 +107,7 @@ pub extern "C" fn joguyvi_sheet(bytes: &[u8], out: &mut [u8], length: &mut [u64]
     ensures size { λ r. ⌜ now (length .exit) ≡ filledWhere r (sheetLength (now (bytes .entry)) (now (out .entry))) (now (length .entry)) ⌝ }
 {
     if length.len() != 1 {
-        return record::SLICE_OUT;
+        return scheme::SLICE_OUT;
     }
     let answer = sheet_text::sheet(bytes, out);
     let number = texts::number_of(answer);

@@ -35,7 +35,7 @@ pub fn put_record(scheme: Scheme, out: &mut [u8], length: &mut [u64]) -> u8
     ensures size { λ r. ⌜ now (length .exit) ≡ filledWhere r (recordLength scheme (now (out .entry))) (now (length .entry)) ⌝ }
 {
     if length.len() != 1 {
-        return record::SLICE_OUT;
+        return scheme::SLICE_OUT;
     }
     let answer = record::write(scheme, out);
     let number = number_of(answer);

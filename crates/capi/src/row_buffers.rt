@@ -35,7 +35,7 @@ pub fn put_part(part: &[u8], out: &mut [u8]) -> u8
         return scheme::CLASS_OUT;
     }
     if out.len() != part.len() {
-        return record::SLICE_OUT;
+        return scheme::SLICE_OUT;
     }
     copies::copy_bytes(part, out);
     0

@@ -1,3 +1,4 @@
+-- Read in this order: orders and how they are made, then worked cases.
 pub mod Order
 pub mod Examples
 pub mod Laws

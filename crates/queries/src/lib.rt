@@ -8,9 +8,6 @@ ghost use lib.Dec.{ltb};
 ghost use Rattle.scheme.specs.Cause.{outside};
 ghost use Rattle.queries.specs.Causes.{moneyCause, shareCause, sheetCause, slicesCause, tableCause};
 
-// A sheet slice not of s numbers.
-pub const SLICE_OUT: u8 = 13;
-
 // Cause 11: a class that is not one of 1 to s.
 fn class_cause(classes: u8, class: u64) -> u8
     ensures { λ r. ⌜ r ≡ cond (outside classes class) 11 0 ⌝ }
@@ -36,10 +33,10 @@ fn slice_cause(size: usize, low: usize, high: usize) -> u8
     ensures { λ r. ⌜ r ≡ slicesCause size low high ⌝ }
 {
     if low != size {
-        return SLICE_OUT;
+        return scheme::SLICE_OUT;
     }
     if high != size {
-        return SLICE_OUT;
+        return scheme::SLICE_OUT;
     }
     0
 }

@@ -1,3 +1,4 @@
+-- Read in this order: the three scales, the moves, the schemes, the answer.
 pub mod Scales
 pub mod Moves
 pub mod Ready

@@ -6,6 +6,7 @@ use native.Mathlib.Omega.{arith}
 use native.Mathlib.Nat.{mul-le-mul}
 use lib.ListN.{length, getD, take, drop, take-append-drop}
 use lib.Seq.{take-add, take-at}
+use Rattle.scheme.specs.Laws.Cause.{second-none}
 use Rattle.scheme.specs.declared.Scheme.{Scheme}
 use Rattle.scheme.specs.Tables.{tab}
 use Rattle.scheme.specs.Access.{ruleAt, lowerAt, upperAt, premiumAt}
@@ -20,7 +21,7 @@ use Rattle.record.specs.Write.{recordLength, writeLeaves}
 use Rattle.record.specs.Frame.{Framed}
 use Rattle.record.specs.Laws.Lists.{tab-part}
 use Rattle.record.specs.Laws.Numbers.{put-read}
-use Rattle.record.specs.Laws.Frame.{no-cause, framed}
+use Rattle.record.specs.Laws.Frame.{framed}
 use Rattle.record.specs.Laws.Read.{read-framed, scheme-next, answer-scheme}
 use Rattle.record.specs.Laws.Layout.{length-header, length-bytes}
 use Rattle.record.specs.Laws.Write.{written}
@@ -121,5 +122,5 @@ pub copied : (bytes out : List ℕ) → Bytes bytes → readCause bytes ≡ 0 �
 unfolding schemeOf
 copied bytes out small e fits =
     let whole : length bytes ≡ recordLength (schemeIn version1 bytes) = read-framed bytes e .whole in
-    let accepted : causeOf (schemeIn version1 bytes) ≡ 0 = no-cause (frameCause bytes) (causeOf (schemeIn version1 bytes)) e .1 in
+    let accepted : causeOf (schemeIn version1 bytes) ≡ 0 = second-none (frameCause bytes) (causeOf (schemeIn version1 bytes)) e in
     sym (written (schemeIn version1 bytes) out accepted whole fits refl .1) ∙ ap (λ l. l ++ drop (length bytes) out) (rewritten bytes small e)

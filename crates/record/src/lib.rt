@@ -15,8 +15,6 @@ pub const FIELD_OUT: u8 = 2;
 
 pub const LENGTH_OUT: u8 = 4;
 
-pub const SLICE_OUT: u8 = 13;
-
 // What reading a record answers: number 0 and the scheme, or the cause and a scheme of 0.
 pub struct ReadAnswer {
     pub number: u8,
@@ -83,7 +81,7 @@ pub fn write(scheme: Scheme, out: &mut [u8]) -> WriteAnswer
     }
     let size = reading::length_of(scheme.classes, scheme.columns);
     if out.len() < size {
-        return WriteAnswer::Declined(SLICE_OUT);
+        return WriteAnswer::Declined(scheme::SLICE_OUT);
     }
     writing::whole(scheme, out, size);
     WriteAnswer::Written(size)

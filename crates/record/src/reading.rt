@@ -3,7 +3,7 @@ ghost use mathlib.Core.Path.{_≡_};
 ghost use Prim.Native.Nat.{_+_, _*_, _<_, _≤_};
 ghost use lib.ListN.{length, getD};
 ghost use Rattle.scheme.specs.Tables.{tab};
-ghost use Rattle.scheme.specs.Cause.{outside, orElse};
+ghost use Rattle.scheme.specs.Cause.{outside};
 ghost use Rattle.record.specs.Numbers.{beAt};
 ghost use Rattle.scheme.specs.Stored.{upTo, rulesUpTo};
 ghost use Rattle.record.specs.Layout.{version1, lengthOf, schemeIn};
@@ -14,6 +14,7 @@ use super::LENGTH_OUT;
 use super::VERSION_OUT;
 use super::parts;
 use scheme::Scheme;
+use scheme::or_else;
 
 // the length of a record of `classes` and `columns`
 pub fn length_of(classes: u8, columns: u8) -> usize
@@ -29,13 +30,6 @@ fn outside(x: u8, max: u8) -> bool
     ensures { λ r. ⌜ r ≡ outside max x ⌝ }
 {
     x == 0 || max < x
-}
-
-// the first of two causes: 0 is none
-fn first(a: u8, b: u8) -> u8
-    ensures { λ r. ⌜ r ≡ orElse a b ⌝ }
-{
-    if a == 0 { b } else { a }
 }
 
 // cause 1, or 0
@@ -68,10 +62,10 @@ fn field_cause(bytes: &[u8]) -> u8
 fn size_cause(classes: u8, columns: u8) -> u8
     ensures { λ r. ⌜ r ≡ sizeCause classes columns ⌝ }
 {
-    if outside(classes, 32) {
+    if outside(classes, scheme::MOST_CLASSES) {
         return scheme::SIZE_OUT;
     }
-    if outside(columns, 8) {
+    if outside(columns, scheme::MOST_COLUMNS) {
         return scheme::SIZE_OUT;
     }
     0
@@ -93,7 +87,7 @@ pub fn frame(bytes: &[u8]) -> u8
 {
     let version = version_cause(bytes);
     let field = field_cause(bytes);
-    let head = first(version, field);
+    let head = or_else(version, field);
     if head != 0 {
         return head;
     }
@@ -101,7 +95,7 @@ pub fn frame(bytes: &[u8]) -> u8
     let columns = bytes[4];
     let sizes = size_cause(classes, columns);
     let length = length_cause(bytes.len(), classes, columns);
-    first(sizes, length)
+    or_else(sizes, length)
 }
 
 // the rules of s classes and m columns, from place `from` on

@@ -1,3 +1,4 @@
+-- Read in this order: tables, the scheme's parts, what acceptance asks, the first cause, the code's stages, interval rows, what a made scheme holds, worked cases.
 pub mod Tables
 pub mod Access
 pub mod Accepted

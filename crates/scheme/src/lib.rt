@@ -16,7 +16,7 @@ pub const MOST_PREMIUM: u32 = 10_000_000;
 // ONE as a band's end.
 pub const MOST_BAND: u32 = 1_000_000_000;
 
-// The refusal numbers of document 01, "When a call is declined", that a scheme, a class or a year can bring.
+// The refusal numbers of document 01, "When a call is declined", that a scheme, a class, a year or a lent slice can bring.
 pub const SIZE_OUT: u8 = 3;
 
 pub const START_OUT: u8 = 5;
@@ -34,6 +34,8 @@ pub const MONEY_OUT: u8 = 10;
 pub const CLASS_OUT: u8 = 11;
 
 pub const YEAR_OUT: u8 = 12;
+
+pub const SLICE_OUT: u8 = 13;
 
 // A bonus-malus scheme. What is stored beyond `classes` or `columns` is ignored.
 pub struct Scheme {

@@ -24,7 +24,7 @@ fn refused(out: &mut [u8], number: u8) -> SheetAnswer
     ensures { λ r. ⌜ Told 11 (refusedLine number) (now (out .entry)) (now (out .exit)) r ⌝ }
 {
     if out.len() < 11 {
-        return SheetAnswer::Declined(record::SLICE_OUT);
+        return SheetAnswer::Declined(scheme::SLICE_OUT);
     }
     SheetAnswer::Written(lines::refused_line(out, 0, number))
 }
@@ -37,7 +37,7 @@ fn accepted(out: &mut [u8], scheme: Scheme) -> SheetAnswer
     let years = (scheme.horizon as usize) + 1;
     let room = 19 + years * ((scheme.classes as usize) * 40 + 35) + 28;
     if out.len() < room {
-        return SheetAnswer::Declined(record::SLICE_OUT);
+        return SheetAnswer::Declined(scheme::SLICE_OUT);
     }
     SheetAnswer::Written(tables::put_sheet(out, scheme))
 }

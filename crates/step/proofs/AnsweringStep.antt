@@ -1,10 +1,9 @@
 -- The one-year step's cause in the order of the code's tests, and its whole answer.
 -- Assumes nothing.
-use Prim.Native.Nat.{ℕ, suc, _-_, _≤_, _<_}
+use Prim.Native.Nat.{ℕ, _-_, _≤_, _<_}
 use mathlib.Core.Path.{_≡_, refl, ap, sym, _∙_}
 use mathlib.Core.Bool.{Bool, true, false, cond, _||_}
 use mathlib.Core.List.{List}
-use native.Mathlib.Decide.{ℕ-discrete}
 use native.Mathlib.Omega.{arith}
 use lib.Dec.{ltb}
 use lib.ListN.{replicate, length-replicate}
@@ -12,7 +11,7 @@ use borrow.Author.Tests.{ltb-false}
 use Rattle.scheme.specs.declared.Scheme.{Scheme}
 use Rattle.scheme.specs.Accepted.{Accepted}
 use Rattle.scheme.specs.Cause.{outside, sizeOut, startOut, horizonOut, ruleOut, bandOut, sumOut, premiumOut, causeWhere, causeOf, orElse, classCause}
-use Rattle.scheme.specs.Laws.Cause.{outside-false, first-cause, second-cause, declined, answered, cond-true, cond-false}
+use Rattle.scheme.specs.Laws.Cause.{outside-false, first-cause, second-cause, declined, answered, cond-true, cond-false, first-none, second-none, test-none}
 use Rattle.scheme.specs.Laws.Judged.{accepted-cause}
 use Rattle.scheme.specs.Laws.Sound.{accepted-sound}
 use Rattle.rows.specs.Laws.Entries.{lower-is, upper-is}
@@ -37,23 +36,6 @@ joined false false false false true f g h = refl
 joined false false false false false true g h = refl
 joined false false false false false false true h = refl
 joined false false false false false false false h = refl
-
--- two causes of which neither applies
-none-first : (a b : ℕ) → orElse a b ≡ 0 → a ≡ 0
-none-first a b e = by (ℕ-discrete a 0)
-  where
-    by : Dec (a ≡ 0) → a ≡ 0
-    by (yes z) = z
-    by (no h) = absurd (h (sym (first-cause a b h) ∙ e))
-
--- and the second of them
-none-second : (a b : ℕ) → orElse a b ≡ 0 → b ≡ 0
-none-second a b e = sym (second-cause a b (none-first a b e)) ∙ e
-
--- a test whose cause does not apply
-not-out : (b : Bool) (k : ℕ) → cond b (suc k) 0 ≡ 0 → b ≡ false
-not-out true k e = absurd (omega arith)
-not-out false k e = refl
 
 module _ (s : Scheme) (payoff : List ℕ) (class : ℕ) where
   -- the causes in the order of the code's tests
@@ -117,21 +99,21 @@ module _ (s : Scheme) (payoff : List ℕ) (class : ℕ) where
 
     -- those before the class's too
     zero-money : orElse (causeOf s) (cond (payoffOut s payoff) 10 0) ≡ 0
-    zero-money = none-first (orElse (causeOf s) (cond (payoffOut s payoff) 10 0)) (classCause s class) zero-cause
+    zero-money = first-none (orElse (causeOf s) (cond (payoffOut s payoff) 10 0)) (classCause s class) zero-cause
 
     -- so the scheme is accepted
     ok : Accepted s
-    ok = accepted-cause s (none-first (causeOf s) (cond (payoffOut s payoff) 10 0) zero-money)
+    ok = accepted-cause s (first-none (causeOf s) (cond (payoffOut s payoff) 10 0) zero-money)
 
     -- no payoff is above its limit
     payoffs-fit : payoffOut s payoff ≡ false
-    payoffs-fit = not-out (payoffOut s payoff) 9 (none-second (causeOf s) (cond (payoffOut s payoff) 10 0) zero-money)
+    payoffs-fit = test-none (payoffOut s payoff) 10 (omega arith) (second-none (causeOf s) (cond (payoffOut s payoff) 10 0) zero-money)
 
     -- and the class is one of 1 to s
     range : (1 ≤ class) × (class ≤ s .classes)
     range =
         outside-false (s .classes) class
-        (not-out (outside (s .classes) class) 10 (none-second (orElse (causeOf s) (cond (payoffOut s payoff) 10 0)) (classCause s class) zero-cause))
+        (test-none (outside (s .classes) class) 11 (omega arith) (second-none (orElse (causeOf s) (cond (payoffOut s payoff) 10 0)) (classCause s class) zero-cause))
 
     -- the limit at each class
     payoff-fits : (j : ℕ) → j < s .classes → at payoff j ≤ 1000000000

@@ -10,7 +10,6 @@ use lib.ListN.{length, getD, take, drop, replicate, length-append, length-replic
 use lib.Seq.{take-at, length-take-le, getD-take, getD-drop, getD-append-add}
 use Rattle.setchain.specs.Sums.{dot}
 use Rattle.setchain.specs.Rows.{IntervalRow, SoundRow}
-use Rattle.setchain.specs.Step.{Parts}
 use Rattle.setchain.specs.Laws.Sums.{sumTo-eq}
 use Rattle.setchain.specs.Laws.Step.{low-figure-only, high-figure-only}
 use Rattle.scheme.specs.Tables.{tab}

@@ -1,5 +1,5 @@
 -- The laws of rows, fills and figures, for the step's proofs and the years'.
 pub mod Summing
 pub mod Filling
-pub mod Reaching
 pub mod Agreeing
+pub mod Reaching

@@ -1,10 +1,7 @@
 -- `row_cause` meets its contract: the bytes' cause, or the class's.
-use Prim.Native.Nat.{_≤_, _<_}
-use mathlib.Core.Path.{_≡_, sym, _∙_}
+use mathlib.Core.Path.{_≡_, ap, sym, _∙_}
+use mathlib.Core.Bool.{cond}
 use native.Mathlib.Omega.{arith}
-use borrow.Author.Tests.{eq-eqb, ne-eqb, lt-ltb}
-use Rattle.scheme.specs.Laws.Cause.{inside-outside}
-use Rattle.record.specs.Layout.{classesIn}
 use Rattle.record.specs.Read.{readCause}
 use Rattle.record.specs.Laws.Read.{read-framed}
 use Rattle.bands.specs.Laws.RuleRow.{row-read, row-next}
@@ -21,25 +18,21 @@ accepted c = sym (c .before .cause .ensures) ∙ c .if1 .left
 returns : tie.Need-returns
 returns c = row-read _ (c .before .before .before .args .class) (c .before .cause .ensures) (c .if1 .taken)
 
+shared-slice-read-class-out : tie.Need-shared-slice-read-class-out
+shared-slice-read-class-out c = omega (arith, read-framed _ (accepted (c .before)))
+
+class-out-requires : tie.Need-class-out-requires
+class-out-requires c κs = search needs
+
 returns-2 : tie.Need-returns-2
-returns-2 c = row-next _ (c .before .before .before .before .args .class) (accepted (c .before)) (simp (eq-eqb _ _ (c .if2 .taken)))
-
-shared-slice-read-wide : tie.Need-shared-slice-read-wide
-shared-slice-read-wide c = omega (arith, read-framed _ (accepted (c .before .before)))
-
-wide-requires : tie.Need-wide-requires
-wide-requires c κs = search needs
+returns-2 c =
+    row-next _ (c .before .before .before .before .before .before .args .class) (accepted (c .before .before .before))
+    (sym (ap (λ out. cond out 11 0) (sym (c .before .class-out .ensures) ∙ c .if2 .taken)))
 
 returns-3 : tie.Need-returns-3
 returns-3 c =
-    let above : classesIn (c .before .before .before .before .before .before .before .args .bytes .now) < c .before .before .before .before .before .before .before .args .class = omega arith in
-    row-next _ (c .before .before .before .before .before .before .before .args .class) (accepted (c .before .before .before .before)) (simp (ne-eqb _ _ (c .before .before .before .if2 .left), lt-ltb _ _ above))
-
-returns-4 : tie.Need-returns-4
-returns-4 c =
-    let within : c .before .before .before .before .before .before .before .args .class ≤ classesIn (c .before .before .before .before .before .before .before .args .bytes .now) = omega arith in
-    let some : c .before .before .before .before .before .before .before .args .class ≡ 0 → ⊥ = c .before .before .before .if2 .left in
-    row-next _ (c .before .before .before .before .before .before .before .args .class) (accepted (c .before .before .before .before)) (simp (inside-outside _ _ (omega arith) within))
+    row-next _ (c .before .before .before .before .before .before .args .class) (accepted (c .before .before .before))
+    (sym (ap (λ out. cond out 11 0) (sym (c .before .class-out .ensures) ∙ c .if2 .left)))
 
 pub row-cause-spec : {M : Type 1} → statement M
 row-cause-spec =
@@ -47,8 +40,7 @@ row-cause-spec =
     (tie.spec
     cause-requires
     returns
+    shared-slice-read-class-out
+    class-out-requires
     returns-2
-    shared-slice-read-wide
-    wide-requires
-    returns-3
-    returns-4)
+    returns-3)

@@ -8,17 +8,16 @@ use native.Mathlib.Nat.{mul-le-mul-right}
 use lib.ListN.{length, take, drop}
 use borrow.Author.Tests.{eq-eqb, ne-eqb}
 use Rattle.scheme.specs.Cause.{outside}
-use Rattle.scheme.specs.Laws.Cause.{outside-false, first-cause, second-cause}
+use Rattle.scheme.specs.Laws.Cause.{outside-false, first-cause, second-cause, first-none, second-none, test-none}
 use Rattle.record.specs.Layout.{classesIn, columnsIn}
 use Rattle.record.specs.Frame.{Framed}
 use Rattle.record.specs.Read.{readCause}
-use Rattle.record.specs.Laws.Frame.{no-cause, cond-clear}
 use Rattle.record.specs.Laws.Read.{read-framed}
 use Rattle.bands.specs.RuleRow.{rowCause, ruleRow}
 
 -- no cause in the number of a class
 pub class-fits : (s class : ℕ) → _≡_ {A = ℕ} (cond (outside s class) 11 0) 0 → (1 ≤ class) × (class ≤ s)
-class-fits s class e = outside-false s class (cond-clear (outside s class) 11 (omega arith) e)
+class-fits s class e = outside-false s class (test-none (outside s class) 11 (omega arith) e)
 
 module _ (bytes : List ℕ) (class : ℕ) where
   pub row-read : {n : ℕ} → n ≡ readCause bytes → (n ≡ 0 → ⊥) → n ≡ rowCause bytes class
@@ -33,10 +32,10 @@ module _ (bytes : List ℕ) (class : ℕ) where
 
   -- a row that is shown: its class is one of 1 to s, and the bands follow it
   pub row-framed : rowCause bytes class ≡ 0 → Framed bytes
-  row-framed e = read-framed bytes (no-cause (readCause bytes) _ e .0)
+  row-framed e = read-framed bytes (first-none (readCause bytes) _ e)
 
   pub row-class : rowCause bytes class ≡ 0 → (1 ≤ class) × (class ≤ classesIn bytes)
-  row-class e = class-fits (classesIn bytes) class (no-cause (readCause bytes) (cond (outside (classesIn bytes) class) 11 0) e .1)
+  row-class e = class-fits (classesIn bytes) class (second-none (readCause bytes) (cond (outside (classesIn bytes) class) 11 0) e)
 
   pub row-within : {m : ℕ} → m ≡ columnsIn bytes → rowCause bytes class ≡ 0 → 7 + (class - 1) * m + m < length bytes
   row-within {m} is e =

@@ -17,7 +17,7 @@ use Rattle.scheme.specs.Access.{premiumAt}
 use Rattle.scheme.specs.Accepted.{Accepted}
 use Rattle.scheme.specs.Cause.{causeOf, orElse, classCause, yearCause}
 use Rattle.scheme.specs.Rows.{chainOf}
-use Rattle.scheme.specs.Laws.Cause.{first-cause, declined, answered}
+use Rattle.scheme.specs.Laws.Cause.{declined, answered, first-none}
 use Rattle.scheme.specs.Laws.Judged.{accepted-cause}
 use Rattle.scheme.specs.Laws.Sound.{accepted-sound}
 use Rattle.scheme.specs.Laws.Tab.{getD-tab}
@@ -39,14 +39,6 @@ at-start s ok t low high exact p =
   where
     within : startOf s < s .classes
     within = omega (arith, ok .start .positive, ok .start .within)
-
--- where the whole cause is 0, its first part is
-pub first-none : (a b : ℕ) → orElse a b ≡ 0 → a ≡ 0
-first-none a b e = by (ℕ-discrete a 0)
-  where
-    by : Dec (a ≡ 0) → a ≡ 0
-    by (yes z) = z
-    by (no h) = absurd (h (sym (first-cause a b h) ∙ e))
 
 -- an answer's number is its cause
 answer-number : (n low high : ℕ) → numberOf (answerBy n low high) ≡ n

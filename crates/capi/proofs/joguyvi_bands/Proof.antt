@@ -1,13 +1,14 @@
 -- `joguyvi_bands` meets its contract: the cause of reading, or the bands put into their buffers.
 -- Assumes nothing.
 use mathlib.Core.Path.{ap, _∙_}
+use Rattle.scheme.specs.Laws.Cause.{second-none}
 use Rattle.scheme.specs.Cause.{causeOf}
 use Rattle.scheme.specs.Laws.Judged.{accepted-cause}
 use Rattle.record.specs.Layout.{columnsIn, schemeIn, version1}
 use Rattle.record.specs.Read.{frameCause}
 use Rattle.capi.specs.Buffers.{buffersCause}
 use Rattle.capi.specs.Rows.{lowerBands, upperBands}
-use Rattle.capi.proofs.Putting.{second-none, read-cause, read-passed, read-in}
+use Rattle.capi.proofs.Putting.{read-cause, read-passed, read-in}
 use Rattle.capi.proofs.Pairs.{pair-stopped, pair-passed, bands-same}
 use borrow.Author.Needs.{needs}
 use Rattle.capi.proofs.joguyvi_bands.Statement.{statement}

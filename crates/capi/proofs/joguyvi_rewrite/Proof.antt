@@ -1,10 +1,11 @@
 -- `joguyvi_rewrite` meets its contract: the cause of reading, or the record written again.
 -- Assumes nothing.
 use mathlib.Core.Path.{ap, _∙_}
+use Rattle.scheme.specs.Laws.Cause.{second-none}
 use Rattle.scheme.specs.Cause.{causeOf}
 use Rattle.record.specs.Layout.{schemeIn, version1}
 use Rattle.record.specs.Read.{frameCause, readCause}
-use Rattle.capi.proofs.Putting.{second-none, read-cause, read-passed, read-in}
+use Rattle.capi.proofs.Putting.{read-cause, read-passed, read-in}
 use Rattle.capi.proofs.RecordTexts.{record-stopped, record-passed}
 use borrow.Author.Needs.{needs}
 use Rattle.capi.proofs.joguyvi_rewrite.Statement.{statement}

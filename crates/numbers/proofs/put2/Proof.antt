@@ -1,6 +1,6 @@
 -- `put2` meets its contract: nothing, or the bytes of the number where the slice holds them.
 use Prim.Native.Nat.{_+_, _≤_}
-use mathlib.Core.Path.{_≡_, sym, _∙_}
+use mathlib.Core.Path.{sym, _∙_}
 use native.Mathlib.Omega.{arith}
 use lib.ListN.{length, length-set}
 use borrow.Author.Tests.{leb-true, not-true, not-false}

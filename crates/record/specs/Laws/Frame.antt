@@ -1,60 +1,45 @@
 -- The causes 1 to 4 of a record's bytes, by cases.
-use Prim.Native.Nat.{ℕ, _≤_, _<_}
-use mathlib.Core.Path.{_≡_, refl, sym, _∙_}
-use mathlib.Core.Bool.{Bool, true, false, cond, not, _||_}
+use Prim.Native.Nat.{ℕ, _≤_}
+use mathlib.Core.Path.{_≡_, sym, _∙_}
+use mathlib.Core.Bool.{not, _||_}
 use mathlib.Core.List.{List}
-use native.Mathlib.Decide.{ℕ-discrete}
 use native.Mathlib.Omega.{arith}
 use lib.Dec.{eqb, ltb}
 use lib.ListN.{length, getD}
 use borrow.Author.Tests.{ltb-false, eqb-true, not-false, eq-eqb, ne-eqb, le-ltb}
 use Rattle.scheme.specs.Cause.{outside, orElse}
-use Rattle.scheme.specs.Laws.Cause.{outside-false, inside-outside, first-cause, second-cause}
+use Rattle.scheme.specs.Laws.Cause.{outside-false, inside-outside, first-cause, second-cause, first-none, second-none, test-none}
 use Rattle.scheme.specs.Laws.Tables.{or-false-left, or-false-right}
 use Rattle.record.specs.Numbers.{beAt}
 use Rattle.record.specs.Layout.{version1, lengthOf, classesIn, columnsIn}
 use Rattle.record.specs.Read.{versionCause, fieldCause, sizeCause, lengthCause, frameCause}
 use Rattle.record.specs.Frame.{Framed}
 
--- no cause: neither of two brings one
-pub no-cause : (a b : ℕ) → orElse a b ≡ 0 → (a ≡ 0) × (b ≡ 0)
-no-cause a b e = by (ℕ-discrete a 0)
-  where
-    by : Dec (a ≡ 0) → (a ≡ 0) × (b ≡ 0)
-    by (yes none) = (none, sym (second-cause a b none) ∙ e)
-    by (no some) = absurd (some (sym (first-cause a b some) ∙ e))
-
--- no cause: the test fails
-pub cond-clear : (t : Bool) (n : ℕ) → 0 < n → cond t n 0 ≡ 0 → t ≡ false
-cond-clear true n pos e = absurd (omega arith)
-cond-clear false n pos e = refl
-
 -- the sizes of bytes without cause 3
 pub sizes-clear : (s m : ℕ) → sizeCause s m ≡ 0 → ((1 ≤ s) × (s ≤ 32)) × ((1 ≤ m) × (m ≤ 8))
 sizes-clear s m e =
-    let test = cond-clear (outside 32 s || outside 8 m) 3 (omega arith) e in
+    let test = test-none (outside 32 s || outside 8 m) 3 (omega arith) e in
     (outside-false 32 s (or-false-left (outside 32 s) (outside 8 m) test), outside-false 8 m (or-false-right (outside 32 s) (outside 8 m) test))
 
 -- the header of bytes without the causes 1 and 2
 pub head-long : (bytes : List ℕ) → orElse (versionCause bytes) (fieldCause bytes) ≡ 0 → 7 ≤ length bytes
 head-long bytes e =
-    let test = cond-clear (ltb (length bytes) 7 || not (eqb (beAt 2 bytes 1) (length bytes))) 2 (omega arith) (no-cause (versionCause bytes) (fieldCause bytes) e .1) in
+    let test = test-none (ltb (length bytes) 7 || not (eqb (beAt 2 bytes 1) (length bytes))) 2 (omega arith) (second-none (versionCause bytes) (fieldCause bytes) e) in
     ltb-false (length bytes) 7 (or-false-left (ltb (length bytes) 7) _ test)
 
 -- bytes without the causes 1 to 4 are framed
 pub frame-clear : (bytes : List ℕ) → frameCause bytes ≡ 0 → Framed bytes
 unfolding frameCause
 frame-clear bytes e =
-    let halves = no-cause (orElse (versionCause bytes) (fieldCause bytes)) _ e in
-    let head = no-cause (versionCause bytes) (fieldCause bytes) (halves .0) in
-    let shape = no-cause (sizeCause (classesIn bytes) (columnsIn bytes)) _ (halves .1) in
-    let version = cond-clear (eqb (length bytes) 0 || not (eqb (getD bytes 0 0) 1)) 1 (omega arith) (head .0) in
-    let field = cond-clear (ltb (length bytes) 7 || not (eqb (beAt 2 bytes 1) (length bytes))) 2 (omega arith) (head .1) in
-    let sizes = sizes-clear (classesIn bytes) (columnsIn bytes) (shape .0) in
-    let whole = cond-clear (not (eqb (length bytes) (lengthOf version1 (classesIn bytes) (columnsIn bytes)))) 4 (omega arith) (shape .1) in
+    let head = first-none (orElse (versionCause bytes) (fieldCause bytes)) _ e in
+    let shape = second-none (orElse (versionCause bytes) (fieldCause bytes)) _ e in
+    let version = test-none (eqb (length bytes) 0 || not (eqb (getD bytes 0 0) 1)) 1 (omega arith) (first-none (versionCause bytes) (fieldCause bytes) head) in
+    let field = test-none (ltb (length bytes) 7 || not (eqb (beAt 2 bytes 1) (length bytes))) 2 (omega arith) (second-none (versionCause bytes) (fieldCause bytes) head) in
+    let sizes = sizes-clear (classesIn bytes) (columnsIn bytes) (first-none (sizeCause (classesIn bytes) (columnsIn bytes)) _ shape) in
+    let whole = test-none (not (eqb (length bytes) (lengthOf version1 (classesIn bytes) (columnsIn bytes)))) 4 (omega arith) (second-none (sizeCause (classesIn bytes) (columnsIn bytes)) _ shape) in
     record {
       version = eqb-true (getD bytes 0 0) 1 (not-false _ (or-false-right (eqb (length bytes) 0) _ version));
-      header = head-long bytes (halves .0);
+      header = head-long bytes head;
       field = eqb-true (beAt 2 bytes 1) (length bytes) (not-false _ (or-false-right (ltb (length bytes) 7) _ field));
       someClass = sizes .0 .0;
       classes = sizes .0 .1;

@@ -4,12 +4,12 @@ use mathlib.Core.Path.{_≡_, sym, _∙_}
 use mathlib.Core.List.{List}
 use borrow.Author.Tests.{eq-eqb, ne-eqb}
 use Rattle.scheme.specs.Cause.{causeOf}
-use Rattle.scheme.specs.Laws.Cause.{first-cause, second-cause}
+use Rattle.scheme.specs.Laws.Cause.{first-cause, second-cause, first-none}
 use Rattle.record.specs.declared.ReadAnswer.{ReadAnswer}
 use Rattle.record.specs.Layout.{version1, schemeIn}
 use Rattle.record.specs.Frame.{Framed}
 use Rattle.record.specs.Read.{frameCause, readCause, declinedWith, readAnswer}
-use Rattle.record.specs.Laws.Frame.{no-cause, frame-clear}
+use Rattle.record.specs.Laws.Frame.{frame-clear}
 
 module _ (bytes : List ℕ) where
   -- one of the causes 1 to 4 is the bytes' cause
@@ -30,4 +30,4 @@ module _ (bytes : List ℕ) where
 
   -- bytes without a cause are framed
   pub read-framed : readCause bytes ≡ 0 → Framed bytes
-  read-framed e = frame-clear bytes (no-cause (frameCause bytes) (causeOf (schemeIn version1 bytes)) e .0)
+  read-framed e = frame-clear bytes (first-none (frameCause bytes) (causeOf (schemeIn version1 bytes)) e)

@@ -1,4 +1,4 @@
--- Laws of the rows that the code gathers: one raise, one turn of the loop, and that they are the scheme's interval rows.
+-- Laws of the rows that the code gathers: one raise, and one turn of the loop.
 use Prim.Native.Nat.{ℕ, suc, min, _+_, _-_, _≤_, _<_}
 use mathlib.Core.Path.{_≡_, refl, ap, ap₂, sym, _∙_}
 use mathlib.Core.List.{List}

@@ -1,8 +1,9 @@
 -- Laws of the first cause: what each test tells, and how the stages of the code make the whole.
-use Prim.Native.Nat.{ℕ, _≤_}
+use Prim.Native.Nat.{ℕ, _≤_, _<_}
 use mathlib.Core.Path.{_≡_, refl, ap, ap₂, sym, _∙_}
 use mathlib.Core.Bool.{Bool, true, false, cond, _||_}
 use lib.Dec.{eqb, ltb}
+use native.Mathlib.Decide.{ℕ-discrete}
 use native.Mathlib.Omega.{arith}
 use borrow.Author.Tests.{ltb-false, eqb-false, eq-eqb, ne-eqb, le-ltb}
 use Rattle.scheme.specs.declared.Scheme.{Scheme}
@@ -27,6 +28,22 @@ first-cause a b h = simp (ne-eqb a 0 h)
 
 pub second-cause : (a b : ℕ) → a ≡ 0 → orElse a b ≡ b
 second-cause a b e = simp (eq-eqb a 0 e)
+
+-- where the first of two causes is 0, both are
+pub first-none : (a b : ℕ) → orElse a b ≡ 0 → a ≡ 0
+first-none a b e = by (ℕ-discrete a 0)
+  where
+    by : Dec (a ≡ 0) → a ≡ 0
+    by (yes z) = z
+    by (no h) = absurd (h (sym (first-cause a b h) ∙ e))
+
+pub second-none : (a b : ℕ) → orElse a b ≡ 0 → b ≡ 0
+second-none a b e = sym (second-cause a b (first-none a b e)) ∙ e
+
+-- a test whose number is not given failed
+pub test-none : (b : Bool) (n : ℕ) → 0 < n → cond b n 0 ≡ 0 → b ≡ false
+test-none true n h e = absurd (omega arith)
+test-none false n h e = refl
 
 -- an answer by its cause
 pub declined {ℓ} : {A : Type ℓ} (n : ℕ) (x y : A) → (n ≡ 0 → ⊥) → cond (eqb n 0) x y ≡ y

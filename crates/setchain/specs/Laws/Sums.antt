@@ -125,11 +125,7 @@ sumTo-point (suc n) f p h =
     (arith, sumTo-point n f p l, onlyIf-false (eqb n p) (f n) (ne-eqb n p (λ e. omega arith))))
     (eq-or-lt-of-le (le-of-suc-le-suc h))
 
--- no term, one more, and a front's sum, which is at most the whole
-pub sumTo-empty : (f : ℕ → ℕ) → 0 ≡ sumTo 0 f
-unfolding sumTo
-sumTo-empty f = refl
-
+-- one term more, and a front's sum, which is at most the whole
 pub sumTo-more : (f : ℕ → ℕ) (i : ℕ) → sumTo (i + 1) f ≡ sumTo i f + f i
 unfolding sumTo
 sumTo-more f i = rw add-one

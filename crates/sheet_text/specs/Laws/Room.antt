@@ -10,6 +10,7 @@ use borrow.Author.Tests.{eq-eqb, ne-eqb}
 use lib.Dec.{eqb, ltb}
 use lib.ListN.{length, getD, take, replicate, length-replicate}
 use lib.Seq.{length-take-le}
+use Rattle.scheme.specs.Laws.Cause.{second-none}
 use Rattle.scheme.specs.declared.Scheme.{Scheme}
 use Rattle.scheme.specs.Accepted.{Accepted}
 use Rattle.scheme.specs.Cause.{outside, sizeOut, startOut, horizonOut, ruleOut, bandOut, sumOut, premiumOut, causeWhere, causeOf, orElse}
@@ -17,7 +18,6 @@ use Rattle.scheme.specs.Laws.Judged.{accepted-cause}
 use Rattle.record.specs.Numbers.{beAt}
 use Rattle.record.specs.Layout.{version1, lengthOf, classesIn, columnsIn, schemeIn}
 use Rattle.record.specs.Read.{versionCause, fieldCause, sizeCause, lengthCause, frameCause, readCause}
-use Rattle.record.specs.Laws.Frame.{no-cause}
 use Rattle.sheet_text.specs.Sheet.{classLines, yearPremium, yearLines, sheetOf, refusedLine, sheetText}
 use Rattle.sheet_text.specs.Answer.{roomOf, roomFor}
 use Rattle.sheet_text.specs.Laws.Figures.{low-share-at-most, high-share-at-most, low-mean-at-most, high-mean-at-most, low-total-at-most, high-total-at-most}
@@ -104,7 +104,7 @@ read-cause-most bytes = or-most (frameCause bytes) (causeOf (schemeIn version1 b
 
 -- bytes without a cause hold an accepted scheme
 pub read-accepted : (bytes : List ℕ) → readCause bytes ≡ 0 → Accepted (schemeIn version1 bytes)
-read-accepted bytes e = accepted-cause _ (no-cause (frameCause bytes) (causeOf (schemeIn version1 bytes)) e .1)
+read-accepted bytes e = accepted-cause _ (second-none (frameCause bytes) (causeOf (schemeIn version1 bytes)) e)
 
 -- the text and the room of any bytes, by cases
 module _ (bytes : List ℕ) where

@@ -9,11 +9,11 @@ use native.Mathlib.Decide.{ℕ-discrete, decLt}
 use native.Mathlib.Omega.{arith}
 use lib.ListN.{length}
 use Rattle.setchain.specs.Sums.{dot}
-use Rattle.setchain.specs.Rows.{IntervalRow, SoundRow, ofParts}
+use Rattle.setchain.specs.Rows.{ofParts}
 use Rattle.setchain.specs.Step.{Parts}
 use Rattle.setchain.specs.Certificate.{LowCertificate, HighCertificate}
 use Rattle.setchain.specs.Laws.Certificate.{low-certified, high-certified}
-use Rattle.setchain.specs.Laws.Step.{low-reached, high-reached, low-step-at-most, high-step-at-most}
+use Rattle.setchain.specs.Laws.Step.{low-reached, high-reached}
 use Rattle.order.specs.Order.{NotAfter, payoffAt, Stands}
 use Rattle.order.specs.Laws.Sinking.{not-after-refl}
 use Rattle.order.specs.Laws.Arranging.{arranged-placed}
@@ -21,6 +21,7 @@ use Rattle.step.specs.Lists.{at, rowIn}
 use Rattle.step.specs.Fill.{Fillable, Filled}
 use Rattle.step.specs.Figure.{rounded, stepFigure, Weighable}
 use Rattle.step.specs.Step.{Steppable, Stepped}
+use Rattle.step.specs.Laws.Agreeing.{step-at-most}
 
 -- what the fill asks
 pub step-fills : {lower upper payoff order : List ℕ} {d : Bool} {row : List ℕ} → Steppable lower upper payoff order d row → Fillable lower upper order row
@@ -109,11 +110,6 @@ step-extreme false {lower} {upper} {payoff} {order} {row₀} {row} {stop} s w p 
 step-extreme true {lower} {upper} {payoff} {order} {row₀} {row} {stop} s w p inside =
     omega (arith, high-certified (length lower) (rowIn lower upper) (at payoff) (at row) (w .parts) (high-cert s w) (ofParts p) inside)
 
--- a figure is at most the largest payoff
-figure-at-most : (d : Bool) (n : ℕ) (r : IntervalRow) (f : ℕ → ℕ) (b : ℕ) → SoundRow n r → ((j : ℕ) → j < n → f j ≤ b) → stepFigure d n r f ≤ b
-figure-at-most false n r f b s h = low-step-at-most n r s f b h
-figure-at-most true n r f b s h = high-step-at-most n r s f b h
-
 -- what the step leaves
 pub stepped : {lower upper payoff order : List ℕ} {d : Bool} {row₀ row : List ℕ} {stop r : ℕ}
     → Steppable lower upper payoff order d row₀ → Filled lower upper order row stop
@@ -127,5 +123,5 @@ stepped {lower} {upper} {payoff} {order} {d} {row₀} {row} {stop} {r} s w e =
       parts = w .parts;
       extreme = step-extreme d s w;
       reached = g;
-      atMost = λ b h. rw f (figure-at-most d (length lower) (rowIn lower upper) (at payoff) b (s .sound) h);
+      atMost = λ b h. rw f (step-at-most d (length lower) (rowIn lower upper) (s .sound) (at payoff) b h);
     }

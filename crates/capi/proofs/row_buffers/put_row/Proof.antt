@@ -2,10 +2,10 @@
 -- Assumes nothing.
 use mathlib.Core.Path.{_≡_, ap, sym, _∙_}
 use lib.ListN.{length}
+use Rattle.scheme.specs.Laws.Cause.{second-none}
 use Rattle.scheme.specs.Cause.{orElse}
 use Rattle.capi.specs.Buffers.{buffersCause}
 use Rattle.capi.specs.Rows.{putRowNumber}
-use Rattle.capi.proofs.Putting.{second-none}
 use Rattle.capi.proofs.Pairs.{pair-sizes, pair-left, pair-filled}
 use borrow.Author.Needs.{needs}
 use Rattle.capi.proofs.row_buffers.put_row.Statement.{statement}

@@ -4,9 +4,9 @@ use mathlib.Core.Path.{_≡_, ap, sym, _∙_}
 use mathlib.Core.List.{[], _∷_}
 use native.Mathlib.Omega.{arith}
 use lib.ListN.{length}
+use Rattle.scheme.specs.Laws.Cause.{second-none}
 use Rattle.scheme.specs.Cause.{orElse}
 use Rattle.capi.specs.Steps.{stepBuffers}
-use Rattle.capi.proofs.Putting.{second-none}
 use Rattle.capi.proofs.Texting.{one}
 use Rattle.capi.proofs.Pairs.{pair-left, pair-filled}
 use Rattle.capi.proofs.Stepping.{step-sizes}

@@ -8,9 +8,9 @@ use borrow.Author.Needs.{needs}
 use Rattle.record.proofs.reading.frame.Statement.{statement}
 use Rattle.record.proofs.reading.frame.Tie as tie
 
-head : (c : tie.After-first)
-    → c .first .result ≡ orElse (versionCause (c .before .before .before .before .args .bytes .now)) (fieldCause (c .before .before .before .before .args .bytes .now))
-head c = c .first .ensures ∙ ap₂ (λ a b. orElse a b) (c .before .before .version-cause .ensures) (c .before .field-cause .ensures)
+head : (c : tie.After-or-else)
+    → c .or-else .result ≡ orElse (versionCause (c .before .before .before .before .args .bytes .now)) (fieldCause (c .before .before .before .before .args .bytes .now))
+head c = c .or-else .ensures ∙ ap₂ (λ a b. orElse a b) (c .before .before .version-cause .ensures) (c .before .field-cause .ensures)
 
 none : (c : tie.Else1)
     → orElse (versionCause (c .before .before .before .before .before .args .bytes .now)) (fieldCause (c .before .before .before .before .before .args .bytes .now)) ≡ 0
@@ -22,8 +22,8 @@ version-cause-requires c κs = search needs
 field-cause-requires : tie.Need-field-cause-requires
 field-cause-requires c κs = search needs
 
-first-requires : tie.Need-first-requires
-first-requires c κs = search needs
+or-else-requires : tie.Need-or-else-requires
+or-else-requires c κs = search needs
 
 returns : tie.Need-returns
 returns c = frame-head _ (head (c .before)) (c .if1 .taken)
@@ -40,12 +40,12 @@ size-cause-requires c κs = search needs
 length-cause-requires : tie.Need-length-cause-requires
 length-cause-requires c κs = search needs
 
-first-requires-2 : tie.Need-first-requires-2
-first-requires-2 c κs = search needs
+or-else-requires-2 : tie.Need-or-else-requires-2
+or-else-requires-2 c κs = search needs
 
 returns-2 : tie.Need-returns-2
 returns-2 c =
-    frame-shape _ (none (c .before .before .before .before .before)) (c .first2 .ensures ∙ ap₂ (λ a b. orElse a b) (c .before .before .size-cause .ensures) (c .before .length-cause .ensures))
+    frame-shape _ (none (c .before .before .before .before .before)) (c .or-else2 .ensures ∙ ap₂ (λ a b. orElse a b) (c .before .before .size-cause .ensures) (c .before .length-cause .ensures))
 
 pub frame-spec : {M : Type 1} → statement M
 frame-spec =
@@ -53,11 +53,11 @@ frame-spec =
     (tie.spec
     version-cause-requires
     field-cause-requires
-    first-requires
+    or-else-requires
     returns
     shared-slice-read-classes
     shared-slice-read-columns
     size-cause-requires
     length-cause-requires
-    first-requires-2
+    or-else-requires-2
     returns-2)

@@ -6,7 +6,7 @@ use native.Mathlib.Omega.{arith}
 use lib.ListN.{length, getD}
 use Rattle.setchain.specs.Sums.{sumTo}
 use Rattle.setchain.specs.Rows.{ONE}
-use Rattle.setchain.specs.Laws.Sums.{sumTo-empty, sumTo-more}
+use Rattle.setchain.specs.Laws.Sums.{total-start, sumTo-more}
 use Rattle.rows.proofs.gathering.spare.Statement.{statement}
 use Rattle.rows.proofs.gathering.spare.Tie as tie
 
@@ -17,7 +17,7 @@ abbrev μ-loop : tie.MeasureT-loop
 μ-loop lower left₀ i₀ left i = length lower - i
 
 loop-holds : tie.Need-loop-holds Inv-loop μ-loop
-loop-holds c = omega (arith, sumTo-empty (λ j. getD (c .before .args .lower .now) j 0))
+loop-holds c = omega (arith, total-start (λ j. getD (c .before .args .lower .now) j 0))
 
 mul-less : tie.Need-mul-less Inv-loop μ-loop
 mul-less c = omega arith

@@ -6,7 +6,7 @@ use native.Mathlib.Omega.{arith}
 use lib.ListN.{length}
 use Rattle.setchain.specs.Sums.{dot}
 use Rattle.setchain.specs.Rows.{ONE}
-use Rattle.setchain.specs.Laws.Sums.{sumTo-empty}
+use Rattle.setchain.specs.Laws.Sums.{total-start}
 use Rattle.step.specs.Lists.{at}
 use Rattle.step.specs.Figure.{LARGEST}
 use Rattle.step.specs.Laws.Summing.{weighed-more, weighed-all}
@@ -31,7 +31,7 @@ one-more c =
     weighed-more (s .args .row .now) (s .args .payoff .now) (l .j) (l .sum) (s .pre) (omega arith) (l .inv .1)
 
 loop-holds : tie.Need-loop-holds Inv-loop μ-loop
-loop-holds c = omega (arith, sumTo-empty (λ j. at (c .args .row .now) j * at (c .args .payoff .now) j))
+loop-holds c = omega (arith, total-start (λ j. at (c .args .row .now) j * at (c .args .payoff .now) j))
 
 mul-sum : tie.Need-mul-sum Inv-loop μ-loop
 mul-sum c = omega arith
