@@ -2,6 +2,7 @@
 use Prim.Native.Nat.{ℕ}
 use mathlib.Core.Path.{_≡_, refl}
 use mathlib.Core.List.{List, [], _∷_}
+use lib.ListN.{length}
 use Rattle.setchain.specs.Sums.{sumTo}
 use Rattle.scheme.specs.Tables.{tab, anyBelow}
 use Rattle.scheme.specs.Cause.{sizeOut, startOut, horizonOut, ruleOut, bandOut, sumOut, premiumOut, causeWhere}
@@ -12,8 +13,10 @@ use Rattle.record.specs.Read.{frameCause}
 use Rattle.record.specs.Examples.{exampleA}
 use Rattle.bounds.specs.declared.Bounds.{Bounds}
 use Rattle.bounds.specs.declared.Bounds.the-variants.{Answered, Refused}
+use Rattle.step.specs.Lists.{at}
 use Rattle.capi.specs.Buffers.{putNumber, putLeaves, boundsNumber, boundsLeaves}
-use Rattle.capi.specs.Rows.{ruleRowNumber, bandsNumber, lowerBands, upperBands}
+use Rattle.capi.specs.Rows.{partNumber, ruleRowNumber, bandsNumber, lowerBands, upperBands}
+use Rattle.capi.specs.Steps.{payoffOf, stepBuffers}
 
 -- buffers of two, three and four numbers
 abbrev two : List ℕ
@@ -49,3 +52,12 @@ pub bands-a :
     × (upperBands (schemeIn version1 exampleA) ≡ 900000000 ∷ 200000000 ∷ 50000000 ∷ [])
 unfolding frameCause beAt schemeOf upTo tab causeWhere sizeOut startOut horizonOut ruleOut bandOut sumOut premiumOut anyBelow sumTo
 bands-a = (refl, refl, refl, refl)
+
+-- an empty part is cause 11, a part of two bytes fills a buffer of two, and one of three is cause 13
+pub part-a : (partNumber [] three ≡ 11) × (partNumber (1 ∷ 2 ∷ []) two ≡ 0) × (partNumber (1 ∷ 2 ∷ []) three ≡ 13)
+part-a = (refl, refl, refl)
+
+-- a payoff of two numbers counts as one of 32; with it a step's buffers are declined
+pub payoff-a : (length (payoffOf two) ≡ 32) × (at (payoffOf two) 1 ≡ 7) × (at (payoffOf two) 2 ≡ 0) × (stepBuffers two (7 ∷ []) (payoffOf two) ≡ 13) × (stepBuffers (payoffOf two) (7 ∷ []) (payoffOf two) ≡ 0)
+unfolding payoffOf tab
+payoff-a = (refl, refl, refl, refl, refl)

@@ -12,8 +12,12 @@ use Rattle.record.specs.Numbers.{beAt}
 use Rattle.scheme.specs.Stored.{upTo, schemeOf}
 use Rattle.record.specs.Read.{frameCause}
 use Rattle.record.specs.Examples.{exampleA}
-use Rattle.sheet_text.specs.Text.{digitsWithin, decimal}
+use Rattle.sheet_text.specs.Text.{digitsWithin, twoDigits, decimal}
 use Rattle.sheet_text.specs.Sheet.{classLine, premiumLine, yearLines, totalLine, refusedLine, schemeLine, sheetOf, sheetText}
+
+-- 7 and 42 in two digits
+pub two-digits : (twoDigits 7 ≡ 48 ∷ 55 ∷ []) × (twoDigits 42 ≡ 52 ∷ 50 ∷ [])
+two-digits = (refl, refl)
 
 -- 0, 10 and the largest 64-bit number, 18446744073709551615
 pub decimal-zero : decimal 0 ≡ 48 ∷ []

@@ -29,7 +29,7 @@ first-cause a b h = simp (ne-eqb a 0 h)
 pub second-cause : (a b : ℕ) → a ≡ 0 → orElse a b ≡ b
 second-cause a b e = simp (eq-eqb a 0 e)
 
--- where the first of two causes is 0, both are
+-- where two causes come to 0, each of them is 0
 pub first-none : (a b : ℕ) → orElse a b ≡ 0 → a ≡ 0
 first-none a b e = by (ℕ-discrete a 0)
   where

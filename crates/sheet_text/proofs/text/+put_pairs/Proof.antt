@@ -42,7 +42,7 @@ put-pairs-digit-requires : (t : ℕ) → put-pairs-lts.Need-digit-requires (
   put-pairs-below t,
   put-pairs.Post,
 ) (put-pairs-at t) put-pairs.Post
-put-pairs-digit-requires t c κs = c .if2 .taken
+put-pairs-digit-requires t c κs = omega arith
 
 put-pairs-slice-write-out : (t : ℕ) → put-pairs-lts.Need-slice-write-out (
   digit-reads.Asked,
