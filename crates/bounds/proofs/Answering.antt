@@ -19,14 +19,14 @@ use Rattle.scheme.specs.Rows.{chainOf}
 use Rattle.scheme.specs.Laws.Cause.{outside-false, declined, answered, first-none, second-none, test-none}
 use Rattle.scheme.specs.Laws.Judged.{accepted-cause}
 use Rattle.scheme.specs.Laws.Sound.{accepted-sound}
-use Rattle.bounds.specs.declared.Bounds.{Bounds}
-use Rattle.bounds.specs.declared.Bounds.the-variants.{Answered, Refused}
+use Rattle.answers.specs.declared.Bounds.{Bounds}
+use Rattle.answers.specs.declared.Bounds.the-variants.{Answered, Refused}
 use Rattle.step.specs.Lists.{at}
 use Rattle.bounds.specs.Years.{yearsFigure}
 use Rattle.bounds.specs.Start.{Ready, startFigure, startBounds, ShareHeld}
-use Rattle.bounds.specs.Answers.{answerBy, startOf, shareCause, shareAnswer, moneyCause, meanAnswer, totalAnswer}
-use Rattle.bounds.specs.Promises.{SharePromise, MeanPromise, TotalPromise}
-use Rattle.bounds.specs.Laws.Kept.{share-kept, mean-kept, total-kept}
+use Rattle.answers.specs.Answers.{answerBy, startOf, shareCause, shareAnswer, moneyCause, meanAnswer, totalAnswer}
+use Rattle.answers.specs.Promises.{SharePromise, MeanPromise, TotalPromise}
+use Rattle.answers.specs.Laws.Kept.{share-kept, mean-kept, total-kept}
 use Rattle.bounds.proofs.Agreeing.{years-same}
 use Rattle.bounds.proofs.Forming.{zeros}
 

@@ -14,11 +14,11 @@ use Rattle.scheme.specs.Cause.{causeOf, orElse}
 use Rattle.scheme.specs.Laws.Cause.{declined, first-none, second-none, test-none}
 use Rattle.scheme.specs.Laws.Judged.{accepted-cause}
 use Rattle.scheme.specs.Laws.Tables.{or-false-left, or-false-right}
-use Rattle.bounds.specs.Answers.{sheetSlice}
-use Rattle.bounds.specs.Table.{tableSize, lowTable, highTable, tableCause}
+use Rattle.answers.specs.Answers.{sheetSlice}
+use Rattle.answers.specs.Table.{tableSize, lowTable, highTable, tableCause}
 use Rattle.bounds.specs.Tracks.{TableReady}
-use Rattle.bounds.specs.Promises.{FiguresPromise}
-use Rattle.bounds.specs.Laws.Kept.{figures-kept}
+use Rattle.answers.specs.Promises.{FiguresPromise}
+use Rattle.answers.specs.Laws.Kept.{figures-kept}
 use Rattle.bounds.proofs.Sheeting.{test-not}
 
 -- the code's cause is the definition's

@@ -19,9 +19,9 @@ use Rattle.scheme.specs.Laws.Tables.{or-false-left, or-false-right}
 use Rattle.order.specs.Laws.Writing.{Written, written-none, written-more}
 use Rattle.bounds.specs.Years.{yearsFigure}
 use Rattle.bounds.specs.Start.{startFigure, ShareHeld, Sheeted}
-use Rattle.bounds.specs.Answers.{startOf, moneyCause, sliceCause, sheetCause, sheetSlice, lowShares, highShares}
-use Rattle.bounds.specs.Promises.{SheetPromise}
-use Rattle.bounds.specs.Laws.Kept.{sheet-kept}
+use Rattle.answers.specs.Answers.{startOf, moneyCause, sliceCause, sheetCause, sheetSlice, lowShares, highShares}
+use Rattle.answers.specs.Promises.{SheetPromise}
+use Rattle.answers.specs.Laws.Kept.{sheet-kept}
 use Rattle.bounds.proofs.Forming.{zeros}
 use Rattle.bounds.proofs.Answering.{money-accepted, share-figure}
 

@@ -21,7 +21,7 @@ use Rattle.step.specs.Lists.{at}
 use Rattle.bounds.specs.Entries.{chainListed, Held}
 use Rattle.bounds.specs.Years.{yearsFigure, Runnable, Ran}
 use Rattle.bounds.specs.Start.{Entered, Startable, Ready, startFigure, ShareHeld}
-use Rattle.bounds.specs.Answers.{startOf}
+use Rattle.answers.specs.Answers.{startOf}
 use Rattle.bounds.proofs.Agreeing.{years-same}
 use Rattle.bounds.proofs.Forming.{zeros}
 

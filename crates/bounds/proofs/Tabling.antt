@@ -25,10 +25,10 @@ use Rattle.step.specs.Figure.{LARGEST}
 use Rattle.bounds.specs.Entries.{chainListed}
 use Rattle.bounds.specs.Years.{yearsFigure}
 use Rattle.bounds.specs.Start.{Entered, Ready, startFigure, ShareHeld}
-use Rattle.bounds.specs.Answers.{startOf}
-use Rattle.bounds.specs.Table.{placeOf, totalPlace, tableSize, tableEntry, lowTable, highTable}
+use Rattle.answers.specs.Answers.{startOf}
+use Rattle.answers.specs.Table.{placeOf, totalPlace, tableSize, tableEntry, lowTable, highTable}
 use Rattle.bounds.specs.Tracks.{Trackable, Tracked, Columnable, ColumnReady, TableReady, SharesIn, figureTable}
-use Rattle.bounds.specs.Laws.Table.{entry-share, entry-mean, entry-total}
+use Rattle.answers.specs.Laws.Table.{entry-share, entry-mean, entry-total}
 use Rattle.bounds.proofs.Starting.{start-runs, start-years, start-within, scheme-starts, scheme-years}
 use Rattle.bounds.proofs.Forming.{zeros}
 use Rattle.bounds.proofs.Answering.{share-ready, share-figure, mean-ready, mean-figure, total-ready, total-figure}

@@ -1,11 +1,7 @@
--- Read in this order, after crate `step`: the entries of all rows, a walk along an order, a year, the answers, the start class's figures, tables of all figures, what they promise.
+-- Read after crate `answers`, whose definitions the public contracts name, and crate `step`. These are of the private functions, in this order:
+-- the entries of all rows, a walk along an order, a year, the start class's figures, columns of a table.
 pub mod Entries
 pub mod Walk
 pub mod Years
-pub mod Answers
 pub mod Start
-pub mod Table
 pub mod Tracks
-pub mod Promises
-pub mod Examples
-pub mod Laws

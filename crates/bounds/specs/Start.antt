@@ -8,12 +8,12 @@ use Rattle.setchain.specs.Years.{sharePayoff}
 use Rattle.scheme.specs.declared.Scheme.{Scheme}
 use Rattle.scheme.specs.Accepted.{Accepted}
 use Rattle.scheme.specs.Rows.{chainOf}
-use Rattle.bounds.specs.declared.Bounds.{Bounds}
-use Rattle.bounds.specs.declared.Bounds.the-variants.{Answered}
+use Rattle.answers.specs.declared.Bounds.{Bounds}
+use Rattle.answers.specs.declared.Bounds.the-variants.{Answered}
 use Rattle.step.specs.Lists.{at, Agree}
 use Rattle.bounds.specs.Entries.{listedRow, Held}
 use Rattle.bounds.specs.Years.{yearsFigure, Roomy}
-use Rattle.bounds.specs.Answers.{startOf}
+use Rattle.answers.specs.Answers.{startOf}
 
 -- the lists hold the interval rows of an accepted scheme
 pub record Entered (s : Scheme) (from lows rooms counts spare : List ℕ) : Type 0 where

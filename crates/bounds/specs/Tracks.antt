@@ -12,8 +12,8 @@ use Rattle.step.specs.Lists.{at}
 use Rattle.step.specs.Figure.{LARGEST}
 use Rattle.bounds.specs.Years.{yearsFigure, Runnable}
 use Rattle.bounds.specs.Start.{Startable, Ready}
-use Rattle.bounds.specs.Answers.{startOf}
-use Rattle.bounds.specs.Table.{placeOf, tableSize, lowTable, highTable}
+use Rattle.answers.specs.Answers.{startOf}
+use Rattle.answers.specs.Table.{placeOf, tableSize, lowTable, highTable}
 
 -- years that can be run, a state of the chain, and a slice that has the last year's place
 pub record Trackable (from lows rooms counts spare gain order payoff : List ℕ) (state first stride years : ℕ) (out : List ℕ) : Type 0 where

@@ -1,9 +1,10 @@
 // The bounds of a scheme: shares, means and totals, with what they promise (document 01, "Years").
 use scheme::Scheme;
+pub use answers::Bounds;
 ghost use mathlib.Core.Path.{_≡_};
-ghost use Rattle.bounds.specs.Answers.{highShares, lowShares, meanAnswer, shareAnswer, sheetCause, sheetSlice, totalAnswer};
-ghost use Rattle.bounds.specs.Table.{highTable, lowTable, tableCause};
-ghost use Rattle.bounds.specs.Promises.{FiguresPromise, MeanPromise, SharePromise, SheetPromise, TotalPromise};
+ghost use Rattle.answers.specs.Answers.{highShares, lowShares, meanAnswer, shareAnswer, sheetCause, sheetSlice, totalAnswer};
+ghost use Rattle.answers.specs.Table.{highTable, lowTable, tableCause};
+ghost use Rattle.answers.specs.Promises.{FiguresPromise, MeanPromise, SharePromise, SheetPromise, TotalPromise};
 
 mod entries;
 mod payoffs;
@@ -13,12 +14,6 @@ mod table;
 mod track;
 mod year;
 mod years;
-
-// What a call for bounds answers: low and high, or the number of the cause for which it is declined.
-pub enum Bounds {
-    Answered { low: u64, high: u64 },
-    Refused(u8),
-}
 
 // The share of a class after a number of years, in parts.
 pub fn share(scheme: Scheme, class: u64, year: u64) -> Bounds

@@ -4,7 +4,7 @@ use crate::payoffs::share_payoff;
 use crate::start::start_figure;
 use scheme::Scheme;
 ghost use mathlib.Core.Path.{_≡_};
-ghost use Rattle.bounds.specs.Answers.{highShares, lowShares};
+ghost use Rattle.answers.specs.Answers.{highShares, lowShares};
 ghost use Rattle.bounds.specs.Start.{Entered, Sheeted};
 
 // Writes the low and the high share of each class, from the lists of entries.

@@ -13,9 +13,9 @@ use Rattle.record.specs.declared.ReadAnswer.{ReadAnswer}
 use Rattle.record.specs.Layout.{schemeIn, version1}
 use Rattle.record.specs.Read.{readCause, readAnswer}
 use Rattle.sheet_text.specs.Laws.Answer.{read-number, read-scheme}
-use Rattle.bounds.specs.declared.Bounds.{Bounds}
-use Rattle.bounds.specs.Answers.{numberOf, lowOf, highOf, sheetCause, lowShares, highShares}
-use Rattle.bounds.specs.Promises.{SheetPromise}
+use Rattle.answers.specs.declared.Bounds.{Bounds}
+use Rattle.answers.specs.Answers.{numberOf, lowOf, highOf, sheetCause, lowShares, highShares}
+use Rattle.answers.specs.Promises.{SheetPromise}
 use Rattle.capi.specs.Shares.{sharesNumber}
 use Rattle.capi.specs.Buffers.{bufferCause, filledWhere, putNumber, putLeaves, boundsNumber, boundsLeaves, BufferKeeps}
 

@@ -6,9 +6,9 @@ use mathlib.Core.Bool.{Bool, true, false, cond}
 use mathlib.Core.List.{List, _++_}
 use lib.Dec.{ltb}
 use lib.ListN.{length, drop}
-use Rattle.sheet_text.specs.declared.SheetAnswer.the-variants.{Written, Declined}
-use Rattle.sheet_text.specs.Sheet.{sheetText}
-use Rattle.sheet_text.specs.Answer.{numberOf, roomFor, sheetAnswer, sheetLeaves}
+use Rattle.sheet_lines.specs.declared.SheetAnswer.the-variants.{Written, Declined}
+use Rattle.sheet_lines.specs.Sheet.{sheetText}
+use Rattle.sheet_lines.specs.Answer.{numberOf, roomFor, sheetAnswer, sheetLeaves}
 
 -- over the outcome of the test for room
 only-13 : (b : Bool) (n : ℕ) → (numberOf (cond b (Declined 13) (Written n)) ≡ 0 → ⊥) → numberOf (cond b (Declined 13) (Written n)) ≡ 13

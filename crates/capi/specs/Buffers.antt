@@ -8,9 +8,9 @@ use lib.ListN.{length, getD}
 use Rattle.scheme.specs.Cause.{orElse}
 use Rattle.scheme.specs.declared.Scheme.{Scheme}
 use Rattle.record.specs.Read.{readCause}
-use Rattle.bounds.specs.declared.Bounds.{Bounds}
-use Rattle.bounds.specs.Answers.{numberOf, lowOf, highOf}
-use Rattle.bounds.specs.Promises.{Kept, startShare, startMean, startTotal}
+use Rattle.answers.specs.declared.Bounds.{Bounds}
+use Rattle.answers.specs.Answers.{numberOf, lowOf, highOf}
+use Rattle.answers.specs.Promises.{Kept, startShare, startMean, startTotal}
 
 -- cause 13: a buffer that is not of so many numbers
 abbrev pub bufferCause : ℕ → List ℕ → ℕ

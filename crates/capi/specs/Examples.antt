@@ -11,8 +11,8 @@ use Rattle.record.specs.Numbers.{beAt}
 use Rattle.record.specs.Layout.{version1, schemeIn}
 use Rattle.record.specs.Read.{frameCause}
 use Rattle.record.specs.Examples.{exampleA}
-use Rattle.bounds.specs.declared.Bounds.{Bounds}
-use Rattle.bounds.specs.declared.Bounds.the-variants.{Answered, Refused}
+use Rattle.answers.specs.declared.Bounds.{Bounds}
+use Rattle.answers.specs.declared.Bounds.the-variants.{Answered, Refused}
 use Rattle.step.specs.Lists.{at}
 use Rattle.capi.specs.Buffers.{putNumber, putLeaves, boundsNumber, boundsLeaves}
 use Rattle.capi.specs.Rows.{partNumber, ruleRowNumber, bandsNumber, lowerBands, upperBands}

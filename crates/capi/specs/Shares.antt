@@ -4,7 +4,7 @@ use mathlib.Core.List.{List}
 use Rattle.scheme.specs.Cause.{orElse}
 use Rattle.record.specs.Layout.{version1, schemeIn}
 use Rattle.record.specs.Read.{readCause}
-use Rattle.bounds.specs.Answers.{sheetCause}
+use Rattle.answers.specs.Answers.{sheetCause}
 
 -- the cause of reading, then that of the share sheet, where 13 stands last
 abbrev pub sharesNumber : List ℕ → (year : ℕ) (low high : List ℕ) → ℕ

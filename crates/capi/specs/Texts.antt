@@ -2,7 +2,7 @@
 use Prim.Native.Nat.{ℕ}
 use mathlib.Core.List.{List, [], _∷_}
 use Rattle.scheme.specs.Cause.{orElse}
-use Rattle.sheet_text.specs.Answer.{numberOf, valueOf, sheetAnswer}
+use Rattle.sheet_lines.specs.Answer.{numberOf, valueOf, sheetAnswer}
 use Rattle.capi.specs.Buffers.{bufferCause}
 
 -- 13 where the text has no room, or the buffer for its length is not of 1 number

@@ -1,7 +1,7 @@
 // Answers put into lent buffers.
 use bounds::Bounds;
 ghost use mathlib.Core.Path.{_≡_};
-ghost use Rattle.bounds.specs.Answers.{highOf, lowOf, numberOf};
+ghost use Rattle.answers.specs.Answers.{highOf, lowOf, numberOf};
 ghost use Rattle.capi.specs.Buffers.{putLeaves, putNumber};
 
 // The cause in an answer, or 0.

@@ -1,7 +1,7 @@
 // What the sheet's text answers, as numbers.
 use sheet_text::SheetAnswer;
 ghost use mathlib.Core.Path.{_≡_};
-ghost use Rattle.sheet_text.specs.Answer.{numberOf, valueOf};
+ghost use Rattle.sheet_lines.specs.Answer.{numberOf, valueOf};
 
 // The cause in an answer, or 0.
 pub fn number_of(answer: SheetAnswer) -> u8

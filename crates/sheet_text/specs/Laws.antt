@@ -3,7 +3,4 @@ pub mod Put
 pub mod Lines
 pub mod Years
 pub mod Tabled
-pub mod Widths
-pub mod Figures
-pub mod Room
 pub mod Answer

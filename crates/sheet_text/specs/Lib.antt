@@ -1,9 +1,5 @@
--- Read in this order: numbers and words as text, the sheet, how text is put into a slice, what the call answers, worked texts.
--- Laws has the lemmas by which all is proved.
-pub mod Text
-pub mod Sheet
+-- Read after crate `sheet_lines`, whose definitions the public contract names. These are of the private functions: how text is put into a slice,
+-- and the lines by the figures in two tables. Laws has the lemmas by which the code is proved.
 pub mod Put
 pub mod Tabled
-pub mod Answer
-pub mod Examples
 pub mod Laws

@@ -1,22 +1,17 @@
 // The sheet of a record as text (document 01, "Sheet program and examples").
 use scheme::Scheme;
+pub use sheet_lines::SheetAnswer;
 ghost use mathlib.Core.Path.{_≡_};
 ghost use Prim.Native.Nat.{_≤_};
 ghost use Rattle.scheme.specs.Accepted.{Accepted};
-ghost use Rattle.sheet_text.specs.Sheet.{refusedLine, sheetOf};
-ghost use Rattle.sheet_text.specs.Answer.{roomOf, Told, sheetAnswer, sheetLeaves};
+ghost use Rattle.sheet_lines.specs.Sheet.{refusedLine, sheetOf};
+ghost use Rattle.sheet_lines.specs.Answer.{roomOf, Told, sheetAnswer, sheetLeaves};
 
 mod lines;
 mod tables;
 mod text;
 mod whole;
 mod years;
-
-// What writing a sheet answers: the sheet's length, or the cause.
-pub enum SheetAnswer {
-    Written(usize),
-    Declined(u8),
-}
 
 // Writes the line of a refusal.
 fn refused(out: &mut [u8], number: u8) -> SheetAnswer

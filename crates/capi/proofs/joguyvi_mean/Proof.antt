@@ -1,7 +1,7 @@
 -- `joguyvi_mean` meets its contract: the cause of reading, or the answer put into the buffer, with its promise.
 -- Assumes nothing.
-use Rattle.bounds.specs.Answers.{meanAnswer}
-use Rattle.bounds.specs.Laws.Kept.{mean-kept}
+use Rattle.answers.specs.Answers.{meanAnswer}
+use Rattle.answers.specs.Laws.Kept.{mean-kept}
 use Rattle.capi.specs.Buffers.{MeanKept}
 use Rattle.capi.proofs.Putting.{bounds-stopped, bounds-passed}
 use borrow.Author.Needs.{needs}

@@ -1,7 +1,7 @@
 -- `joguyvi_share` meets its contract: the cause of reading, or the answer put into the buffer, with its promise.
 -- Assumes nothing.
-use Rattle.bounds.specs.Answers.{shareAnswer}
-use Rattle.bounds.specs.Laws.Kept.{share-kept}
+use Rattle.answers.specs.Answers.{shareAnswer}
+use Rattle.answers.specs.Laws.Kept.{share-kept}
 use Rattle.capi.specs.Buffers.{ShareKept}
 use Rattle.capi.proofs.Putting.{bounds-stopped, bounds-passed}
 use borrow.Author.Needs.{needs}

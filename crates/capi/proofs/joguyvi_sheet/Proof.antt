@@ -1,7 +1,7 @@
 -- `joguyvi_sheet` meets its contract: 13 for the buffer of the length or for want of room, or the text and its length.
 -- Assumes nothing.
 use mathlib.Core.Path.{ap, _∙_}
-use Rattle.sheet_text.specs.Answer.{numberOf, valueOf, sheetAnswer, sheetLeaves}
+use Rattle.sheet_lines.specs.Answer.{numberOf, valueOf, sheetAnswer, sheetLeaves}
 use Rattle.capi.proofs.Texting.{text-out, text-declined, text-written}
 use Rattle.capi.proofs.SheetTexts.{sheet-only, sheet-left}
 use borrow.Author.Needs.{needs}

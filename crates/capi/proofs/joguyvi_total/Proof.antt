@@ -1,7 +1,7 @@
 -- `joguyvi_total` meets its contract: the cause of reading, or the answer put into the buffer, with its promise.
 -- Assumes nothing.
-use Rattle.bounds.specs.Answers.{totalAnswer}
-use Rattle.bounds.specs.Laws.Kept.{total-kept}
+use Rattle.answers.specs.Answers.{totalAnswer}
+use Rattle.answers.specs.Laws.Kept.{total-kept}
 use Rattle.capi.specs.Buffers.{TotalKept}
 use Rattle.capi.proofs.Putting.{bounds-stopped, bounds-passed}
 use borrow.Author.Needs.{needs}

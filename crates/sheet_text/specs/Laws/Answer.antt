@@ -14,14 +14,14 @@ use Rattle.scheme.specs.Laws.Judged.{cause-accepted}
 use Rattle.record.specs.Layout.{version1, schemeIn}
 use Rattle.record.specs.Read.{readCause, readAnswer}
 use Rattle.record.specs.Laws.Lists.{sets-front}
-use Rattle.bounds.specs.Answers.{sheetSlice}
-use Rattle.bounds.specs.Table.{tableSize, tableCause}
-use Rattle.sheet_text.specs.declared.SheetAnswer.{SheetAnswer}
-use Rattle.sheet_text.specs.declared.SheetAnswer.the-variants.{Written, Declined}
-use Rattle.sheet_text.specs.Sheet.{sheetOf, refusedLine, sheetText}
+use Rattle.answers.specs.Answers.{sheetSlice}
+use Rattle.answers.specs.Table.{tableSize, tableCause}
+use Rattle.sheet_lines.specs.declared.SheetAnswer.{SheetAnswer}
+use Rattle.sheet_lines.specs.declared.SheetAnswer.the-variants.{Written, Declined}
+use Rattle.sheet_lines.specs.Sheet.{sheetOf, refusedLine, sheetText}
 use Rattle.sheet_text.specs.Put.{Room, Put}
-use Rattle.sheet_text.specs.Answer.{numberOf, valueOf, roomOf, roomFor, Told, sheetAnswer, sheetLeaves}
-use Rattle.sheet_text.specs.Laws.Room.{text-accepted, room-accepted, text-refused, room-refused}
+use Rattle.sheet_lines.specs.Answer.{numberOf, valueOf, roomOf, roomFor, Told, sheetAnswer, sheetLeaves}
+use Rattle.sheet_lines.specs.Laws.Room.{text-accepted, room-accepted, text-refused, room-refused}
 
 -- a slice that is too short, and one that is not
 pub told-declined : {room : ℕ} {text out : List ℕ} → length out < room → Told room text out out (Declined 13)

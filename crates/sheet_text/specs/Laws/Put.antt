@@ -11,7 +11,7 @@ use lib.ListN.{length, getD, take, set, length-append}
 use lib.Seq.{sets, length-sets, length-take-le, take-length, take-suc}
 use Rattle.record.specs.Joined.{joined}
 use Rattle.record.specs.Laws.Lists.{sets-append, sets-more}
-use Rattle.sheet_text.specs.Text.{digitsWithin, twoDigits}
+use Rattle.sheet_lines.specs.Text.{digitsWithin, twoDigits}
 use Rattle.sheet_text.specs.Put.{Room, Put}
 
 -- the slice keeps its length

@@ -11,10 +11,10 @@ use Rattle.scheme.specs.Laws.Tab.{length-tab}
 use Rattle.record.specs.Joined.{joined}
 use Rattle.record.specs.Laws.Lists.{joined-eq}
 use Rattle.setchain.specs.Years.{lowShare, highShare}
-use Rattle.bounds.specs.Answers.{startOf}
-use Rattle.bounds.specs.Table.{tableSize, lowTable, highTable}
-use Rattle.bounds.specs.Laws.Table.{low-share-at, high-share-at, low-mean-at, high-mean-at, low-total-at, high-total-at}
-use Rattle.sheet_text.specs.Sheet.{schemeLine, classLine, yearLines, totalLine, sheetOf}
+use Rattle.answers.specs.Answers.{startOf}
+use Rattle.answers.specs.Table.{tableSize, lowTable, highTable}
+use Rattle.answers.specs.Laws.Table.{low-share-at, high-share-at, low-mean-at, high-mean-at, low-total-at, high-total-at}
+use Rattle.sheet_lines.specs.Sheet.{schemeLine, classLine, yearLines, totalLine, sheetOf}
 use Rattle.sheet_text.specs.Put.{Room, Put}
 use Rattle.sheet_text.specs.Tabled.{classText, yearText}
 

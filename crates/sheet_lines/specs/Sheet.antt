@@ -10,8 +10,8 @@ use Rattle.scheme.specs.Rows.{chainOf}
 use Rattle.record.specs.Joined.{joined}
 use Rattle.record.specs.Layout.{version1, schemeIn}
 use Rattle.record.specs.Read.{readCause}
-use Rattle.bounds.specs.Answers.{startOf}
-use Rattle.sheet_text.specs.Text.{field, newline, schemeWord, yearWord, classWord, premiumWord, totalWord, refusedWord}
+use Rattle.answers.specs.Answers.{startOf}
+use Rattle.sheet_lines.specs.Text.{field, newline, schemeWord, yearWord, classWord, premiumWord, totalWord, refusedWord}
 
 -- "SCHEME carries s, m, start, horizon."
 unfoldable pub schemeLine : Scheme → List ℕ

@@ -21,11 +21,11 @@ use Rattle.scheme.specs.Laws.Cause.{declined, answered, first-none}
 use Rattle.scheme.specs.Laws.Judged.{accepted-cause}
 use Rattle.scheme.specs.Laws.Sound.{accepted-sound}
 use Rattle.scheme.specs.Laws.Tab.{getD-tab}
-use Rattle.bounds.specs.declared.Bounds.the-variants.{Answered, Refused}
-use Rattle.bounds.specs.Answers.{numberOf, lowOf, highOf, answerBy, startOf, shareCause, shareAnswer, moneyCause, meanAnswer, totalAnswer, sheetCause, sliceCause, sheetSlice, lowShares, highShares}
-use Rattle.bounds.specs.Promises.{Kept, startShare, startMean, startTotal, SharePromise, MeanPromise, TotalPromise, SheetPromise, TableKept, FiguresPromise}
-use Rattle.bounds.specs.Table.{tableSize, lowTable, highTable, tableCause}
-use Rattle.bounds.specs.Laws.Table.{low-share-at, high-share-at, low-mean-at, high-mean-at, low-total-at, high-total-at}
+use Rattle.answers.specs.declared.Bounds.the-variants.{Answered, Refused}
+use Rattle.answers.specs.Answers.{numberOf, lowOf, highOf, answerBy, startOf, shareCause, shareAnswer, moneyCause, meanAnswer, totalAnswer, sheetCause, sliceCause, sheetSlice, lowShares, highShares}
+use Rattle.answers.specs.Promises.{Kept, startShare, startMean, startTotal, SharePromise, MeanPromise, TotalPromise, SheetPromise, TableKept, FiguresPromise}
+use Rattle.answers.specs.Table.{tableSize, lowTable, highTable, tableCause}
+use Rattle.answers.specs.Laws.Table.{low-share-at, high-share-at, low-mean-at, high-mean-at, low-total-at, high-total-at}
 
 -- a promise for every state, at the start class
 at-start : (s : Scheme) → Accepted s → (t : ℕ) (low high : ℕ → ℕ) (exact : List Matrix → ℕ → Fraction) → Promise (chainOf s) t low high exact

@@ -9,9 +9,9 @@ use Rattle.setchain.specs.Promise.{shareInParts, Between, Near}
 use Rattle.scheme.specs.declared.Scheme.{Scheme}
 use Rattle.scheme.specs.Access.{premiumAt}
 use Rattle.scheme.specs.Rows.{chainOf}
-use Rattle.bounds.specs.declared.Bounds.{Bounds}
-use Rattle.bounds.specs.Answers.{numberOf, lowOf, highOf, startOf}
-use Rattle.bounds.specs.Table.{placeOf, totalPlace}
+use Rattle.answers.specs.declared.Bounds.{Bounds}
+use Rattle.answers.specs.Answers.{numberOf, lowOf, highOf, startOf}
+use Rattle.answers.specs.Table.{placeOf, totalPlace}
 
 -- some picks for t years bring the exact figure no further than t from the bound
 pub record SomeNear (s : Scheme) (t bound : ℕ) (exact : List Matrix → Fraction) : Type 0 where

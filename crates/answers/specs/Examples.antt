@@ -20,8 +20,8 @@ use Rattle.scheme.specs.Examples.{padded, schemeA, RowsA, rows-a}
 use Rattle.scheme.specs.Laws.Cause.{answered, second-cause, cond-false, inside-outside}
 use Rattle.scheme.specs.Laws.Judged.{cause-accepted}
 use Rattle.scheme.specs.Laws.Sound.{accepted-sound}
-use Rattle.bounds.specs.declared.Bounds.the-variants.{Answered, Refused}
-use Rattle.bounds.specs.Answers.{startOf, shareCause, shareAnswer, moneyCause, meanAnswer, totalAnswer}
+use Rattle.answers.specs.declared.Bounds.the-variants.{Answered, Refused}
+use Rattle.answers.specs.Answers.{startOf, shareCause, shareAnswer, moneyCause, meanAnswer, totalAnswer}
 
 -- "Both classes 0→1, 1+→2; bands 333333333 and 666666667, each lower = upper; premiums 10, 11"
 abbrev pub schemeThirds : Scheme

@@ -18,10 +18,10 @@ use Rattle.scheme.specs.Laws.Judged.{accepted-cause}
 use Rattle.record.specs.Numbers.{beAt}
 use Rattle.record.specs.Layout.{version1, lengthOf, classesIn, columnsIn, schemeIn}
 use Rattle.record.specs.Read.{versionCause, fieldCause, sizeCause, lengthCause, frameCause, readCause}
-use Rattle.sheet_text.specs.Sheet.{classLines, yearPremium, yearLines, sheetOf, refusedLine, sheetText}
-use Rattle.sheet_text.specs.Answer.{roomOf, roomFor}
-use Rattle.sheet_text.specs.Laws.Figures.{low-share-at-most, high-share-at-most, low-mean-at-most, high-mean-at-most, low-total-at-most, high-total-at-most}
-use Rattle.sheet_text.specs.Laws.Widths.{Within, within-append, within-joined, scheme-line-within, class-line-within, premium-line-within, total-line-within, refused-line-within}
+use Rattle.sheet_lines.specs.Sheet.{classLines, yearPremium, yearLines, sheetOf, refusedLine, sheetText}
+use Rattle.sheet_lines.specs.Answer.{roomOf, roomFor}
+use Rattle.sheet_lines.specs.Laws.Figures.{low-share-at-most, high-share-at-most, low-mean-at-most, high-mean-at-most, low-total-at-most, high-total-at-most}
+use Rattle.sheet_lines.specs.Laws.Widths.{Within, within-append, within-joined, scheme-line-within, class-line-within, premium-line-within, total-line-within, refused-line-within}
 
 -- the lines of a year, and the sheet of an accepted scheme
 module _ (s : Scheme) (ok : Accepted s) where

@@ -11,8 +11,8 @@ use Rattle.scheme.specs.Access.{premiumAt}
 use Rattle.scheme.specs.Rows.{chainOf}
 use Rattle.queries.specs.Causes as causes
 pub use Rattle.queries.specs.Causes.{shareCause, moneyCause}
-use Rattle.bounds.specs.declared.Bounds.{Bounds}
-use Rattle.bounds.specs.declared.Bounds.the-variants.{Answered, Refused}
+use Rattle.answers.specs.declared.Bounds.{Bounds}
+use Rattle.answers.specs.declared.Bounds.the-variants.{Answered, Refused}
 
 -- the number of document 01's table, 0 where low and high are answered
 abbrev pub numberOf : Bounds → ℕ

@@ -8,9 +8,9 @@ use lib.ListN.{length, drop}
 use Rattle.scheme.specs.declared.Scheme.{Scheme}
 use Rattle.record.specs.Layout.{version1, schemeIn}
 use Rattle.record.specs.Read.{readCause}
-use Rattle.sheet_text.specs.declared.SheetAnswer.{SheetAnswer}
-use Rattle.sheet_text.specs.declared.SheetAnswer.the-variants.{Written, Declined}
-use Rattle.sheet_text.specs.Sheet.{sheetText}
+use Rattle.sheet_lines.specs.declared.SheetAnswer.{SheetAnswer}
+use Rattle.sheet_lines.specs.declared.SheetAnswer.the-variants.{Written, Declined}
+use Rattle.sheet_lines.specs.Sheet.{sheetText}
 
 -- the number of each answer: 0 where the sheet was written
 abbrev pub numberOf : SheetAnswer → ℕ

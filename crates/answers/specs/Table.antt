@@ -12,7 +12,7 @@ use Rattle.scheme.specs.Access.{premiumAt}
 use Rattle.scheme.specs.Rows.{chainOf}
 use Rattle.queries.specs.Causes as causes
 pub use Rattle.queries.specs.Causes.{totalPlace, tableSize}
-use Rattle.bounds.specs.Answers.{startOf}
+use Rattle.answers.specs.Answers.{startOf}
 
 -- the place of year t's figure j: the share of state j, or the mean where j is s
 abbrev pub placeOf : Scheme → ℕ → ℕ → ℕ

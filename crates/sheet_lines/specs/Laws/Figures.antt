@@ -11,7 +11,7 @@ use Rattle.scheme.specs.Accepted.{Accepted}
 use Rattle.scheme.specs.Access.{premiumAt}
 use Rattle.scheme.specs.Rows.{chainOf}
 use Rattle.scheme.specs.Laws.Sound.{accepted-sound}
-use Rattle.bounds.specs.Answers.{startOf}
+use Rattle.answers.specs.Answers.{startOf}
 
 -- figures grow by no more than the gains
 module _ (c : SetChain) (sound : SoundChain c) (payoff gain : ℕ → ℕ) (top rise : ℕ)

@@ -11,8 +11,8 @@ use Rattle.scheme.specs.Tables.{tab}
 use Rattle.scheme.specs.Access.{premiumAt}
 use Rattle.scheme.specs.Rows.{chainOf}
 use Rattle.scheme.specs.Laws.Tab.{getD-tab}
-use Rattle.bounds.specs.Answers.{startOf}
-use Rattle.bounds.specs.Table.{placeOf, totalPlace, tableSize, tableEntry, lowTable, highTable}
+use Rattle.answers.specs.Answers.{startOf}
+use Rattle.answers.specs.Table.{placeOf, totalPlace, tableSize, tableEntry, lowTable, highTable}
 
 module _ (s : Scheme) (share : ℕ → ℕ → ℕ) (mean : ℕ → ℕ) (total : ℕ) where
   -- a place before the total, by its year and number

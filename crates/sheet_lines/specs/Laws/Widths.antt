@@ -10,8 +10,8 @@ use lib.ListN.{length, length-append}
 use Rattle.scheme.specs.declared.Scheme.{Scheme}
 use Rattle.scheme.specs.Accepted.{Accepted}
 use Rattle.record.specs.Joined.{joined}
-use Rattle.sheet_text.specs.Text.{digitsWithin, field, newline, schemeWord, yearWord, classWord, premiumWord, totalWord, refusedWord}
-use Rattle.sheet_text.specs.Sheet.{schemeLine, classLine, premiumLine, totalLine, refusedLine}
+use Rattle.sheet_lines.specs.Text.{digitsWithin, field, newline, schemeWord, yearWord, classWord, premiumWord, totalWord, refusedWord}
+use Rattle.sheet_lines.specs.Sheet.{schemeLine, classLine, premiumLine, totalLine, refusedLine}
 
 -- a text of at most n bytes
 pub record Within (n : ℕ) (text : List ℕ) : Type 0 where
