@@ -13,7 +13,7 @@ use mir.Val.{Fits}
 use Rattle.setchain.specs.Rows.{ONE, IntervalRow, SoundRow}
 use Rattle.setchain.specs.Step.{room}
 use Rattle.order.specs.Order.{Placed, Arranged, sorted}
-use Rattle.order.specs.Laws.Writing.{Rewritten}
+use Rattle.states.specs.Laws.Writing.{Rewritten}
 use Rattle.order.specs.Laws.Arranging.{arranged-placed, sorted-holds}
 use Rattle.step.specs.Lists.{at}
 use Rattle.step.specs.Figure.{rounded, stepFigure, LARGEST}

@@ -16,7 +16,7 @@ use Rattle.scheme.specs.Rows.{chainOf}
 use Rattle.scheme.specs.Laws.Cause.{declined, first-none, second-none, test-none}
 use Rattle.scheme.specs.Laws.Tab.{as-tab}
 use Rattle.scheme.specs.Laws.Tables.{or-false-left, or-false-right}
-use Rattle.order.specs.Laws.Writing.{Written, written-none, written-more}
+use Rattle.states.specs.Laws.Writing.{Written, written-none, written-more}
 use Rattle.bounds.specs.Years.{yearsFigure}
 use Rattle.bounds.specs.Start.{startFigure, ShareHeld, Sheeted}
 use Rattle.answers.specs.Answers.{startOf, moneyCause, sliceCause, sheetCause, sheetSlice, lowShares, highShares}

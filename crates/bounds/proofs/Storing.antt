@@ -11,7 +11,7 @@ use Rattle.scheme.specs.declared.Scheme.{Scheme}
 use Rattle.scheme.specs.Accepted.{Accepted}
 use Rattle.scheme.specs.Rows.{chainOf}
 use Rattle.scheme.specs.Laws.Sound.{accepted-sound}
-use Rattle.rows.specs.Laws.Entries.{lower-is, upper-is}
+use Rattle.gathering.specs.Laws.Entries.{lower-is, upper-is}
 use Rattle.step.specs.Lists.{gatheredRow, rulesOf, Agree}
 use Rattle.bounds.specs.Entries.{listedRow, Empty, Storable, StoredParts, Listed}
 use Rattle.bounds.specs.Start.{Entered}

@@ -1,7 +1,7 @@
 // The entries of all interval rows, listed by the class that they lead to: a year then passes each of them once, along the order of the payoffs.
 // The list of state j stands from place j × 32 on: of each entry the state whose row has it, its lower end, and the room from there to its upper end.
-use rows::gathering::gather;
-use rows::gathering::spare;
+use gathering::gather;
+use gathering::spare;
 use scheme::Scheme;
 ghost use lib.ListN.{take};
 ghost use Rattle.scheme.specs.Accepted.{Accepted};

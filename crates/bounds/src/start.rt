@@ -2,8 +2,8 @@
 use crate::Bounds;
 use crate::entries::list_scheme;
 use crate::years::years;
-use order::number;
-use order::state;
+use states::number;
+use states::state;
 use scheme::Scheme;
 ghost use mathlib.Core.Path.{_≡_};
 ghost use Prim.Native.Nat.{_-_};

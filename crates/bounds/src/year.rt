@@ -1,7 +1,7 @@
 // One year: the figures of all classes from those of the year before (document 01, "Years").
 use crate::payoffs::wide;
 use order::sort;
-use order::state;
+use states::state;
 ghost use mathlib.Core.Path.{_≡_};
 ghost use Prim.Native.Nat.{min};
 ghost use lib.ListN.{length};

@@ -77,7 +77,7 @@ fn plain() -> Scheme {
 
 // A word and the first cause of a scheme.
 fn cause(word: &[u8], s: Scheme) {
-    line(word, wide(scheme::cause(s)));
+    line(word, wide(acceptance::cause(s)));
 }
 
 // The edges of acceptance.

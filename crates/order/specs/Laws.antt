@@ -1,4 +1,3 @@
 -- The laws that proofs use in place of the definitions' text.
-pub mod Writing
 pub mod Sinking
 pub mod Arranging

@@ -45,7 +45,7 @@ fn slice_cause(size: usize, low: usize, high: usize) -> u8
 pub fn money_cause(scheme: Scheme, year: u64) -> u8
     ensures { λ r. ⌜ r ≡ moneyCause scheme year ⌝ }
 {
-    let own = scheme::cause(scheme);
+    let own = acceptance::cause(scheme);
     let late = year_cause(scheme.horizon, year);
     or_else(own, late)
 }
@@ -54,7 +54,7 @@ pub fn money_cause(scheme: Scheme, year: u64) -> u8
 pub fn share_cause(scheme: Scheme, class: u64, year: u64) -> u8
     ensures { λ r. ⌜ r ≡ shareCause scheme class year ⌝ }
 {
-    let own = scheme::cause(scheme);
+    let own = acceptance::cause(scheme);
     let out = class_cause(scheme.classes, class);
     let late = year_cause(scheme.horizon, year);
     let query = or_else(out, late);
@@ -83,7 +83,7 @@ fn table_size(classes: u8, horizon: u8) -> usize
 pub fn table_cause(scheme: Scheme, low: usize, high: usize) -> u8
     ensures { λ r. ⌜ r ≡ tableCause scheme low high ⌝ }
 {
-    let own = scheme::cause(scheme);
+    let own = acceptance::cause(scheme);
     let size = table_size(scheme.classes, scheme.horizon);
     let slices = slice_cause(size, low, high);
     or_else(own, slices)

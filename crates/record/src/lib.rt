@@ -53,7 +53,7 @@ pub fn read(bytes: &[u8]) -> ReadAnswer
         return declined(frame);
     }
     let scheme = reading::parsed(bytes);
-    let number = scheme::cause(scheme);
+    let number = acceptance::cause(scheme);
     if number != 0 {
         return declined(number);
     }
@@ -68,14 +68,14 @@ pub fn cause(bytes: &[u8]) -> u8
     if frame != 0 {
         return frame;
     }
-    scheme::cause(reading::parsed(bytes))
+    acceptance::cause(reading::parsed(bytes))
 }
 
 // Writes the record of a scheme into the slice, and leaves bytes past it unchanged; declined, all of them.
 pub fn write(scheme: Scheme, out: &mut [u8]) -> WriteAnswer
     ensures { λ r. ⌜ (r ≡ writeAnswer scheme (now (out .entry))) × (now (out .exit) ≡ writeLeaves scheme (now (out .entry))) ⌝ }
 {
-    let number = scheme::cause(scheme);
+    let number = acceptance::cause(scheme);
     if number != 0 {
         return WriteAnswer::Declined(number);
     }

@@ -1,14 +1,13 @@
--- Worked cases, computed: the row operation's answers for Example A (document 01, "Sheet program and examples"), and entries that are capped.
+-- Worked cases, computed: the row operation's answers for Example A (document 01, "Sheet program and examples").
 use Prim.Native.Nat.{ℕ}
 use mathlib.Core.Path.{_≡_, refl}
 use mathlib.Core.List.{List, [], _∷_}
 use Rattle.setchain.specs.Sums.{sumTo, onlyIf}
-use Rattle.setchain.specs.Rows.{ONE}
 use Rattle.scheme.specs.Tables.{anyBelow, tab}
 use Rattle.scheme.specs.Cause.{sizeOut, startOut, horizonOut, ruleOut, bandOut, sumOut, premiumOut, causeWhere}
 use Rattle.scheme.specs.Examples.{padded, schemeA, single}
 use Rattle.rows.specs.declared.RowAnswer.{RowAnswer}
-use Rattle.rows.specs.Rows.{gathered, rowRefused, rowAt, rowAnswer, spareOf}
+use Rattle.rows.specs.Rows.{rowRefused, rowAt, rowAnswer}
 
 -- the answer with these entries, and 0 beyond
 abbrev pub answerOf : (lower upper : List ℕ) → RowAnswer
@@ -25,17 +24,3 @@ pub record RowAnswersA : Type 0 where
 pub row-answers-a : RowAnswersA
 unfolding causeWhere sizeOut startOut horizonOut ruleOut bandOut sumOut premiumOut anyBelow sumTo onlyIf rowAt tab
 row-answers-a = record { row1 = refl; row2 = refl; noClass = refl; beyond = refl; declined = refl }
-
--- two cells that lead to class 1, and one with no band
-pub record GatheredTwice : Type 0 where
-  pub capped : gathered (1 ∷ 1 ∷ 1 ∷ []) (600000000 ∷ 600000000 ∷ []) 0 ≡ ONE
-  pub elsewhere : gathered (1 ∷ 1 ∷ 1 ∷ []) (600000000 ∷ 600000000 ∷ []) 1 ≡ 0
-
-pub gathered-twice : GatheredTwice
-unfolding sumTo onlyIf
-gathered-twice = record { capped = refl; elsewhere = refl }
-
--- what the lower entries of class 2 leave, and entries that come to more than ONE
-pub spare-examples : (spareOf (800000000 ∷ 100000000 ∷ []) ≡ 100000000) × (spareOf (800000000 ∷ 300000000 ∷ []) ≡ 0)
-unfolding sumTo
-spare-examples = (refl, refl)

@@ -1,37 +1,20 @@
--- The entries that cells make, and the answer of the row operation (document 01, "Interval rows").
-use Prim.Native.Nat.{ℕ, suc, min, _+_, _-_, _*_, _≤_}
+-- The answer of the row operation (document 01, "Interval rows").
+use Prim.Native.Nat.{ℕ, _-_, _*_}
 use mathlib.Core.Bool.{cond}
 use mathlib.Core.List.{List}
 use lib.Dec.{eqb, ltb}
-use lib.ListN.{length, getD, replicate, take, drop}
-use Rattle.setchain.specs.Sums.{sumTo, onlyIf}
-use Rattle.setchain.specs.Rows.{ONE}
+use lib.ListN.{replicate, take, drop}
+use Rattle.setchain.specs.Sums.{onlyIf}
 use Rattle.scheme.specs.declared.Scheme.{Scheme}
 use Rattle.scheme.specs.Tables.{tab}
 use Rattle.scheme.specs.Cause.{causeOf, orElse, classCause}
 use Rattle.scheme.specs.Rows.{chainOf}
+use Rattle.gathering.specs.Gathered.{gathered}
 use Rattle.rows.specs.declared.RowAnswer.{RowAnswer}
-
--- what the bands of the cells whose rule is class j + 1 come to, at most ONE; lists of different lengths are read as far as both go
-abbrev pub gathered : List ℕ → List ℕ → ℕ → ℕ
-gathered rules band j =
-    min ONE (sumTo (min (length rules) (length band)) (λ k. onlyIf (eqb (getD rules k 0) (suc j)) (getD band k 0)))
 
 -- the entries of 32 classes that some rules make with their bands' ends: 0 beyond s
 unfoldable pub entriesOf : List ℕ → List ℕ → ℕ → List ℕ
 entriesOf rules ends classes = tab 32 (λ j. onlyIf (ltb j classes) (gathered rules ends j))
-
--- the parts that the lower entries of a row leave of ONE, none where they come to more
-abbrev pub spareOf : List ℕ → ℕ
-spareOf lower = ONE - sumTo (length lower) (λ j. getD lower j 0)
-
--- no entry is above ONE
-abbrev pub Capped : List ℕ → Type 0
-Capped l = (j : ℕ) → getD l j 0 ≤ ONE
-
--- a row of entries with the band's end added at the class that a rule leads to, at most ONE
-abbrev pub raised : List ℕ → ℕ → ℕ → List ℕ
-raised l rule end = tab (length l) (λ j. min ONE (getD l j 0 + onlyIf (eqb rule (suc j)) end))
 
 -- the cause of the row operation: 3, 5 to 10, then 11
 abbrev pub rowCause : Scheme → ℕ → ℕ

@@ -3,7 +3,6 @@ use scheme::Scheme;
 ghost use mathlib.Core.Path.{_≡_};
 ghost use Rattle.rows.specs.Rows.{rowAnswer};
 
-pub mod gathering;
 mod rows;
 
 // The answer of the row operation: a refusal number or 0, and the lower and upper entries.
@@ -17,7 +16,7 @@ pub struct RowAnswer {
 pub fn row(scheme: Scheme, class: u64) -> RowAnswer
     ensures { λ r. ⌜ r ≡ rowAnswer scheme class ⌝ }
 {
-    let number = scheme::cause(scheme);
+    let number = acceptance::cause(scheme);
     if number != 0 {
         return rows::refused(number);
     }

@@ -1,8 +1,6 @@
-// The scheme of document 01 and its acceptance.
+// The scheme of document 01, its limits and its refusal numbers.
 ghost use mathlib.Core.Path.{_≡_};
-ghost use Rattle.scheme.specs.Cause.{causeOf, outside, orElse};
-
-mod tests;
+ghost use Rattle.scheme.specs.Cause.{outside, orElse};
 
 // The limits of document 01, "Units and the scheme"; ONE is setchain's.
 pub const MOST_CLASSES: u8 = 32;
@@ -55,27 +53,6 @@ pub struct Scheme {
     pub uppers: [u32; 8],
     // the premium of class i at i - 1, in cents
     pub premiums: [u32; 32],
-}
-
-// The first cause that applies to the scheme, tests in number order, or 0.
-pub fn cause(scheme: Scheme) -> u8
-    ensures { λ r. ⌜ r ≡ causeOf scheme ⌝ }
-{
-    let classes = scheme.classes;
-    let columns = scheme.columns;
-    let form = tests::form_cause(classes, columns, scheme.start, scheme.horizon);
-    if form != 0 {
-        return form;
-    }
-    let rules = scheme.rules;
-    let lowers = scheme.lowers;
-    let uppers = scheme.uppers;
-    let premiums = scheme.premiums;
-    let leads = tests::rule_cause(&rules, classes, columns);
-    let bands = tests::band_cause(&lowers, &uppers, columns);
-    let money = tests::premium_cause(&premiums, classes);
-    let later = or_else(bands, money);
-    or_else(leads, later)
 }
 
 // Whether a class is not one of 1 to s: cause 11.

@@ -14,7 +14,7 @@ use Rattle.scheme.specs.Cause.{outside, sizeOut, startOut, horizonOut, ruleOut,
 use Rattle.scheme.specs.Laws.Cause.{outside-false, first-cause, second-cause, declined, answered, cond-true, cond-false, first-none, second-none, test-none}
 use Rattle.scheme.specs.Laws.Judged.{accepted-cause}
 use Rattle.scheme.specs.Laws.Sound.{accepted-sound}
-use Rattle.rows.specs.Laws.Entries.{lower-is, upper-is}
+use Rattle.gathering.specs.Laws.Entries.{lower-is, upper-is}
 use Rattle.scheme.specs.Laws.Tables.{any-false}
 use Rattle.step.specs.declared.StepAnswer.{StepAnswer}
 use Rattle.step.specs.Lists.{at, Agree}

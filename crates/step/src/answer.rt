@@ -2,7 +2,7 @@
 use crate::StepAnswer;
 use crate::step::step;
 use order::arrange;
-use rows::gathering::gather;
+use gathering::gather;
 use scheme::Scheme;
 ghost use mathlib.Core.Path.{_≡_};
 ghost use Prim.Native.Nat.{_≤_};
@@ -32,7 +32,7 @@ fn payoff_out(payoff: &[u64; 32], classes: u8) -> bool
 fn cause(scheme: Scheme, payoff: [u64; 32], class: u64) -> u8
     ensures { λ r. ⌜ r ≡ stepCause scheme payoff class ⌝ }
 {
-    let number = scheme::cause(scheme);
+    let number = acceptance::cause(scheme);
     if number != 0 {
         return number;
     }

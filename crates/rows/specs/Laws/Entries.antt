@@ -25,7 +25,9 @@ use Rattle.scheme.specs.Cause.{outside, causeOf, orElse, classCause}
 use Rattle.scheme.specs.Laws.Cause.{outside-false, first-cause, second-cause, declined, answered, cond-true, cond-false}
 use Rattle.scheme.specs.Laws.Judged.{accepted-cause}
 use Rattle.scheme.specs.Rows.{cellsOf, chainOf}
-use Rattle.rows.specs.Rows.{gathered, entriesOf, rowCause, rowRefused, rowAt, rowAnswer, rowFrom}
+use Rattle.gathering.specs.Gathered.{gathered}
+use Rattle.gathering.specs.Laws.Entries.{lower-is, upper-is}
+use Rattle.rows.specs.Rows.{entriesOf, rowCause, rowRefused, rowAt, rowAnswer, rowFrom}
 use Rattle.scheme.specs.Laws.Sound.{accepted-cells}
 use Rattle.scheme.specs.Laws.Tab.{length-tab, getD-tab, as-tab, tab-eq}
 
@@ -66,81 +68,16 @@ entries-joined rules ends classes g h e =
         ∙ sym (onlyIf-true (ltb j classes) (gathered rules ends j) (lt-ltb j classes k))
     at j l (no k) = beyond j l (omega arith) ∙ sym (onlyIf-false (ltb j classes) (gathered rules ends j) (le-ltb j classes (omega arith)))
 
--- a rule is class j + 1 exactly where its target is state j
-same-test : (rule j : ℕ) → 1 ≤ rule → eqb rule (suc j) ≡ eqb (rule - 1) j
-same-test rule j h = by (ℕ-discrete rule (suc j))
-  where
-    by : Dec (rule ≡ suc j) → eqb rule (suc j) ≡ eqb (rule - 1) j
-    by (yes e) = eq-eqb rule (suc j) e ∙ sym (eq-eqb (rule - 1) j (omega arith))
-    by (no d) = ne-eqb rule (suc j) d ∙ sym (ne-eqb (rule - 1) j (λ e. d (omega arith)))
-
--- a part of the rules and of the bands' ends, read where they stand
-gathered-part : (rules ends : List ℕ) (columns from j : ℕ)
-    → gathered (take columns (drop from rules)) (take columns ends) j
-    ≡ min ONE (sumTo columns (λ k. onlyIf (eqb (getD rules (from + k) 0) (suc j)) (getD ends k 0)))
-gathered-part rules ends columns from j =
-    ap (min ONE) (same ∙ sym longer)
-  where
-    part : List ℕ
-    part = take columns (drop from rules)
-
-    count : ℕ
-    count = min (length part) (length (take columns ends))
-
-    term : ℕ → ℕ
-    term k = onlyIf (eqb (getD rules (from + k) 0) (suc j)) (getD ends k 0)
-
-    within : count ≤ columns
-    within = le-trans (min-le-right (length part) (length (take columns ends))) (omega (arith, length-take columns ends))
-
-    same : sumTo count (λ k. onlyIf (eqb (getD part k 0) (suc j)) (getD (take columns ends) k 0)) ≡ sumTo count term
-    same =
-        sumTo-eq count (λ k. onlyIf (eqb (getD part k 0) (suc j)) (getD (take columns ends) k 0)) term
-        (λ k l.
-        ap₂ (λ x y. onlyIf (eqb x (suc j)) y)
-        (getD-take columns (drop from rules) k 0 (omega (arith, within)) ∙ getD-drop from rules k 0)
-        (getD-take columns ends k 0 (omega (arith, within))))
-
-    nothing-there : (k : ℕ) → count ≤ k → k < columns → term k ≡ 0
-    nothing-there k l g = by (decLt k (length (take columns ends)))
-      where
-        by : Dec (k < length (take columns ends)) → term k ≡ 0
-        by (yes m) =
-            onlyIf-false (eqb (getD rules (from + k) 0) (suc j)) (getD ends k 0)
-            (ne-eqb (getD rules (from + k) 0) (suc j)
-            (λ e. omega (arith, e, List·getD-eq-default rules 0 {n = from + k} (omega (arith, length-take columns (drop from rules), length-drop from rules)))))
-        by (no m) =
-            ap (λ x. onlyIf (eqb (getD rules (from + k) 0) (suc j)) x)
-            (List·getD-eq-default ends 0 {n = k} (omega (arith, length-take columns ends)))
-            ∙ onlyIf-zero (eqb (getD rules (from + k) 0) (suc j))
-
-    longer : sumTo columns term ≡ sumTo count term
-    longer = sumTo-longer count columns term within nothing-there
-
--- for an accepted scheme the entries are those of its interval row
+-- for an accepted scheme they are those of its interval row
 module _ (s : Scheme) (ok : Accepted s) (i : ℕ) (l : i < s .classes) where
-  into : (band : ℕ → ℕ) (j : ℕ) → sumTo (s .columns) (λ k. onlyIf (eqb (ruleAt s i k) (suc j)) (band k)) ≡ sumInto (cellsOf s i) band j
-  into band j =
-      sumTo-eq (s .columns) (λ k. onlyIf (eqb (ruleAt s i k) (suc j)) (band k)) (λ k. onlyIf (eqb (ruleAt s i k - 1) j) (band k))
-      (λ k g. ap (λ b. onlyIf b (band k)) (same-test (ruleAt s i k) j (ok .rules .positive i k l g)))
-
-  pub lower-is : (j : ℕ) → gathered (take (s .columns) (drop (i * 8) (s .rules))) (take (s .columns) (s .lowers)) j ≡ chainOf s .row i .lower j
-  lower-is j =
-      gathered-part (s .rules) (s .lowers) (s .columns) (i * 8) j
-      ∙ ap (min ONE) (into (lowerAt s i) j)
-      ∙ omega (arith, into-all (s .classes) (cellsOf s i) (accepted-cells s ok i l) j, ok .sums .lowers i l)
-
-  pub upper-is : (j : ℕ) → gathered (take (s .columns) (drop (i * 8) (s .rules))) (take (s .columns) (s .uppers)) j ≡ chainOf s .row i .upper j
-  upper-is j = gathered-part (s .rules) (s .uppers) (s .columns) (i * 8) j ∙ ap (min ONE) (into (upperAt s i) j)
-
   pub row-is : rowFrom (s .rules) (s .lowers) (s .uppers) (s .columns) (s .classes) i ≡ rowAt s i
   unfolding rowAt entriesOf
   row-is =
       λ k.
       record {
         number = 0;
-        lower = tab-eq 0 32 _ _ (λ j g. ap (onlyIf (ltb j (s .classes))) (lower-is j)) k;
-        upper = tab-eq 0 32 _ _ (λ j g. ap (onlyIf (ltb j (s .classes))) (upper-is j)) k;
+        lower = tab-eq 0 32 _ _ (λ j g. ap (onlyIf (ltb j (s .classes))) (lower-is s ok i l j)) k;
+        upper = tab-eq 0 32 _ _ (λ j g. ap (onlyIf (ltb j (s .classes))) (upper-is s ok i l j)) k;
       }
 
 -- the code's parts of the rules run from i * 8 to i * 8 + columns

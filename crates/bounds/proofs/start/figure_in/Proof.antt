@@ -8,7 +8,7 @@ use lib.Seq.{length-take-le}
 use Rattle.bounds.proofs.Forming.{zeros}
 use Rattle.bounds.proofs.Starting.{order-fits, order-size, start-runs, start-is}
 use borrow.Author.Needs.{needs}
-use Rattle.order.specs.Laws.Arranging.{state-of}
+use Rattle.states.specs.Laws.Numbers.{state-of}
 use Rattle.bounds.proofs.start.figure_in.Statement.{statement}
 use Rattle.bounds.proofs.start.figure_in.Tie as tie
 

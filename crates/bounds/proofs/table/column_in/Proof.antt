@@ -7,7 +7,7 @@ use Rattle.bounds.proofs.Forming.{zeros}
 use Rattle.bounds.proofs.Starting.{order-fits, order-size}
 use Rattle.bounds.proofs.Tabling.{column-tracks, column-tracked}
 use borrow.Author.Needs.{needs}
-use Rattle.order.specs.Laws.Arranging.{state-of}
+use Rattle.states.specs.Laws.Numbers.{state-of}
 use Rattle.bounds.proofs.table.column_in.Statement.{statement}
 use Rattle.bounds.proofs.table.column_in.Tie as tie
 

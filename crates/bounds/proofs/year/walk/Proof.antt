@@ -6,7 +6,7 @@ use native.Mathlib.Omega.{arith}
 use lib.ListN.{length}
 use Rattle.step.specs.Lists.{at}
 use Rattle.bounds.proofs.Passing.{Passing, passing-none, state-inside, list-short, pass-gives, passing-more, passing-all}
-use Rattle.order.specs.Laws.Arranging.{state-of}
+use Rattle.states.specs.Laws.Numbers.{state-of}
 use Rattle.bounds.proofs.year.walk.Statement.{statement}
 use Rattle.bounds.proofs.year.walk.Tie as tie
 

@@ -1,0 +1,75 @@
+-- `band_out` meets its contract: no column before k has a bad band.
+use Prim.Native.Nat.{_≤_, _-_}
+use mathlib.Core.Path.{_≡_, sym, _∙_}
+use mathlib.Core.Bool.{false}
+use native.Mathlib.Omega.{arith}
+use lib.ListN.{getD}
+use Rattle.scheme.specs.Tables.{anyBelow}
+use Rattle.scheme.specs.Cause.{bandTest}
+use Rattle.scheme.specs.Laws.Tables.{any-none, any-more, any-hit, any-end}
+use Rattle.acceptance.proofs.tests.band_out.Statement.{statement}
+use Rattle.acceptance.proofs.tests.band_out.Tie as tie
+
+abbrev Inv-loop : tie.InvT-loop
+Inv-loop lowers uppers columns n k₀ k = (k ≤ n) × (anyBelow k (λ j. bandTest (getD lowers j 0) (getD uppers j 0)) ≡ false)
+
+abbrev μ-loop : tie.MeasureT-loop
+μ-loop lowers uppers columns n k₀ k = n - k
+
+loop-holds : tie.Need-loop-holds Inv-loop μ-loop
+loop-holds c = (omega arith, any-none _)
+
+mul-band-bad : tie.Need-mul-band-bad Inv-loop μ-loop
+mul-band-bad c = omega arith
+
+element-copy-out-band-bad : tie.Need-element-copy-out-band-bad Inv-loop μ-loop
+element-copy-out-band-bad c = omega arith
+
+mul-band-bad-2 : tie.Need-mul-band-bad-2 Inv-loop μ-loop
+mul-band-bad-2 c = omega arith
+
+element-copy-out-band-bad-2 : tie.Need-element-copy-out-band-bad-2 Inv-loop μ-loop
+element-copy-out-band-bad-2 c = omega arith
+
+band-bad-requires : tie.Need-band-bad-requires Inv-loop μ-loop
+band-bad-requires c κs = tt
+
+returns : tie.Need-returns Inv-loop μ-loop
+returns c =
+    sym
+    (any-hit _ (c .before .before .before .before .before .loop .k) _ (omega arith)
+    (sym (c .before .band-bad .ensures) ∙ c .if1 .taken))
+
+add-k : tie.Need-add-k Inv-loop μ-loop
+add-k c = omega arith
+
+loop-less : tie.Need-loop-less Inv-loop μ-loop
+loop-less c = omega arith
+
+loop-again : tie.Need-loop-again Inv-loop μ-loop
+loop-again c = (
+  omega arith,
+  any-more _ _ (c .before .before .before .before .before .loop .inv .1)
+      (sym (c .before .band-bad .ensures) ∙ c .if1 .left),
+)
+
+returns-2 : tie.Need-returns-2 Inv-loop μ-loop
+returns-2 c = any-end _ _ _ (omega arith) (c .before .loop .inv .1)
+
+pub band-out-spec : {M : Type 1} → statement M
+band-out-spec =
+    tie.close
+    (tie.spec
+    Inv-loop
+    μ-loop
+    loop-holds
+    mul-band-bad
+    element-copy-out-band-bad
+    mul-band-bad-2
+    element-copy-out-band-bad-2
+    band-bad-requires
+    returns
+    add-k
+    loop-less
+    loop-again
+    returns-2)

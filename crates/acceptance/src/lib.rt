@@ -1,0 +1,28 @@
+// The acceptance of a scheme (document 01, "When a call is declined").
+use scheme::Scheme;
+use scheme::or_else;
+ghost use mathlib.Core.Path.{_≡_};
+ghost use Rattle.scheme.specs.Cause.{causeOf};
+
+mod tests;
+
+// The first cause that applies to the scheme, tests in number order, or 0.
+pub fn cause(scheme: Scheme) -> u8
+    ensures { λ r. ⌜ r ≡ causeOf scheme ⌝ }
+{
+    let classes = scheme.classes;
+    let columns = scheme.columns;
+    let form = tests::form_cause(classes, columns, scheme.start, scheme.horizon);
+    if form != 0 {
+        return form;
+    }
+    let rules = scheme.rules;
+    let lowers = scheme.lowers;
+    let uppers = scheme.uppers;
+    let premiums = scheme.premiums;
+    let leads = tests::rule_cause(&rules, classes, columns);
+    let bands = tests::band_cause(&lowers, &uppers, columns);
+    let money = tests::premium_cause(&premiums, classes);
+    let later = or_else(bands, money);
+    or_else(leads, later)
+}
