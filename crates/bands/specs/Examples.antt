@@ -1,4 +1,4 @@
--- A rule row and the bands of example A of document 01 ("Sheet program and examples"), computed by the definitions.
+-- The bands of example A of document 01 ("Sheet program and examples"), computed by the definitions.
 use mathlib.Core.Path.{_≡_, refl}
 use mathlib.Core.List.{[], _∷_}
 use Rattle.setchain.specs.Sums.{sumTo}
@@ -10,11 +10,6 @@ use Rattle.record.specs.Read.{frameCause}
 use Rattle.record.specs.Examples.{exampleA}
 use Rattle.bands.specs.declared.Band.the-variants.{Ends, NoMore}
 use Rattle.bands.specs.Reader.{bandAt, openPart, answers, handedOut, endsOf}
-use Rattle.bands.specs.RuleRow.{ruleRow}
-
-pub row-a : ruleRow exampleA 2 ≡ 1 ∷ 2 ∷ 2 ∷ []
-unfolding ruleRow frameCause beAt schemeOf upTo tab causeWhere sizeOut startOut horizonOut ruleOut bandOut sumOut premiumOut anyBelow sumTo
-row-a = refl
 
 -- the first 5 answers of a reader over it
 pub bands-a : answers (openPart exampleA) 5 0 ≡ Ends 800000000 900000000 ∷ Ends 100000000 200000000 ∷ Ends 0 50000000 ∷ NoMore ∷ NoMore ∷ []

@@ -1,8 +1,7 @@
-// What stands in a record: the rule row of a class, and the band reader, which hands out the bands in order.
+// The bands that stand in a record: that of a column, and the band reader, which hands them out in order.
 ghost use mathlib.Core.Path.{_≡_};
 ghost use Prim.Native.Nat.{_<_};
 ghost use Rattle.record.specs.Read.{readCause};
-ghost use Rattle.bands.specs.RuleRow.{rowCause, ruleRow};
 ghost use Rattle.bands.specs.Reader.{stored, handedOut, bandAt, afterAt, openPart};
 
 // a byte as a count
@@ -10,32 +9,6 @@ fn count(x: u8) -> usize
     ensures { λ r. ⌜ (r ≡ x) × (r < 256) ⌝ }
 {
     x as usize
-}
-
-// the first cause of a rule row, or 0
-fn row_cause(bytes: &[u8], class: u64) -> u8
-    ensures { λ r. ⌜ r ≡ rowCause (now (bytes .entry)) class ⌝ }
-{
-    let number = record::cause(bytes);
-    if number != 0 {
-        return number;
-    }
-    if scheme::class_out(bytes[3], class) {
-        return scheme::CLASS_OUT;
-    }
-    0
-}
-
-// The rule row of a class: the part of the record that holds it, or an empty part for every cause.
-pub fn rule_row(bytes: &[u8], class: u64) -> &[u8]
-    ensures { λ r. ⌜ now r ≡ ruleRow (now (bytes .entry)) class ⌝ }
-{
-    if row_cause(bytes, class) != 0 {
-        return &bytes[0..0];
-    }
-    let columns = count(bytes[4]);
-    let start = 7 + ((class - 1) as usize) * columns;
-    &bytes[start..start + columns]
 }
 
 // What a reader answers: the lower and upper end of the next band, or that there is no more.

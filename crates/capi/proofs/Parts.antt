@@ -13,8 +13,8 @@ use Rattle.scheme.specs.Cause.{outside}
 use Rattle.scheme.specs.Laws.Cause.{first-cause, second-cause, declined, answered}
 use Rattle.record.specs.Layout.{version1, rowPlace, classesIn, columnsIn}
 use Rattle.record.specs.Read.{readCause}
-use Rattle.bands.specs.RuleRow.{rowCause, ruleRow}
-use Rattle.bands.specs.Laws.RuleRow.{row-read, row-framed, row-within}
+use Rattle.rule_rows.specs.RuleRow.{rowCause, ruleRow}
+use Rattle.rule_rows.specs.Laws.{row-read, row-framed, row-within}
 use Rattle.capi.specs.Buffers.{bufferCause, filledWhere}
 use Rattle.capi.specs.Rows.{partNumber, ruleRowNumber}
 use Rattle.capi.proofs.Putting.{buffer-out, buffer-fits, thirteen}

@@ -12,7 +12,7 @@ use Rattle.scheme.specs.Cause.{orElse}
 use Rattle.rows.specs.Rows.{rowAnswer}
 use Rattle.record.specs.Layout.{version1, schemeIn, columnsIn}
 use Rattle.record.specs.Read.{readCause}
-use Rattle.bands.specs.RuleRow.{rowCause}
+use Rattle.rule_rows.specs.RuleRow.{rowCause}
 use Rattle.capi.specs.Buffers.{bufferCause, buffersCause}
 
 -- a row into two buffers: its cause, then 13 where one of them is not of 32 numbers

@@ -4,7 +4,7 @@ ghost use mathlib.Core.Bool.{false, true};
 ghost use lib.ListN.{getD};
 ghost use Rattle.scheme.specs.Cause.{orElse};
 ghost use Rattle.record.specs.Read.{readCause};
-ghost use Rattle.bands.specs.RuleRow.{ruleRow};
+ghost use Rattle.rule_rows.specs.RuleRow.{ruleRow};
 ghost use Rattle.record.specs.Write.{writeLeaves};
 ghost use Rattle.ready.specs.Answer.{readyAnswer};
 ghost use Rattle.record.specs.Layout.{schemeIn, version1};
@@ -205,7 +205,7 @@ pub extern "C" fn joguyvi_rule_row(bytes: &[u8], class: u64, out: &mut [u8]) -> 
     if number != 0 {
         return number;
     }
-    row_buffers::put_part(bands::rule_row(bytes, class), out)
+    row_buffers::put_part(rule_rows::rule_row(bytes, class), out)
 }
 
 // The bands of all columns, in parts, into two buffers of as many numbers as there are columns.

@@ -242,7 +242,7 @@ fn shown(word: &[u8], part: &[u8]) {
 
 // The rule row of a class.
 fn rules(word: &[u8], bytes: &[u8], class: u64) {
-    shown(word, bands::rule_row(bytes, class));
+    shown(word, rule_rows::rule_row(bytes, class));
 }
 
 // Example A written into too few bytes and into more than enough.

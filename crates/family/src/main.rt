@@ -126,7 +126,7 @@ fn answer(b: Bounds) {
 fn rules(bytes: &[u8], class: u64) {
     console::bytes(b"RULES");
     console::number(class);
-    let part = bands::rule_row(bytes, class);
+    let part = rule_rows::rule_row(bytes, class);
     hex(part, part.len());
     console::end();
 }

@@ -2,7 +2,7 @@
 use mathlib.Core.Path.{ap}
 use Prim.Native.Nat.{_+_}
 use native.Mathlib.Omega.{arith}
-use Rattle.bands.specs.Laws.Reader.{after-within}
+use Rattle.bands.specs.Laws.{after-within}
 use borrow.Author.Needs.{needs}
 use Rattle.bands.proofs.after.Statement.{statement}
 use Rattle.bands.proofs.after.Tie as tie

@@ -8,7 +8,7 @@ use borrow.Author.Tests.{not-true, not-false}
 use Rattle.bands.specs.Reader.{stored}
 use Rattle.record.specs.Laws.Read.{read-framed}
 use Rattle.numbers.specs.Laws.{read-held}
-use Rattle.bands.specs.Laws.Reader.{stored-read, band-within, answer-none, answer-ends}
+use Rattle.bands.specs.Laws.{stored-read, band-within, answer-none, answer-ends}
 use borrow.Author.Needs.{needs}
 use Rattle.bands.proofs.band_at.Statement.{statement}
 use Rattle.bands.proofs.band_at.Tie as tie

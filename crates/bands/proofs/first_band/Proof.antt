@@ -47,7 +47,7 @@ use denote.Triple.Clauses.{ensured, lasts}
 use denote.Exit.{yes}
 use Rattle.record.specs.Read.{readCause}
 use Rattle.bands.specs.Reader.{bandAt, afterAt, openPart}
-use Rattle.bands.specs.Laws.Reader.{part-answer}
+use Rattle.bands.specs.Laws.{part-answer}
 use Rattle.bands.specs.declared.Band.{Band}
 use Rattle.bands.specs.declared.Reader.{Reader}
 use Rattle.bands.specs.declared.Opened.{Opened}

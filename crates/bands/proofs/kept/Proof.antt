@@ -1,6 +1,6 @@
 -- `kept` meets its contract: an empty part, or the bytes.
 use mathlib.Core.Path.{refl, _∙_}
-use Rattle.bands.specs.Laws.Reader.{part-accepted, part-declined}
+use Rattle.bands.specs.Laws.{part-accepted, part-declined}
 use borrow.Author.Needs.{needs}
 use Rattle.bands.proofs.kept.Statement.{statement}
 use Rattle.bands.proofs.kept.Tie as tie

@@ -2,7 +2,7 @@
 use mathlib.Core.Path.{sym, _∙_}
 use native.Mathlib.Omega.{arith}
 use Rattle.record.specs.Laws.Read.{read-framed}
-use Rattle.bands.specs.Laws.Reader.{stored-declined, stored-accepted}
+use Rattle.bands.specs.Laws.{stored-declined, stored-accepted}
 use borrow.Author.Needs.{needs}
 use Rattle.bands.proofs.stored.Statement.{statement}
 use Rattle.bands.proofs.stored.Tie as tie

@@ -3,11 +3,11 @@ use Prim.Native.Nat.{_+_, _*_, _-_, _<_}
 use mathlib.Core.Path.{_≡_, sym, _∙_}
 use native.Mathlib.Omega.{arith}
 use lib.ListN.{length}
-use Rattle.bands.specs.RuleRow.{rowCause}
-use Rattle.bands.specs.Laws.RuleRow.{row-empty, row-framed, row-class, row-within, row-shown}
+use Rattle.rule_rows.specs.RuleRow.{rowCause}
+use Rattle.rule_rows.specs.Laws.{row-empty, row-framed, row-class, row-within, row-shown}
 use borrow.Author.Needs.{needs}
-use Rattle.bands.proofs.rule_row.Statement.{statement}
-use Rattle.bands.proofs.rule_row.Tie as tie
+use Rattle.rule_rows.proofs.rule_row.Statement.{statement}
+use Rattle.rule_rows.proofs.rule_row.Tie as tie
 
 row-cause-requires : tie.Need-row-cause-requires
 row-cause-requires c κs = search needs

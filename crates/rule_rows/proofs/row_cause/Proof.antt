@@ -4,10 +4,10 @@ use mathlib.Core.Bool.{cond}
 use native.Mathlib.Omega.{arith}
 use Rattle.record.specs.Read.{readCause}
 use Rattle.record.specs.Laws.Read.{read-framed}
-use Rattle.bands.specs.Laws.RuleRow.{row-read, row-next}
+use Rattle.rule_rows.specs.Laws.{row-read, row-next}
 use borrow.Author.Needs.{needs}
-use Rattle.bands.proofs.row_cause.Statement.{statement}
-use Rattle.bands.proofs.row_cause.Tie as tie
+use Rattle.rule_rows.proofs.row_cause.Statement.{statement}
+use Rattle.rule_rows.proofs.row_cause.Tie as tie
 
 cause-requires : tie.Need-cause-requires
 cause-requires c κs = search needs

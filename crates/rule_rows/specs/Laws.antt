@@ -13,7 +13,7 @@ use Rattle.record.specs.Layout.{classesIn, columnsIn}
 use Rattle.record.specs.Frame.{Framed}
 use Rattle.record.specs.Read.{readCause}
 use Rattle.record.specs.Laws.Read.{read-framed}
-use Rattle.bands.specs.RuleRow.{rowCause, ruleRow}
+use Rattle.rule_rows.specs.RuleRow.{rowCause, ruleRow}
 
 -- no cause in the number of a class
 pub class-fits : (s class : ℕ) → _≡_ {A = ℕ} (cond (outside s class) 11 0) 0 → (1 ≤ class) × (class ≤ s)
