@@ -3,9 +3,9 @@
 use bands::Band;
 use bounds::Bounds;
 use console::Got;
-use record::WriteAnswer;
 use scheme::Scheme;
 use sheet_text::SheetAnswer;
+use writing::WriteAnswer;
 
 // The most bytes of a record, and five more.
 const ROOM: usize = 460;
@@ -162,7 +162,7 @@ fn bands(bytes: &[u8], count: u8) {
 fn write_into(scheme: Scheme, out: &mut [u8]) {
     console::bytes(b"WRITE");
     console::number(out.len() as u64);
-    match record::write(scheme, out) {
+    match writing::write(scheme, out) {
         WriteAnswer::Written(length) => {
             console::bytes(b" OK");
             console::number(length as u64);
@@ -471,7 +471,7 @@ fn ready(number: u64, base: u64) {
 // The record of a scheme, and its length before it.
 fn record_of(scheme: Scheme) {
     let mut out = [0u8; 455];
-    match record::write(scheme, &mut out) {
+    match writing::write(scheme, &mut out) {
         WriteAnswer::Written(length) => {
             console::bytes(b" OK");
             console::number(length as u64);
