@@ -411,15 +411,23 @@ fn sheets(scheme: Scheme) {
     sheet_into(scheme, 0, s, s + 1);
 }
 
-// The length and checksum of the sheet's text.
+// The length and checksum of a sheet, and a short one whole.
+fn show(sheet: &[u8], length: usize) {
+    console::bytes(b"SHEET");
+    console::number(length as u64);
+    console::number(checksum(sheet, length));
+    console::end();
+    if length <= 1000 {
+        console::part(sheet, length);
+    }
+}
+
+// The sheet's text.
 fn text(bytes: &[u8]) {
     let mut out = [0u8; 132_862];
     match sheet_text::sheet(bytes, &mut out) {
         SheetAnswer::Written(length) => {
-            console::bytes(b"SHEET");
-            console::number(length as u64);
-            console::number(checksum(&out, length));
-            console::end();
+            show(&out, length);
         }
         SheetAnswer::Declined(_) => {
             console::complain(b"family: no room for the text\n");
