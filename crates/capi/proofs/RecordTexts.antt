@@ -6,12 +6,13 @@ use mathlib.Core.Bool.{Bool, true, false, cond}
 use mathlib.Core.List.{List, _++_}
 use lib.Dec.{ltb}
 use lib.ListN.{length, drop}
-use Rattle.record.specs.Laws.Write.{answer-number}
+use Rattle.writing.specs.Laws.Write.{answer-number}
 use Rattle.scheme.specs.declared.Scheme.{Scheme}
 use Rattle.scheme.specs.Cause.{orElse, causeOf}
 use Rattle.scheme.specs.Laws.Cause.{first-cause, second-cause, declined}
-use Rattle.record.specs.Layout.{version1, bytesOf}
-use Rattle.record.specs.Write.{numberOf, valueOf, recordLength, writeCause, writeAnswer, writeLeaves}
+use Rattle.record.specs.Layout.{version1}
+use Rattle.writing.specs.Bytes.{bytesOf}
+use Rattle.writing.specs.Write.{numberOf, valueOf, recordLength, writeCause, writeAnswer, writeLeaves}
 use Rattle.capi.specs.Records.{recordNumber}
 use Rattle.capi.proofs.Texting.{Texted, unfilled}
 

@@ -5,7 +5,7 @@ ghost use lib.ListN.{getD};
 ghost use Rattle.scheme.specs.Cause.{orElse};
 ghost use Rattle.record.specs.Read.{readCause};
 ghost use Rattle.rule_rows.specs.RuleRow.{ruleRow};
-ghost use Rattle.record.specs.Write.{writeLeaves};
+ghost use Rattle.writing.specs.Write.{writeLeaves};
 ghost use Rattle.ready.specs.Answer.{readyAnswer};
 ghost use Rattle.record.specs.Layout.{schemeIn, version1};
 ghost use Rattle.answers.specs.Answers.{highShares, lowShares, meanAnswer, shareAnswer, totalAnswer};

@@ -1,9 +1,9 @@
 // A scheme put into a lent buffer as a record.
-use record::WriteAnswer;
 use scheme::Scheme;
+use writing::WriteAnswer;
 ghost use mathlib.Core.Path.{_≡_};
 ghost use Rattle.scheme.specs.Cause.{causeOf};
-ghost use Rattle.record.specs.Write.{numberOf, valueOf, writeLeaves};
+ghost use Rattle.writing.specs.Write.{numberOf, valueOf, writeLeaves};
 ghost use Rattle.capi.specs.Buffers.{filledWhere};
 ghost use Rattle.capi.specs.Records.{recordLength, recordNumber};
 
@@ -37,7 +37,7 @@ pub fn put_record(scheme: Scheme, out: &mut [u8], length: &mut [u64]) -> u8
     if length.len() != 1 {
         return scheme::SLICE_OUT;
     }
-    let answer = record::write(scheme, out);
+    let answer = writing::write(scheme, out);
     let number = number_of(answer);
     if number != 0 {
         return number;

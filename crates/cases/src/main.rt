@@ -1,7 +1,7 @@
 // Prints document 01's examples that programs check, and every refusal number at least once; the gate compares the lines.
 use bounds::Bounds;
-use record::WriteAnswer;
 use scheme::Scheme;
+use writing::WriteAnswer;
 
 // A word and a number.
 fn line(word: &[u8], x: u64) {
@@ -248,10 +248,10 @@ fn rules(word: &[u8], bytes: &[u8], class: u64) {
 // Example A written into too few bytes and into more than enough.
 fn written(s: Scheme) {
     let mut short = [170u8; 44];
-    wrote(b"WRITE INTO 44", record::write(s, &mut short));
+    wrote(b"WRITE INTO 44", writing::write(s, &mut short));
     shown(b"LEFT", &short);
     let mut out = [170u8; 50];
-    wrote(b"WRITE INTO 50", record::write(s, &mut out));
+    wrote(b"WRITE INTO 50", writing::write(s, &mut out));
     shown(b"RECORD AND WHAT IS PAST IT", &out);
 }
 

@@ -3,9 +3,9 @@
 use bands::Band;
 use bounds::Bounds;
 use console::Got;
-use record::WriteAnswer;
 use scheme::Scheme;
 use sheet_text::SheetAnswer;
+use writing::WriteAnswer;
 
 // The most bytes of a record, and five more.
 const ROOM: usize = 460;
@@ -162,7 +162,7 @@ fn bands(bytes: &[u8], count: u8) {
 fn write_into(scheme: Scheme, out: &mut [u8]) {
     console::bytes(b"WRITE");
     console::number(out.len() as u64);
-    match record::write(scheme, out) {
+    match writing::write(scheme, out) {
         WriteAnswer::Written(length) => {
             console::bytes(b" OK");
             console::number(length as u64);
@@ -411,15 +411,23 @@ fn sheets(scheme: Scheme) {
     sheet_into(scheme, 0, s, s + 1);
 }
 
-// The length and checksum of the sheet's text.
+// The length and checksum of a sheet, and a short one whole.
+fn show(sheet: &[u8], length: usize) {
+    console::bytes(b"SHEET");
+    console::number(length as u64);
+    console::number(checksum(sheet, length));
+    console::end();
+    if length <= 1000 {
+        console::part(sheet, length);
+    }
+}
+
+// The sheet's text.
 fn text(bytes: &[u8]) {
     let mut out = [0u8; 132_862];
     match sheet_text::sheet(bytes, &mut out) {
         SheetAnswer::Written(length) => {
-            console::bytes(b"SHEET");
-            console::number(length as u64);
-            console::number(checksum(&out, length));
-            console::end();
+            show(&out, length);
         }
         SheetAnswer::Declined(_) => {
             console::complain(b"family: no room for the text\n");
@@ -471,7 +479,7 @@ fn ready(number: u64, base: u64) {
 // The record of a scheme, and its length before it.
 fn record_of(scheme: Scheme) {
     let mut out = [0u8; 455];
-    match record::write(scheme, &mut out) {
+    match writing::write(scheme, &mut out) {
         WriteAnswer::Written(length) => {
             console::bytes(b" OK");
             console::number(length as u64);

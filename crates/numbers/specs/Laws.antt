@@ -1,7 +1,7 @@
--- Read-after-put and put-after-read of numbers in bytes, over any width; and what is read and left by whether the bytes hold the number.
+-- Read-after-put and put-after-read of numbers in bytes, over any width; bytes that are copied; and what is read and left by whether the bytes hold it.
 use Prim.Native.Nat.{ℕ, zero, suc, _+_, _*_, _/_, _%_, _-_, _^_, _≤_, _<_}
 use mathlib.Core.Path.{_≡_, refl, ap, sym}
-use mathlib.Core.Bool.{false}
+use mathlib.Core.Bool.{Bool, true, false, cond, _&&_}
 use mathlib.Core.List.{List, [], _∷_, _++_}
 use native.Mathlib.Decide.{decLe}
 use native.Mathlib.Omega.{arith}
@@ -9,9 +9,9 @@ use native.Mathlib.Nat.{add-zero}
 use native.Mathlib.Numerals.{add-one, add-two, add-three}
 use lib.Dec.{leb}
 use lib.ListN.{length, getD, take, drop, set, length-append, length-drop, List·getD-append}
-use lib.Seq.{sets, getD-at, getD-drop, take-suc}
+use lib.Seq.{sets, getD-at, getD-drop, take-suc, length-take-le}
 use borrow.Author.Tests.{le-leb, lt-leb}
-use Rattle.numbers.specs.Numbers.{beAt, beBytes, holds, numberAt, numberPut}
+use Rattle.numbers.specs.Numbers.{beAt, beBytes, holds, numberAt, numberPut, partPut}
 
 -- a number's bytes are as many as its width
 pub length-beBytes : (w x : ℕ) → length (beBytes w x) ≡ w
@@ -103,3 +103,41 @@ held-within n p w fits = by (decLe p (n - w))
     by : Dec (p ≤ n - w) → leb p (n - w) ≡ leb (p + w) n
     by (yes h) = rw (le-leb p (n - w) h, le-leb (p + w) n (omega arith))
     by (no h) = rw (lt-leb p (n - w) (omega arith), lt-leb (p + w) n (omega arith))
+
+-- laying one list and then the next is laying both
+pub sets-append : (l : List ℕ) (i : ℕ) (a b : List ℕ) → sets (sets l i a) (i + length a) b ≡ sets l i (a ++ b)
+sets-append l i [] b = let e : i + 0 ≡ i = add-zero i in rw e
+sets-append l i (x ∷ a) b =
+    let e : i + length (x ∷ a) ≡ suc i + length a = omega arith in
+    rw e (sets-append (set l i x) (suc i) a b)
+
+-- one more value at the end of what is laid
+pub sets-more : (l : List ℕ) (i : ℕ) (a : List ℕ) (x : ℕ) → set (sets l i a) (i + length a) x ≡ sets l i (a ++ (x ∷ []))
+sets-more l i a x = sets-append l i a (x ∷ [])
+
+-- one more value of a part that is copied
+pub copy-more : (from : List ℕ) (at : ℕ) (l : List ℕ) (to k : ℕ) → at + k < length from
+    → set (sets l to (take k (drop at from))) (to + k) (getD from (at + k) 0) ≡ sets l to (take (k + 1) (drop at from))
+copy-more from at l to k h =
+    let lt : k < length (drop at from) = rw (length-drop at from) (omega arith) in
+    let size : to + k ≡ to + length (take k (drop at from)) = omega (arith, length-take-le k (drop at from) (omega arith)) in
+    rw (add-one, take-suc (drop at from) k 0 lt, getD-drop at from k 0, size) (sets-more l to (take k (drop at from)) (getD from (at + k) 0))
+
+-- of two tests the second fails
+second-fails : (a b : Bool) (x y : List ℕ) → b ≡ false → y ≡ cond (a && b) x y
+second-fails true b x y e = rw e
+second-fails false b x y e = refl
+
+-- where both slices hold the bytes they are copied, and elsewhere nothing is
+module _ (w : ℕ) (from : List ℕ) (at : ℕ) (out : List ℕ) (to : ℕ) where
+  pub part-held : at + w ≤ length from → to + w ≤ length out → partPut w from at out to ≡ sets out to (take w (drop at from))
+  unfolding partPut
+  part-held fits room = rw (le-leb (at + w) (length from) fits, le-leb (to + w) (length out) room)
+
+  pub part-none : holds w from at ≡ false → out ≡ partPut w from at out to
+  unfolding partPut
+  part-none short = rw short
+
+  pub part-no-room : holds w out to ≡ false → out ≡ partPut w from at out to
+  unfolding partPut
+  part-no-room short = second-fails (holds w from at) (holds w out to) _ out short

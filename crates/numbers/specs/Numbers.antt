@@ -1,9 +1,9 @@
 -- Numbers in bytes, over any width (document 01, "Record": "All numbers big-endian").
 use Prim.Native.Nat.{ℕ, zero, suc, _+_, _*_, _/_, _%_}
-use mathlib.Core.Bool.{Bool, cond}
+use mathlib.Core.Bool.{Bool, cond, _&&_}
 use mathlib.Core.List.{List, [], _∷_, _++_}
 use lib.Dec.{leb}
-use lib.ListN.{length, getD}
+use lib.ListN.{length, getD, take, drop}
 use lib.Seq.{sets}
 
 -- the number that stands in `width` bytes from `place` on
@@ -27,3 +27,7 @@ numberAt width bytes place = cond (holds width bytes place) (beAt width bytes pl
 -- putting: the bytes of x laid there, and the bytes as they were where they do not hold it
 unfoldable pub numberPut : (width : ℕ) → List ℕ → (place : ℕ) → ℕ → List ℕ
 numberPut width bytes place x = cond (holds width bytes place) (sets bytes place (beBytes width x)) bytes
+
+-- copying: `width` bytes from `place` on laid at `to`, and the bytes as they were where either do not hold so many
+unfoldable pub partPut : (width : ℕ) → List ℕ → (place : ℕ) → (out : List ℕ) → (to : ℕ) → List ℕ
+partPut width bytes place out to = cond (holds width bytes place && holds width out to) (sets out to (take width (drop place bytes))) out

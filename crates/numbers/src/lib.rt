@@ -1,8 +1,8 @@
-// Numbers in lent bytes, big-endian: read and put at any place, also where the bytes do not hold them.
+// Numbers in lent bytes, big-endian: read and put at any place, also where the bytes do not hold them; and bytes copied from one slice to another.
 ghost use mathlib.Core.Path.{_≡_};
 ghost use Prim.Native.Nat.{_+_, _%_, _<_};
 ghost use lib.Dec.{leb};
-ghost use Rattle.numbers.specs.Numbers.{numberAt, numberPut};
+ghost use Rattle.numbers.specs.Numbers.{numberAt, numberPut, partPut};
 
 // whether a length holds `width` bytes from place `at` on
 fn holds(length: usize, at: usize, width: usize) -> bool
@@ -79,4 +79,21 @@ pub fn put4(out: &mut [u8], at: usize, x: u32)
     out[at + 1] = low(b);
     out[at + 2] = low(c);
     out[at + 3] = low(x);
+}
+
+// Copies n bytes to place `to`, or leaves the bytes as they were where either slice does not hold so many.
+pub fn copy(from: &[u8], at: usize, out: &mut [u8], to: usize, n: usize)
+    ensures { λ _. ⌜ now (out .exit) ≡ partPut n (now (from .entry)) at (now (out .entry)) to ⌝ }
+{
+    if !holds(from.len(), at, n) {
+        return;
+    }
+    if !holds(out.len(), to, n) {
+        return;
+    }
+    let mut k: usize = 0;
+    while k < n {
+        out[to + k] = from[at + k];
+        k += 1;
+    }
 }

@@ -5,10 +5,8 @@ use mathlib.Core.List.{List, [], _∷_}
 use Rattle.setchain.specs.Sums.{sumTo}
 use Rattle.scheme.specs.Tables.{tab, anyBelow}
 use Rattle.scheme.specs.Cause.{sizeOut, startOut, horizonOut, ruleOut, bandOut, sumOut, premiumOut, causeWhere}
-use Rattle.record.specs.Numbers.{beAt, beBytes}
-use Rattle.record.specs.Joined.{joined}
+use Rattle.record.specs.Numbers.{beAt}
 use Rattle.scheme.specs.Stored.{upTo, schemeOf}
-use Rattle.record.specs.Layout.{version1, schemeIn, headerBytes, bytesOf}
 use Rattle.record.specs.Read.{frameCause, readCause}
 
 -- its record
@@ -24,7 +22,3 @@ exampleA =
 pub read-a : readCause exampleA ≡ 0
 unfolding frameCause beAt schemeOf upTo tab causeWhere sizeOut startOut horizonOut ruleOut bandOut sumOut premiumOut anyBelow sumTo
 read-a = refl
-
-pub bytes-a : bytesOf version1 (schemeIn version1 exampleA) ≡ exampleA
-unfolding bytesOf headerBytes joined beBytes beAt schemeOf upTo tab
-bytes-a = refl

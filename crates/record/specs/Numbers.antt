@@ -1,2 +1,2 @@
 -- Numbers in bytes, as crate numbers defines them.
-unfoldable pub use Rattle.numbers.specs.Numbers.{beAt, beBytes, numberPut}
+unfoldable pub use Rattle.numbers.specs.Numbers.{beAt}

@@ -1,12 +1,10 @@
-// The record of document 01: bytes to a scheme and back, and the cause of any bytes.
+// The record of document 01: its length, the scheme in any bytes, and their cause.
 ghost use mathlib.Core.Path.{_≡_};
 ghost use Rattle.record.specs.Read.{readCause, declinedWith, readAnswer};
-ghost use Rattle.record.specs.Write.{writeAnswer, writeLeaves};
+ghost use Rattle.record.specs.Layout.{version1, lengthOf};
 use scheme::Scheme;
 
-mod parts;
 mod reading;
-mod writing;
 
 // The refusal numbers of document 01, "When a call is declined", that only a record brings.
 pub const VERSION_OUT: u8 = 1;
@@ -19,12 +17,6 @@ pub const LENGTH_OUT: u8 = 4;
 pub struct ReadAnswer {
     pub number: u8,
     pub scheme: Scheme,
-}
-
-// What writing a record answers: the record's length, or the cause.
-pub enum WriteAnswer {
-    Written(usize),
-    Declined(u8),
 }
 
 // The answer of a declined reading.
@@ -71,18 +63,11 @@ pub fn cause(bytes: &[u8]) -> u8
     acceptance::cause(reading::parsed(bytes))
 }
 
-// Writes the record of a scheme into the slice, and leaves bytes past it unchanged; declined, all of them.
-pub fn write(scheme: Scheme, out: &mut [u8]) -> WriteAnswer
-    ensures { λ r. ⌜ (r ≡ writeAnswer scheme (now (out .entry))) × (now (out .exit) ≡ writeLeaves scheme (now (out .entry))) ⌝ }
+// The length of a record of s classes and m columns.
+pub fn length_of(classes: u8, columns: u8) -> usize
+    ensures { λ r. ⌜ r ≡ lengthOf version1 classes columns ⌝ }
 {
-    let number = acceptance::cause(scheme);
-    if number != 0 {
-        return WriteAnswer::Declined(number);
-    }
-    let size = reading::length_of(scheme.classes, scheme.columns);
-    if out.len() < size {
-        return WriteAnswer::Declined(scheme::SLICE_OUT);
-    }
-    writing::whole(scheme, out, size);
-    WriteAnswer::Written(size)
+    let s = classes as usize;
+    let m = columns as usize;
+    7 + s * m + 8 * m + 4 * s
 }

@@ -6,24 +6,15 @@ ghost use Rattle.scheme.specs.Tables.{tab};
 ghost use Rattle.scheme.specs.Cause.{outside};
 ghost use Rattle.record.specs.Numbers.{beAt};
 ghost use Rattle.scheme.specs.Stored.{upTo, rulesUpTo};
-ghost use Rattle.record.specs.Layout.{version1, lengthOf, schemeIn};
+ghost use Rattle.record.specs.Layout.{version1, schemeIn};
 ghost use Rattle.record.specs.Read.{versionCause, fieldCause, sizeCause, lengthCause, frameCause};
 ghost use Rattle.record.specs.Frame.{Framed};
 use super::FIELD_OUT;
 use super::LENGTH_OUT;
 use super::VERSION_OUT;
-use super::parts;
+use super::length_of;
 use scheme::Scheme;
 use scheme::or_else;
-
-// the length of a record of `classes` and `columns`
-pub fn length_of(classes: u8, columns: u8) -> usize
-    ensures { λ r. ⌜ r ≡ lengthOf version1 classes columns ⌝ }
-{
-    let s = parts::count(classes);
-    let m = parts::count(columns);
-    7 + s * m + 8 * m + 4 * s
-}
 
 // x is not one of 1 to max
 fn outside(x: u8, max: u8) -> bool
@@ -108,7 +99,7 @@ fn rules(bytes: &[u8], from: usize, s: usize, m: usize) -> [u8; 256]
     let mut at = from;
     let mut to: usize = 0;
     while i < s {
-        parts::copy(bytes, at, &mut rules, to, m);
+        numbers::copy(bytes, at, &mut rules, to, m);
         at += m;
         to += 8;
         i += 1;
@@ -157,8 +148,8 @@ pub fn parsed(bytes: &[u8]) -> Scheme
     let columns = bytes[4];
     let start = bytes[5];
     let horizon = bytes[6];
-    let s = parts::count(classes);
-    let m = parts::count(columns);
+    let s = classes as usize;
+    let m = columns as usize;
     let bands = 7 + s * m;
     let rules = rules(bytes, 7, s, m);
     let lowers = ends(bytes, bands, m);

@@ -168,6 +168,9 @@ pub fn report_record(out: &mut String, number: u64, record: &[u8]) {
         text.len(),
         checksum(text.iter().copied())
     );
+    if text.len() <= 1000 {
+        out.push_str(std::str::from_utf8(&text).expect("a sheet is text"));
+    }
 }
 
 fn classes(scheme: &Scheme) -> Vec<u64> {

@@ -20,6 +20,6 @@ fn report_is_fixed() {
     assert!(report.ends_with('\n'));
     assert_eq!(
         (report.len(), checksum(report.bytes())),
-        (87336, 2356358182)
+        (93900, 3815134823)
     );
 }

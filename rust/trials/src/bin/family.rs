@@ -45,7 +45,9 @@
 //! Last for each record:
 //!
 //! ```text
-//! SHEET length sum                 length and checksum of the sheet's text
+//! SHEET length sum                 length and checksum of the sheet's text;
+//!                                  after this line the text itself where it
+//!                                  has at most 1,000 bytes
 //! ```
 //!
 //! The kinds of payoff, for class j from 1 to s (beyond s it is 4000000000):

@@ -1,7 +1,7 @@
 -- `put_record` meets its contract: 13 for the buffer of the length, the cause of writing, or the record and its length.
 -- Assumes nothing.
 use mathlib.Core.Path.{ap, _∙_}
-use Rattle.record.specs.Write.{numberOf, valueOf, writeAnswer, writeLeaves}
+use Rattle.writing.specs.Write.{numberOf, valueOf, writeAnswer, writeLeaves}
 use Rattle.capi.proofs.Texting.{text-out, text-declined, text-written}
 use Rattle.capi.proofs.RecordTexts.{write-only, write-left}
 use borrow.Author.Needs.{needs}

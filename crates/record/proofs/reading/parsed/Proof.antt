@@ -1,10 +1,10 @@
 -- `reading::parsed` meets its contract: the parts stand where the layout says.
 use Prim.Native.Nat.{ℕ, _+_, _*_, _≤_}
-use mathlib.Core.Path.{_≡_, ap, sym}
+use mathlib.Core.Path.{_≡_, ap}
 use mathlib.Core.List.{List}
 use native.Mathlib.Omega.{arith}
 use native.Mathlib.Nat.{mul-le-mul}
-use lib.ListN.{length, getD}
+use lib.ListN.{getD}
 use Rattle.scheme.specs.declared.Scheme.{Scheme}
 use Rattle.scheme.specs.Tables.{tab}
 use Rattle.record.specs.Numbers.{beAt}
@@ -17,15 +17,9 @@ use Rattle.record.proofs.reading.parsed.Statement.{statement}
 use Rattle.record.proofs.reading.parsed.Tie as tie
 
 -- where the fields stand, by the record's length
-places : (c : tie.After-count2)
-    → (c .before .count .result * c .count2 .result ≤ 32 * 8)
-    × (7 + c .before .count .result * c .count2 .result + 8 * c .count2 .result + 4 * c .before .count .result
-    ≡ length (c .before .before .before .before .before .before .before .args .bytes .now))
-places c =
-    let framed = c .before .before .before .before .before .before .before .pre in
-    let s : c .before .count .result ≤ 32 = omega arith in
-    let m : c .count2 .result ≤ 8 = omega arith in
-    (mul-le-mul s m, rw (c .before .count .ensures .0, c .count2 .ensures .0) (sym (framed .whole)))
+places : (c : tie.After-shared-slice-known5)
+    → classesIn (c .before .before .before .before .before .args .bytes .now) * columnsIn (c .before .before .before .before .before .args .bytes .now) ≤ 32 * 8
+places c = let framed = c .before .before .before .before .before .pre in mul-le-mul (framed .classes) (framed .columns)
 
 -- an upper end stands 4 bytes past the lower end
 upper-places : (bytes : List ℕ) (p n : ℕ)
@@ -34,16 +28,16 @@ upper-places bytes p n =
     tab-eq 0 8 _ _ (λ k lt. upTo-eq n _ _ (λ j less. let e : p + 4 + j * 8 ≡ p + j * 8 + 4 = omega arith in ap (beAt 4 bytes) e) k)
 
 -- the scheme of the parts that were read
-made : (bytes : List ℕ) {s m : ℕ} {rules lowers uppers premiums : List ℕ} → s ≡ classesIn bytes → m ≡ columnsIn bytes
-    → rules ≡ tab 256 (rulesUpTo s m (λ i k. getD bytes (7 + i * m + k) 0))
-    → lowers ≡ tab 8 (upTo m (λ k. beAt 4 bytes (7 + s * m + k * 8)))
-    → uppers ≡ tab 8 (upTo m (λ k. beAt 4 bytes (7 + s * m + 4 + k * 8)))
-    → premiums ≡ tab 32 (upTo s (λ i. beAt 4 bytes (7 + s * m + m * 8 + i * 4)))
+made : (bytes : List ℕ) {rules lowers uppers premiums : List ℕ}
+    → rules ≡ tab 256 (rulesUpTo (classesIn bytes) (columnsIn bytes) (λ i k. getD bytes (7 + i * columnsIn bytes + k) 0))
+    → lowers ≡ tab 8 (upTo (columnsIn bytes) (λ k. beAt 4 bytes (7 + classesIn bytes * columnsIn bytes + k * 8)))
+    → uppers ≡ tab 8 (upTo (columnsIn bytes) (λ k. beAt 4 bytes (7 + classesIn bytes * columnsIn bytes + 4 + k * 8)))
+    → premiums ≡ tab 32 (upTo (classesIn bytes) (λ i. beAt 4 bytes (7 + classesIn bytes * columnsIn bytes + columnsIn bytes * 8 + i * 4)))
     → _≡_ {A = Scheme}
     record { classes = classesIn bytes; columns = columnsIn bytes; start = getD bytes 5 0; horizon = getD bytes 6 0; rules = rules; lowers = lowers; uppers = uppers; premiums = premiums }
     (schemeIn version1 bytes)
 unfolding schemeOf
-made bytes {s} {m} {rules} {lowers} {uppers} {premiums} es em r l u p = rw (r, l, u, upper-places bytes (7 + s * m) m, p, es, em)
+made bytes r l u p = rw (r, l, u, upper-places bytes (7 + classesIn bytes * columnsIn bytes) (columnsIn bytes), p)
 
 shared-slice-read-classes : tie.Need-shared-slice-read-classes
 shared-slice-read-classes c = search needs
@@ -57,11 +51,11 @@ shared-slice-read-start c = search needs
 shared-slice-read-horizon : tie.Need-shared-slice-read-horizon
 shared-slice-read-horizon c = search needs
 
-count-requires : tie.Need-count-requires
-count-requires c κs = search needs
+cast-s : tie.Need-cast-s
+cast-s c = search needs
 
-count-requires-2 : tie.Need-count-requires-2
-count-requires-2 c κs = search needs
+cast-m : tie.Need-cast-m
+cast-m c = search needs
 
 mul-bands : tie.Need-mul-bands
 mul-bands c = omega (arith, places c)
@@ -92,7 +86,7 @@ premiums-requires c κs = omega (arith, places (c .before .before .before))
 
 returns : tie.Need-returns
 returns c =
-    made _ (c .before .before .before .before .before .count .ensures .0) (c .before .before .before .before .count2 .ensures .0)
+    made (c .before .before .before .before .before .before .before .before .before .args .bytes .now)
     (c .before .before .before .rules .ensures) (c .before .before .ends .ensures) (c .before .ends2 .ensures) (c .premiums .ensures)
 
 pub parsed-spec : {M : Type 1} → statement M
@@ -103,8 +97,8 @@ parsed-spec =
     shared-slice-read-columns
     shared-slice-read-start
     shared-slice-read-horizon
-    count-requires
-    count-requires-2
+    cast-s
+    cast-m
     mul-bands
     add-bands
     rules-requires

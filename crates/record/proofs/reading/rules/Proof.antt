@@ -7,8 +7,10 @@ use lib.ListN.{length, getD, take, drop}
 use Rattle.scheme.specs.Tables.{tab}
 use Rattle.scheme.specs.Stored.{rulesUpTo}
 use Rattle.scheme.specs.Laws.Tab.{length-tab}
+use Rattle.numbers.specs.Laws.{part-held}
 use Rattle.record.specs.Laws.Lists.{part-length, part-at}
 use Rattle.record.specs.Laws.Stored.{rows-none, rows-more}
+use borrow.Author.Needs.{needs}
 use Rattle.record.proofs.reading.rules.Statement.{statement}
 use Rattle.record.proofs.reading.rules.Tie as tie
 
@@ -34,9 +36,7 @@ slice-aggregate-copy : tie.Need-slice-aggregate-copy Inv-loop μ-loop
 slice-aggregate-copy c = sym (rw (c .before .before .loop .inv .3) (length-tab 256 _))
 
 copy-requires : tie.Need-copy-requires Inv-loop μ-loop
-copy-requires c κs =
-    let size : length (c .before .before .loop .rules) ≡ 256 = rw (c .before .before .loop .inv .3) (length-tab 256 _) in
-    omega (arith, room (c .before))
+copy-requires c κs = search needs
 
 add-at : tie.Need-add-at Inv-loop μ-loop
 add-at c = omega (arith, room (c .before .before .before))
@@ -55,11 +55,13 @@ loop-again c =
     let start = c .before .before .before .before .before .before .args in
     let turn = c .before .before .before .before .loop in
     let here : turn .at ≡ start .from + turn .i * start .m = turn .inv .1 in
-    let to : turn .to ≡ turn .i * 8 = turn .inv .2 in (
+    let to : turn .to ≡ turn .i * 8 = turn .inv .2 in
+    let size : length (turn .rules) ≡ 256 = rw (turn .inv .3) (length-tab 256 _) in (
       omega arith,
       omega arith,
       omega arith,
       c .before .copy .ensures
+          ∙ part-held (start .m) (start .bytes .now) (turn .at) (turn .rules) (turn .to) (omega (arith, room (c .before .before .before))) (omega arith)
           ∙ rw to
           (rows-more (turn .i) (start .m) _ (turn .rules) (take (start .m) (drop (turn .at) (start .bytes .now))) (omega arith) (omega arith)
           (part-length (start .m) (turn .at) (start .bytes .now) (omega (arith, room (c .before .before .before))))

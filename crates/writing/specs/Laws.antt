@@ -1,0 +1,7 @@
+-- The lemmas behind the theorems, by subject.
+pub mod Lists
+pub mod Numbers
+pub mod Bytes
+pub mod Write
+pub mod Cleared
+pub mod Body

@@ -1,0 +1,38 @@
+-- What writing a record answers, and what the lent slice holds afterwards (document 01, "Record" and "When a call is declined").
+use Prim.Native.Nat.{ℕ}
+use mathlib.Core.Bool.{cond}
+use mathlib.Core.List.{List, _++_}
+use lib.Dec.{eqb, ltb}
+use lib.ListN.{length, drop}
+use Rattle.scheme.specs.declared.Scheme.{Scheme}
+use Rattle.scheme.specs.Cause.{causeOf, orElse}
+use Rattle.writing.specs.declared.WriteAnswer.{WriteAnswer}
+use Rattle.writing.specs.declared.WriteAnswer.the-variants.{Written, Declined}
+use Rattle.record.specs.Layout.{version1, lengthOf}
+use Rattle.writing.specs.Bytes.{bytesOf}
+
+-- the number of each answer: 0 where the record was written
+abbrev pub numberOf : WriteAnswer → ℕ
+numberOf (Written length) = 0
+numberOf (Declined number) = number
+
+-- the value of each answer: the record's length, and none where the call was declined
+abbrev pub valueOf : WriteAnswer → ℕ
+valueOf (Written length) = length
+valueOf (Declined number) = 0
+
+-- the length of the scheme's record
+abbrev pub recordLength : Scheme → ℕ
+recordLength s = lengthOf version1 (s .classes) (s .columns)
+
+-- causes 3 and 5 to 10 by the scheme, then cause 13: "writer's slice under the length"
+abbrev pub writeCause : Scheme → List ℕ → ℕ
+writeCause s out = orElse (causeOf s) (cond (ltb (length out) (recordLength s)) 13 0)
+
+-- "The writer returns the length"
+unfoldable pub writeAnswer : Scheme → List ℕ → WriteAnswer
+writeAnswer s out = cond (eqb (writeCause s out) 0) (Written (recordLength s)) (Declined (writeCause s out))
+
+-- "and leaves bytes past it unchanged"; declined, all of them
+unfoldable pub writeLeaves : Scheme → List ℕ → List ℕ
+writeLeaves s out = cond (eqb (writeCause s out) 0) (bytesOf version1 s ++ drop (recordLength s) out) out

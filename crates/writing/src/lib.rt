@@ -1,0 +1,28 @@
+// A scheme written as a record.
+ghost use mathlib.Core.Path.{_≡_};
+ghost use Rattle.writing.specs.Write.{writeAnswer, writeLeaves};
+use scheme::Scheme;
+
+mod parts;
+
+// What writing a record answers: the record's length, or the cause.
+pub enum WriteAnswer {
+    Written(usize),
+    Declined(u8),
+}
+
+// Writes the record of a scheme into the slice, and leaves bytes past it unchanged; declined, all of them.
+pub fn write(scheme: Scheme, out: &mut [u8]) -> WriteAnswer
+    ensures { λ r. ⌜ (r ≡ writeAnswer scheme (now (out .entry))) × (now (out .exit) ≡ writeLeaves scheme (now (out .entry))) ⌝ }
+{
+    let number = acceptance::cause(scheme);
+    if number != 0 {
+        return WriteAnswer::Declined(number);
+    }
+    let size = record::length_of(scheme.classes, scheme.columns);
+    if out.len() < size {
+        return WriteAnswer::Declined(scheme::SLICE_OUT);
+    }
+    parts::whole(scheme, out, size);
+    WriteAnswer::Written(size)
+}
