@@ -1,6 +1,6 @@
 // The bounds of a scheme: shares, means and totals, with what they promise (document 01, "Years").
-use scheme::Scheme;
 pub use answers::Bounds;
+use scheme::Scheme;
 ghost use mathlib.Core.Path.{_≡_};
 ghost use Rattle.answers.specs.Answers.{highShares, lowShares, meanAnswer, shareAnswer, sheetCause, sheetSlice, totalAnswer};
 ghost use Rattle.answers.specs.Table.{highTable, lowTable, tableCause};

@@ -2,9 +2,9 @@
 use crate::Bounds;
 use crate::entries::list_scheme;
 use crate::years::years;
+use scheme::Scheme;
 use states::number;
 use states::state;
-use scheme::Scheme;
 ghost use mathlib.Core.Path.{_≡_};
 ghost use Prim.Native.Nat.{_-_};
 ghost use Rattle.step.specs.Lists.{at};

@@ -1,6 +1,7 @@
 // Prints document 01's examples that programs check, and every refusal number at least once; the gate compares the lines.
 use bounds::Bounds;
 use scheme::Scheme;
+use sheet_text::SheetAnswer;
 use writing::WriteAnswer;
 
 // A word and a number.
@@ -318,7 +319,20 @@ fn steps(s: Scheme) {
     );
 }
 
-// Example A: read, written, its rule rows, bounds and steps.
+// The sheet's text into too short a slice.
+fn short_text(bytes: &[u8]) {
+    let mut out = [0u8; 10];
+    match sheet_text::sheet(bytes, &mut out) {
+        SheetAnswer::Written(length) => {
+            line(b"TEXT OF", length as u64);
+        }
+        SheetAnswer::Declined(number) => {
+            line(b"TEXT INTO 10", number as u64);
+        }
+    }
+}
+
+// Example A: read, written, its rule rows, bounds, steps and sheet.
 fn example_a(bytes: &[u8]) {
     let answer = record::read(bytes);
     line(b"READ", wide(answer.number));
@@ -328,6 +342,7 @@ fn example_a(bytes: &[u8]) {
     long_sheet_a(answer.scheme);
     sheet_a(answer.scheme);
     steps(answer.scheme);
+    short_text(bytes);
 }
 
 fn main() {

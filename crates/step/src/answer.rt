@@ -1,8 +1,8 @@
 // The public one-year step's parts (document 01, "One year" and "When a call is declined").
 use crate::StepAnswer;
 use crate::step::step;
-use order::arrange;
 use gathering::gather;
+use order::arrange;
 use scheme::Scheme;
 ghost use mathlib.Core.Path.{_≡_};
 ghost use Prim.Native.Nat.{_≤_};

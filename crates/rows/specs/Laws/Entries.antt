@@ -1,34 +1,27 @@
 -- The arrays of 32 entries: s of them gathered, 0 beyond; and for an accepted scheme they are its interval rows.
-use Prim.Native.Nat.{ℕ, suc, min, _+_, _-_, _*_, _≤_, _<_}
-use mathlib.Core.Path.{_≡_, ap, ap₂, sym, _∙_}
+use Prim.Native.Nat.{ℕ, _+_, _-_, _*_, _≤_, _<_}
+use mathlib.Core.Path.{_≡_, ap, sym, _∙_}
 use mathlib.Core.Bool.{true, false}
 use mathlib.Core.List.{List, _++_}
-use lib.Dec.{eqb, ltb}
-use lib.ListN.{length, getD, take, drop, replicate, length-append, length-take, length-drop, length-replicate, getD-replicate, List·getD-append, List·getD-eq-default}
-use lib.Seq.{length-take-le, getD-append-add, getD-drop, getD-take}
+use lib.Dec.{ltb}
+use lib.ListN.{length, getD, take, drop, replicate, length-append, length-drop, length-replicate, getD-replicate, List·getD-append}
+use lib.Seq.{length-take-le, getD-append-add, getD-drop}
 use native.Mathlib.Decide.{decLt}
 use native.Mathlib.Omega.{arith}
-use native.Mathlib.Nat.{le-trans, min-le-right}
-use borrow.Author.Tests.{lt-ltb, le-ltb, eq-eqb, ne-eqb}
+use borrow.Author.Tests.{lt-ltb, le-ltb}
 use native.Mathlib.Decide.{ℕ-discrete}
-use Rattle.setchain.specs.Sums.{sumTo, onlyIf}
-use Rattle.setchain.specs.Rows.{ONE}
-use Rattle.setchain.specs.Cells.{sumInto}
-use Rattle.setchain.specs.Laws.Cells.{into-all}
-use Rattle.setchain.specs.Laws.Sums.{onlyIf-true, onlyIf-false, onlyIf-zero, sumTo-eq, sumTo-longer}
+use Rattle.setchain.specs.Sums.{onlyIf}
+use Rattle.setchain.specs.Laws.Sums.{onlyIf-true, onlyIf-false}
 use Rattle.scheme.specs.declared.Scheme.{Scheme}
 use Rattle.rows.specs.declared.RowAnswer.{RowAnswer}
 use Rattle.scheme.specs.Tables.{tab}
-use Rattle.scheme.specs.Access.{ruleAt, lowerAt, upperAt}
 use Rattle.scheme.specs.Accepted.{Accepted}
 use Rattle.scheme.specs.Cause.{outside, causeOf, orElse, classCause}
 use Rattle.scheme.specs.Laws.Cause.{outside-false, first-cause, second-cause, declined, answered, cond-true, cond-false}
 use Rattle.scheme.specs.Laws.Judged.{accepted-cause}
-use Rattle.scheme.specs.Rows.{cellsOf, chainOf}
 use Rattle.gathering.specs.Gathered.{gathered}
 use Rattle.gathering.specs.Laws.Entries.{lower-is, upper-is}
 use Rattle.rows.specs.Rows.{entriesOf, rowCause, rowRefused, rowAt, rowAnswer, rowFrom}
-use Rattle.scheme.specs.Laws.Sound.{accepted-cells}
 use Rattle.scheme.specs.Laws.Tab.{length-tab, getD-tab, as-tab, tab-eq}
 
 -- gathered entries followed by what stood beyond them
