@@ -1,0 +1,14 @@
+-- `size_cause` meets its contract.
+-- Assumes nothing.
+use borrow.Author.Tests.{eq-eqb, ne-eqb}
+use Rattle.buffers.proofs.size_cause.Statement.{statement}
+use Rattle.buffers.proofs.size_cause.Tie as tie
+
+returns : tie.Need-returns
+returns c = simp (ne-eqb (c .before .args .given) (c .before .args .size) (c .if1 .taken))
+
+returns-2 : tie.Need-returns-2
+returns-2 c = simp (eq-eqb (c .before .args .given) (c .before .args .size) (c .if1 .left))
+
+pub size-cause-spec : {M : Type 1} → statement M
+size-cause-spec = tie.close (tie.spec returns returns-2)
