@@ -2,3 +2,4 @@
 pub mod Sizes
 pub mod Copying
 pub mod Pairs
+pub mod Texting

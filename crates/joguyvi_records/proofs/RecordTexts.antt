@@ -12,8 +12,8 @@ use Rattle.scheme.specs.Cause.{orElse, causeOf}
 use Rattle.scheme.specs.Laws.Cause.{first-cause, second-cause, declined}
 use Rattle.record.specs.Layout.{version1, bytesOf}
 use Rattle.record.specs.Write.{numberOf, valueOf, recordLength, writeCause, writeAnswer, writeLeaves}
+use Rattle.buffers.specs.Laws.Texting.{Texted, unfilled}
 use Rattle.joguyvi_records.specs.Records.{recordNumber}
-use Rattle.joguyvi_records.proofs.Texting.{Texted, unfilled}
 
 -- the test for room
 room-only : (b : Bool) (n : ℕ) → n ≡ cond b 13 0 → (n ≡ 0 → ⊥) → n ≡ 13

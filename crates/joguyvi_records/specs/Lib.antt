@@ -1,3 +1,2 @@
--- A scheme as a record, and the sheet of any bytes, in lent buffers with their lengths.
+-- A scheme as a record in a lent buffer, with its length in another.
 pub mod Records
-pub mod Texts

@@ -1,17 +1,14 @@
-// Records checked, written again and made ready, and their sheets, for C and for Rust: each function answers 0 or the cause's number, and fills the lent buffers only where it answers 0.
+// Records checked, written again and made ready, for C and for Rust: each function answers 0 or the cause's number, and fills the lent buffers only where it answers 0.
 ghost use mathlib.Core.Path.{_≡_};
 ghost use Rattle.scheme.specs.Cause.{orElse};
 ghost use Rattle.record.specs.Read.{readCause};
 ghost use Rattle.record.specs.Write.{writeLeaves};
 ghost use Rattle.record.specs.Layout.{schemeIn, version1};
 ghost use Rattle.ready.specs.Answer.{readyAnswer};
-ghost use Rattle.sheet_text.specs.Answer.{sheetLeaves};
 ghost use Rattle.buffers.specs.Buffers.{filledWhere};
-ghost use Rattle.joguyvi_records.specs.Texts.{sheetLength, sheetNumber};
 ghost use Rattle.joguyvi_records.specs.Records.{recordLength, recordNumber};
 
 mod records;
-mod texts;
 
 // The cause for which a record is not read, or 0.
 #[no_mangle]
@@ -49,23 +46,4 @@ pub extern "C" fn joguyvi_ready(number: u64, base: u64, out: &mut [u8], length: 
         return refused;
     }
     records::put_record(answer.scheme, out, length)
-}
-
-// The sheet's text of any bytes, REFUSED line and all, and its length into a buffer of 1 number.
-#[no_mangle]
-pub extern "C" fn joguyvi_sheet(bytes: &[u8], out: &mut [u8], length: &mut [u64]) -> u8
-    ensures answer { λ r. ⌜ r ≡ sheetNumber (now (bytes .entry)) (now (out .entry)) (now (length .entry)) ⌝ }
-    ensures leaves { λ r. ⌜ now (out .exit) ≡ filledWhere r (sheetLeaves (now (bytes .entry)) (now (out .entry))) (now (out .entry)) ⌝ }
-    ensures size { λ r. ⌜ now (length .exit) ≡ filledWhere r (sheetLength (now (bytes .entry)) (now (out .entry))) (now (length .entry)) ⌝ }
-{
-    if length.len() != 1 {
-        return scheme::SLICE_OUT;
-    }
-    let answer = sheet_text::sheet(bytes, out);
-    let number = texts::number_of(answer);
-    if number != 0 {
-        return number;
-    }
-    length[0] = texts::length_of(answer);
-    0
 }

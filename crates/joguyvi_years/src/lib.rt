@@ -1,13 +1,16 @@
-// Shares, means, totals and share sheets of a record, for C and for Rust: each function answers 0 or the cause's number, and fills the lent buffers only where it answers 0.
+// Shares, means, totals, share sheets and whole sheets of a record, for C and for Rust: each function answers 0 or the cause's number, and fills the lent buffers only where it answers 0.
 ghost use mathlib.Core.Path.{_≡_};
 ghost use Rattle.record.specs.Layout.{schemeIn, version1};
 ghost use Rattle.bounds.specs.Answers.{highShares, lowShares, meanAnswer, shareAnswer, totalAnswer};
 ghost use Rattle.bounds.specs.Promises.{SheetPromise};
+ghost use Rattle.sheet_text.specs.Answer.{sheetLeaves};
 ghost use Rattle.buffers.specs.Buffers.{filledWhere};
 ghost use Rattle.joguyvi_years.specs.Figures.{boundsLeaves, boundsNumber, BufferKeeps, MeanKept, ShareKept, TotalKept};
 ghost use Rattle.joguyvi_years.specs.Shares.{sharesNumber};
+ghost use Rattle.joguyvi_years.specs.Texts.{sheetLength, sheetNumber};
 
 mod figures;
+mod texts;
 
 // The low and the high share of a class after a number of years, in parts, into a buffer of 2 numbers.
 #[no_mangle]
@@ -73,4 +76,23 @@ pub extern "C" fn joguyvi_share_sheet(
         return number;
     }
     bounds::share_sheet(answer.scheme, year, low, high)
+}
+
+// The sheet's text of any bytes, REFUSED line and all, and its length into a buffer of 1 number.
+#[no_mangle]
+pub extern "C" fn joguyvi_sheet(bytes: &[u8], out: &mut [u8], length: &mut [u64]) -> u8
+    ensures answer { λ r. ⌜ r ≡ sheetNumber (now (bytes .entry)) (now (out .entry)) (now (length .entry)) ⌝ }
+    ensures leaves { λ r. ⌜ now (out .exit) ≡ filledWhere r (sheetLeaves (now (bytes .entry)) (now (out .entry))) (now (out .entry)) ⌝ }
+    ensures size { λ r. ⌜ now (length .exit) ≡ filledWhere r (sheetLength (now (bytes .entry)) (now (out .entry))) (now (length .entry)) ⌝ }
+{
+    if length.len() != 1 {
+        return scheme::SLICE_OUT;
+    }
+    let answer = sheet_text::sheet(bytes, out);
+    let number = texts::number_of(answer);
+    if number != 0 {
+        return number;
+    }
+    length[0] = texts::length_of(answer);
+    0
 }

@@ -2,7 +2,7 @@
 -- Assumes nothing.
 use mathlib.Core.Path.{ap, _∙_}
 use Rattle.record.specs.Write.{numberOf, valueOf, writeAnswer, writeLeaves}
-use Rattle.joguyvi_records.proofs.Texting.{text-out, text-declined, text-written}
+use Rattle.buffers.specs.Laws.Texting.{text-out, text-declined, text-written}
 use Rattle.joguyvi_records.proofs.RecordTexts.{write-only, write-left}
 use borrow.Author.Needs.{needs}
 use Rattle.joguyvi_records.proofs.records.put_record.Statement.{statement}

@@ -2,11 +2,11 @@
 -- Assumes nothing.
 use mathlib.Core.Path.{ap, _∙_}
 use Rattle.sheet_text.specs.Answer.{numberOf, valueOf, sheetAnswer, sheetLeaves}
-use Rattle.joguyvi_records.proofs.Texting.{text-out, text-declined, text-written}
-use Rattle.joguyvi_records.proofs.SheetTexts.{sheet-only, sheet-left}
+use Rattle.buffers.specs.Laws.Texting.{text-out, text-declined, text-written}
+use Rattle.joguyvi_years.proofs.SheetTexts.{sheet-only, sheet-left}
 use borrow.Author.Needs.{needs}
-use Rattle.joguyvi_records.proofs.joguyvi_sheet.Statement.{statement}
-use Rattle.joguyvi_records.proofs.joguyvi_sheet.Tie as tie
+use Rattle.joguyvi_years.proofs.joguyvi_sheet.Statement.{statement}
+use Rattle.joguyvi_years.proofs.joguyvi_sheet.Tie as tie
 
 returns : tie.Need-returns
 returns c =
