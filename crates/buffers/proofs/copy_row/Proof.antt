@@ -16,7 +16,7 @@ abbrev μ-loop : tie.MeasureT-loop
 μ-loop out₀ row k₀ out k = 32 - k
 
 returns : tie.Need-returns Inv-loop μ-loop
-returns c = sym (row-left _ (c .before .args .out .now) (c .if1 .taken))
+returns c = sym (row-left _ (c .before .args .out .now) (λ e. omega arith))
 
 loop-holds : tie.Need-loop-holds Inv-loop μ-loop
 loop-holds c = copy-none _ _ _ (c .if1 .left)
