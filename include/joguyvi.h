@@ -1,4 +1,6 @@
-/* The operations of the library over records and plain buffers (crate capi).
+/* The operations of the library over records and plain buffers. They stand in
+ * four archives of target/staticlib, each the crate of its name, and ./archives
+ * writes all four. A program links those whose functions it calls.
  *
  * Each function answers 0, or the number of the first cause for which it
  * declines: 1 no byte or another version, 2 too short or a wrong length field,
@@ -21,8 +23,7 @@
 extern "C" {
 #endif
 
-/* The cause for which a record is not read, or 0. */
-uint8_t joguyvi_check(const uint8_t *bytes, size_t bytes_length);
+/* ---- libjoguyvi_years.a: what the years bring. ---- */
 
 /* The share of a class, 1 to s, after a number of years, in parts of
  * 1,000,000,000: low and high into `out`, of 2 numbers. */
@@ -53,6 +54,11 @@ uint8_t joguyvi_sheet(const uint8_t *bytes, size_t bytes_length,
                       uint8_t *out, size_t out_length,
                       uint64_t *length, size_t length_length);
 
+/* ---- libjoguyvi_records.a: records. ---- */
+
+/* The cause for which a record is not read, or 0. */
+uint8_t joguyvi_check(const uint8_t *bytes, size_t bytes_length);
+
 /* A record read and written again into `out`, from the front on, and its
  * length into `length`, of 1 number. Room for any record: 455 bytes. */
 uint8_t joguyvi_rewrite(const uint8_t *bytes, size_t bytes_length,
@@ -65,12 +71,28 @@ uint8_t joguyvi_ready(uint64_t number, uint64_t base,
                       uint8_t *out, size_t out_length,
                       uint64_t *length, size_t length_length);
 
+/* ---- libjoguyvi_rows.a: what a record says of one year. ---- */
+
 /* The interval row of a class, 1 to s, in parts of 1,000,000,000: `lower` and
  * `upper` are of 32 numbers each, with 0 beyond s. Another length is 13. */
 uint8_t joguyvi_row(const uint8_t *bytes, size_t bytes_length,
                     uint64_t class_number,
                     uint64_t *lower, size_t lower_length,
                     uint64_t *upper, size_t upper_length);
+
+/* The rule row of a class, 1 to s: the next class for each claim column, as
+ * the record holds it, into `out`, of exactly m bytes. Another length is 13. */
+uint8_t joguyvi_rule_row(const uint8_t *bytes, size_t bytes_length,
+                         uint64_t class_number,
+                         uint8_t *out, size_t out_length);
+
+/* The bands of all claim columns, in parts: `lower` and `upper` are of exactly
+ * m numbers each. Another length is 13. */
+uint8_t joguyvi_bands(const uint8_t *bytes, size_t bytes_length,
+                      uint32_t *lower, size_t lower_length,
+                      uint32_t *upper, size_t upper_length);
+
+/* ---- libjoguyvi_steps.a: one year of any payoff. ---- */
 
 /* The low step of a class: its least figure one year on, rounded down, into
  * `figure`, of 1 number, and a row of parts that reaches it unrounded into
@@ -90,18 +112,6 @@ uint8_t joguyvi_high_step(const uint8_t *bytes, size_t bytes_length,
                           uint64_t class_number,
                           uint64_t *figure, size_t figure_length,
                           uint64_t *row, size_t row_length);
-
-/* The rule row of a class, 1 to s: the next class for each claim column, as
- * the record holds it, into `out`, of exactly m bytes. Another length is 13. */
-uint8_t joguyvi_rule_row(const uint8_t *bytes, size_t bytes_length,
-                         uint64_t class_number,
-                         uint8_t *out, size_t out_length);
-
-/* The bands of all claim columns, in parts: `lower` and `upper` are of exactly
- * m numbers each. Another length is 13. */
-uint8_t joguyvi_bands(const uint8_t *bytes, size_t bytes_length,
-                      uint32_t *lower, size_t lower_length,
-                      uint32_t *upper, size_t upper_length);
 
 #ifdef __cplusplus
 }

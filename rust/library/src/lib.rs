@@ -12,7 +12,7 @@ mod rows;
 
 pub use rows::{bands, high_step, low_step, row, rule_row};
 
-/// The functions of the archive; a slice passes as a pointer and its length.
+/// The functions of the archives; a slice passes as a pointer and its length.
 mod archive {
     extern "C" {
         pub fn joguyvi_check(bytes: *const u8, bytes_length: usize) -> u8;

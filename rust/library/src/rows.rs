@@ -3,7 +3,7 @@
 
 use crate::answer;
 
-/// The functions of the archive; a slice passes as a pointer and its length.
+/// The functions of the archives; a slice passes as a pointer and its length.
 mod archive {
     /// What both steps take: the record, the payoff, the class, the figure's
     /// slice and the row's.
@@ -87,7 +87,7 @@ pub fn row(record: &[u8], class: u64, lower: &mut [u64], upper: &mut [u64]) -> R
     })
 }
 
-/// One of the archive's two steps, on slices.
+/// One of the archives' two steps, on slices.
 fn step(
     of_archive: archive::Step,
     record: &[u8],

@@ -1,7 +1,8 @@
 -- The answer of a reading, by cases.
 use Prim.Native.Nat.{ℕ}
-use mathlib.Core.Path.{_≡_, sym, _∙_}
+use mathlib.Core.Path.{_≡_, ap, sym, _∙_}
 use mathlib.Core.List.{List}
+use native.Mathlib.Decide.{ℕ-discrete}
 use borrow.Author.Tests.{eq-eqb, ne-eqb}
 use Rattle.scheme.specs.Cause.{causeOf}
 use Rattle.scheme.specs.Laws.Cause.{first-cause, second-cause, first-none}
@@ -31,3 +32,27 @@ module _ (bytes : List ℕ) where
   -- bytes without a cause are framed
   pub read-framed : readCause bytes ≡ 0 → Framed bytes
   read-framed e = frame-clear bytes (first-none (frameCause bytes) (causeOf (schemeIn version1 bytes)) e)
+
+  -- what a reading answers
+  pub read-number : readAnswer bytes .number ≡ readCause bytes
+  unfolding readAnswer
+  read-number = by (ℕ-discrete (readCause bytes) 0)
+    where
+      by : Dec (readCause bytes ≡ 0) → readAnswer bytes .number ≡ readCause bytes
+      by (yes none) = rw (eq-eqb (readCause bytes) 0 none) (sym none)
+      by (no some) = rw (ne-eqb (readCause bytes) 0 some)
+
+  pub read-scheme : readCause bytes ≡ 0 → readAnswer bytes .scheme ≡ schemeIn version1 bytes
+  unfolding readAnswer
+  read-scheme none = rw (eq-eqb (readCause bytes) 0 none)
+
+-- what an answer that is the reading's tells
+module _ (bytes : List ℕ) {a : ReadAnswer} (is : a ≡ readAnswer bytes) where
+  pub read-cause : a .number ≡ readCause bytes
+  read-cause = ap (λ r. r .number) is ∙ read-number bytes
+
+  pub read-passed : a .number ≡ 0 → readCause bytes ≡ 0
+  read-passed none = sym read-cause ∙ none
+
+  pub read-in : a .number ≡ 0 → a .scheme ≡ schemeIn version1 bytes
+  read-in none = ap (λ r. r .scheme) is ∙ read-scheme bytes (read-passed none)

@@ -3,8 +3,9 @@ use mathlib.Core.Path.{_≡_, ap, sym, _∙_}
 use native.Mathlib.Omega.{arith}
 use Rattle.record.specs.Read.{readCause}
 use Rattle.record.specs.Layout.{version1, schemeIn}
+use Rattle.record.specs.Laws.Read.{read-number, read-scheme}
 use Rattle.sheet_lines.specs.Laws.Room.{read-cause-most, read-accepted}
-use Rattle.sheet_text.specs.Laws.Answer.{read-number, read-scheme, sheet-refused, sheet-accepted}
+use Rattle.sheet_text.specs.Laws.Answer.{sheet-refused, sheet-accepted}
 use borrow.Author.Needs.{needs}
 use Rattle.sheet_text.proofs.sheet.Statement.{statement}
 use Rattle.sheet_text.proofs.sheet.Tie as tie

@@ -1,10 +1,9 @@
 -- The answer for a text, and for any bytes, by cases.
 use Prim.Native.Nat.{ℕ, _≤_, _<_}
-use mathlib.Core.Path.{_≡_, sym, _∙_}
+use mathlib.Core.Path.{_≡_, _∙_}
 use mathlib.Core.List.{List}
 use native.Mathlib.Omega.{arith}
-use native.Mathlib.Decide.{ℕ-discrete}
-use borrow.Author.Tests.{eq-eqb, ne-eqb, lt-ltb, le-ltb}
+use borrow.Author.Tests.{eq-eqb, lt-ltb, le-ltb}
 use lib.ListN.{length}
 use Rattle.scheme.specs.declared.Scheme.{Scheme}
 use Rattle.scheme.specs.Accepted.{Accepted}
@@ -12,7 +11,7 @@ use Rattle.scheme.specs.Cause.{causeOf}
 use Rattle.scheme.specs.Laws.Cause.{second-cause}
 use Rattle.scheme.specs.Laws.Judged.{cause-accepted}
 use Rattle.record.specs.Layout.{version1, schemeIn}
-use Rattle.record.specs.Read.{readCause, readAnswer}
+use Rattle.record.specs.Read.{readCause}
 use Rattle.record.specs.Laws.Lists.{sets-front}
 use Rattle.answers.specs.Answers.{sheetSlice}
 use Rattle.answers.specs.Table.{tableSize, tableCause}
@@ -38,20 +37,8 @@ told-written {room} {text} {out} {after} {to} enough fits p =
 pub told-room : {room : ℕ} {text out : List ℕ} → room ≤ length out → length text ≤ room → Room out 0 text
 told-room enough fits = record { fits = omega arith }
 
--- what a reading answers
+-- any bytes
 module _ (bytes : List ℕ) where
-  pub read-number : readAnswer bytes .number ≡ readCause bytes
-  unfolding readAnswer
-  read-number = by (ℕ-discrete (readCause bytes) 0)
-    where
-      by : Dec (readCause bytes ≡ 0) → readAnswer bytes .number ≡ readCause bytes
-      by (yes none) = rw (eq-eqb (readCause bytes) 0 none) (sym none)
-      by (no some) = rw (ne-eqb (readCause bytes) 0 some)
-
-  pub read-scheme : readCause bytes ≡ 0 → readAnswer bytes .scheme ≡ schemeIn version1 bytes
-  unfolding readAnswer
-  read-scheme none = rw (eq-eqb (readCause bytes) 0 none)
-
   -- the answer for bytes with a cause, and without
   pub sheet-refused : {n : ℕ} {out after : List ℕ} {r : SheetAnswer} → n ≡ readCause bytes → (n ≡ 0 → ⊥) → Told 11 (refusedLine n) out after r
       → (r ≡ sheetAnswer bytes out) × (after ≡ sheetLeaves bytes out)

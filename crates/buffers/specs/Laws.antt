@@ -1,0 +1,5 @@
+-- The lemmas behind lent buffers, by subject.
+pub mod Sizes
+pub mod Copying
+pub mod Pairs
+pub mod Texting

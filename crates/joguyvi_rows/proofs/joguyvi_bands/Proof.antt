@@ -1,0 +1,58 @@
+-- `joguyvi_bands` meets its contract: the cause of reading, or the bands put into their buffers.
+-- Assumes nothing.
+use mathlib.Core.Path.{ap, _∙_}
+use Rattle.scheme.specs.Laws.Cause.{second-none}
+use Rattle.scheme.specs.Cause.{causeOf}
+use Rattle.scheme.specs.Laws.Judged.{accepted-cause}
+use Rattle.record.specs.Layout.{columnsIn, schemeIn, version1}
+use Rattle.record.specs.Read.{frameCause}
+use Rattle.buffers.specs.Buffers.{buffersCause}
+use Rattle.joguyvi_rows.specs.Rows.{lowerBands, upperBands}
+use Rattle.record.specs.Laws.Read.{read-cause, read-passed, read-in}
+use Rattle.buffers.specs.Laws.Pairs.{pair-stopped, pair-passed}
+use Rattle.joguyvi_rows.proofs.Same.{bands-same}
+use borrow.Author.Needs.{needs}
+use Rattle.joguyvi_rows.proofs.joguyvi_bands.Statement.{statement}
+use Rattle.joguyvi_rows.proofs.joguyvi_bands.Tie as tie
+
+read-requires : tie.Need-read-requires
+read-requires c κs = search needs
+
+returns : tie.Need-returns
+returns c =
+    let start = c .before .before .before .before .before .args in
+    let s = schemeIn version1 (start .bytes .now) in
+    pair-stopped (lowerBands s) (upperBands s) _ _ (buffersCause (columnsIn (start .bytes .now)) (start .lower .now) (start .upper .now)) (read-cause (start .bytes .now) (c .before .read .ensures)) (c .if1 .taken)
+
+put-bands-requires : tie.Need-put-bands-requires
+put-bands-requires c κs =
+    let bytes = c .before .before .before .before .before .before .before .args .bytes .now in
+    let is = c .before .before .before .read .ensures in
+    let none = c .before .before .if1 .left in
+    accepted-cause _ (ap causeOf (read-in bytes is none) ∙ second-none (frameCause bytes) (causeOf (schemeIn version1 bytes)) (read-passed bytes is none)) .size .columns
+
+same-length : tie.Need-same-length
+same-length c = search needs
+
+same-length-2 : tie.Need-same-length-2
+same-length-2 c = search needs
+
+returns-2 : tie.Need-returns-2
+returns-2 c =
+    let start = c .before .before .before .before .before .before .before .before .before .before .before .before .args in
+    let bytes = start .bytes .now in
+    let is = c .before .before .before .before .before .before .before .before .read .ensures in
+    let none = c .before .before .before .before .before .before .before .if1 .left in
+    let s = schemeIn version1 bytes in
+    pair-passed (lowerBands s) (upperBands s) (start .lower .now) (start .upper .now) (read-passed bytes is none) (bands-same bytes _ _ _ (read-in bytes is none) (c .before .before .before .before .put-bands .ensures))
+
+pub joguyvi-bands-spec : {M : Type 1} → statement M
+joguyvi-bands-spec =
+    tie.close
+    (tie.spec
+    read-requires
+    returns
+    put-bands-requires
+    same-length
+    same-length-2
+    returns-2)

@@ -1,0 +1,54 @@
+-- `joguyvi_row` meets its contract: the cause of reading, or the row put into its buffers.
+-- Assumes nothing.
+use mathlib.Core.Path.{ap, _∙_}
+use Rattle.rows.specs.Rows.{rowAnswer}
+use Rattle.joguyvi_rows.specs.Rows.{rowIn, putRowNumber}
+use Rattle.record.specs.Laws.Read.{read-cause, read-passed, read-in}
+use Rattle.buffers.specs.Laws.Pairs.{pair-stopped, pair-passed}
+use Rattle.joguyvi_rows.proofs.Same.{row-same}
+use borrow.Author.Needs.{needs}
+use Rattle.joguyvi_rows.proofs.joguyvi_row.Statement.{statement}
+use Rattle.joguyvi_rows.proofs.joguyvi_row.Tie as tie
+
+read-requires : tie.Need-read-requires
+read-requires c κs = search needs
+
+returns : tie.Need-returns
+returns c =
+    let start = c .before .before .before .before .before .args in
+    let row = rowIn (start .bytes .now) (start .class) in
+    pair-stopped (row .lower) (row .upper) _ _ (putRowNumber row (start .lower .now) (start .upper .now)) (read-cause (start .bytes .now) (c .before .read .ensures)) (c .if1 .taken)
+
+row-requires : tie.Need-row-requires
+row-requires c κs = search needs
+
+put-row-requires : tie.Need-put-row-requires
+put-row-requires c κs = search needs
+
+same-length : tie.Need-same-length
+same-length c = search needs
+
+same-length-2 : tie.Need-same-length-2
+same-length-2 c = search needs
+
+returns-2 : tie.Need-returns-2
+returns-2 c =
+    let start = c .before .before .before .before .before .before .before .before .before .before .before .before .before .args in
+    let bytes = start .bytes .now in
+    let is = c .before .before .before .before .before .before .before .before .before .read .ensures in
+    let none = c .before .before .before .before .before .before .before .before .if1 .left in
+    let row = rowIn bytes (start .class) in
+    pair-passed (row .lower) (row .upper) (start .lower .now) (start .upper .now) (read-passed bytes is none)
+    (row-same _ row _ _ (c .before .before .before .before .before .before .before .row .ensures ∙ ap (λ s. rowAnswer s (start .class)) (read-in bytes is none)) (c .before .before .before .before .put-row .ensures))
+
+pub joguyvi-row-spec : {M : Type 1} → statement M
+joguyvi-row-spec =
+    tie.close
+    (tie.spec
+    read-requires
+    returns
+    row-requires
+    put-row-requires
+    same-length
+    same-length-2
+    returns-2)

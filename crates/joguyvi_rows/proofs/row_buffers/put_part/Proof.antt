@@ -1,0 +1,31 @@
+-- `put_part` meets its contract: 11 for an empty part, 13 for the buffer, or the part in the buffer.
+-- Assumes nothing.
+use Rattle.joguyvi_rows.proofs.Parts.{part-empty, part-out, part-copied}
+use borrow.Author.Needs.{needs}
+use Rattle.joguyvi_rows.proofs.row_buffers.put_part.Statement.{statement}
+use Rattle.joguyvi_rows.proofs.row_buffers.put_part.Tie as tie
+
+returns : tie.Need-returns
+returns c = part-empty (c .before .before .before .args .part .now) (c .before .before .before .args .out .now) (c .if1 .taken)
+
+returns-2 : tie.Need-returns-2
+returns-2 c = part-out (c .before .before .before .before .args .part .now) (c .before .before .before .before .args .out .now) (c .before .if1 .left) (c .if2 .taken)
+
+copy-bytes-requires : tie.Need-copy-bytes-requires
+copy-bytes-requires c κs = search needs
+
+same-length : tie.Need-same-length
+same-length c = search needs
+
+returns-3 : tie.Need-returns-3
+returns-3 c = part-copied (c .before .before .before .before .before .before .before .before .args .part .now) (c .before .before .before .before .before .before .before .before .args .out .now) (c .before .before .before .before .before .if1 .left) (c .before .before .before .before .if2 .left) (c .before .before .copy-bytes .ensures)
+
+pub put-part-spec : {M : Type 1} → statement M
+put-part-spec =
+    tie.close
+    (tie.spec
+    returns
+    returns-2
+    copy-bytes-requires
+    same-length
+    returns-3)

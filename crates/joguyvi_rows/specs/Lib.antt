@@ -1,0 +1,3 @@
+-- Read in this order: rows, rule rows and bands of a record, then worked cases.
+pub mod Rows
+pub mod Examples

@@ -1,0 +1,40 @@
+// The cause of two buffers, and numbers and bytes copied into lent buffers.
+use buffers::size_cause;
+use scheme::or_else;
+ghost use mathlib.Core.Path.{_≡_};
+ghost use Prim.Native.Nat.{_≤_};
+ghost use lib.ListN.{getD, length};
+ghost use Rattle.scheme.specs.Cause.{orElse};
+ghost use Rattle.scheme.specs.Tables.{tab};
+ghost use Rattle.buffers.specs.Buffers.{sizeCause};
+
+// Cause 13 of two lengths.
+pub fn sizes_cause(size: usize, one: usize, other: usize) -> u8
+    ensures { λ r. ⌜ r ≡ orElse (sizeCause size one) (sizeCause size other) ⌝ }
+{
+    or_else(size_cause(size, one), size_cause(size, other))
+}
+
+// Copies the first of 8 numbers, as many as the buffer has.
+pub fn copy_ends(from: [u32; 8], out: &mut [u32])
+    requires { ⌜ length (now out) ≤ 8 ⌝ }
+    ensures { λ _. ⌜ now (out .exit) ≡ tab (length (now (out .entry))) (λ k. getD from k 0) ⌝ }
+{
+    let mut k: usize = 0;
+    while k < out.len() {
+        out[k] = from[k];
+        k += 1;
+    }
+}
+
+// Copies bytes into a buffer of as many.
+pub fn copy_bytes(from: &[u8], out: &mut [u8])
+    requires { ⌜ length (now out) ≡ length (now from) ⌝ }
+    ensures { λ _. ⌜ now (out .exit) ≡ now (from .entry) ⌝ }
+{
+    let mut k: usize = 0;
+    while k < from.len() {
+        out[k] = from[k];
+        k += 1;
+    }
+}

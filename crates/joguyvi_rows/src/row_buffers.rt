@@ -1,0 +1,68 @@
+// Rows and bands put into lent buffers.
+use crate::copies;
+use rows::RowAnswer;
+use scheme::Scheme;
+use scheme::or_else;
+ghost use mathlib.Core.Path.{_≡_};
+ghost use Prim.Native.Nat.{_≤_};
+ghost use Rattle.buffers.specs.Buffers.{buffersCause, filledWhere};
+ghost use Rattle.joguyvi_rows.specs.Rows.{lowerBands, partNumber, putRowNumber, upperBands};
+
+// Puts an interval row into two buffers of 32 numbers, and answers the cause, or 0.
+pub fn put_row(answer: RowAnswer, lower: &mut [u64], upper: &mut [u64]) -> u8
+    ensures answer { λ r. ⌜ r ≡ putRowNumber answer (now (lower .entry)) (now (upper .entry)) ⌝ }
+    ensures lowers { λ r. ⌜ now (lower .exit) ≡ filledWhere r (answer .lower) (now (lower .entry)) ⌝ }
+    ensures uppers { λ r. ⌜ now (upper .exit) ≡ filledWhere r (answer .upper) (now (upper .entry)) ⌝ }
+{
+    let sizes = copies::sizes_cause(32, lower.len(), upper.len());
+    let number = or_else(answer.number, sizes);
+    if number != 0 {
+        return number;
+    }
+    let lowers = answer.lower;
+    let uppers = answer.upper;
+    buffers::copy_row(lowers, lower);
+    buffers::copy_row(uppers, upper);
+    0
+}
+
+// Puts a part of a record that is shown into a buffer of as many bytes, and answers the cause, or 0; an empty part is cause 11.
+pub fn put_part(part: &[u8], out: &mut [u8]) -> u8
+    ensures answer { λ r. ⌜ r ≡ partNumber (now (part .entry)) (now (out .entry)) ⌝ }
+    ensures leaves { λ r. ⌜ now (out .exit) ≡ filledWhere r (now (part .entry)) (now (out .entry)) ⌝ }
+{
+    if part.len() == 0 {
+        return scheme::CLASS_OUT;
+    }
+    if out.len() != part.len() {
+        return scheme::SLICE_OUT;
+    }
+    copies::copy_bytes(part, out);
+    0
+}
+
+// A byte as a count.
+fn count(x: u8) -> usize
+    ensures { λ r. ⌜ r ≡ x ⌝ }
+{
+    x as usize
+}
+
+// Puts the bands of all columns into two buffers, and answers cause 13, or 0.
+pub fn put_bands(scheme: Scheme, lower: &mut [u32], upper: &mut [u32]) -> u8
+    requires { ⌜ scheme .columns ≤ 8 ⌝ }
+    ensures answer { λ r. ⌜ r ≡ buffersCause (scheme .columns) (now (lower .entry)) (now (upper .entry)) ⌝ }
+    ensures lowers { λ r. ⌜ now (lower .exit) ≡ filledWhere r (lowerBands scheme) (now (lower .entry)) ⌝ }
+    ensures uppers { λ r. ⌜ now (upper .exit) ≡ filledWhere r (upperBands scheme) (now (upper .entry)) ⌝ }
+{
+    let columns = count(scheme.columns);
+    let number = copies::sizes_cause(columns, lower.len(), upper.len());
+    if number != 0 {
+        return number;
+    }
+    let lowers = scheme.lowers;
+    let uppers = scheme.uppers;
+    copies::copy_ends(lowers, lower);
+    copies::copy_ends(uppers, upper);
+    0
+}

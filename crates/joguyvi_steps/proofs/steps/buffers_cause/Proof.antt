@@ -1,0 +1,39 @@
+-- `buffers_cause` meets its contract: three causes joined.
+-- Assumes nothing.
+use mathlib.Core.Path.{ap₂, _∙_}
+use Rattle.scheme.specs.Cause.{orElse}
+use borrow.Author.Needs.{needs}
+use Rattle.joguyvi_steps.proofs.steps.buffers_cause.Statement.{statement}
+use Rattle.joguyvi_steps.proofs.steps.buffers_cause.Tie as tie
+
+size-cause-requires : tie.Need-size-cause-requires
+size-cause-requires c κs = search needs
+
+size-cause-requires-2 : tie.Need-size-cause-requires-2
+size-cause-requires-2 c κs = search needs
+
+or-else-requires : tie.Need-or-else-requires
+or-else-requires c κs = search needs
+
+size-cause-requires-3 : tie.Need-size-cause-requires-3
+size-cause-requires-3 c κs = search needs
+
+or-else-requires-2 : tie.Need-or-else-requires-2
+or-else-requires-2 c κs = search needs
+
+returns : tie.Need-returns
+returns c =
+    c .or-else2 .ensures
+    ∙ ap₂ orElse (c .before .size-cause3 .ensures)
+    (c .before .before .or-else .ensures ∙ ap₂ orElse (c .before .before .before .before .size-cause .ensures) (c .before .before .before .size-cause2 .ensures))
+
+pub buffers-cause-spec : {M : Type 1} → statement M
+buffers-cause-spec =
+    tie.close
+    (tie.spec
+    size-cause-requires
+    size-cause-requires-2
+    or-else-requires
+    size-cause-requires-3
+    or-else-requires-2
+    returns)

@@ -1,0 +1,55 @@
+-- `payoff_of` meets its contract: the places passed hold the payoff's numbers.
+-- Assumes nothing.
+use Prim.Native.Nat.{_-_}
+use native.Mathlib.Omega.{arith}
+use lib.ListN.{getD}
+use Rattle.scheme.specs.Laws.Filled.{Filled, fill-none, fill-more, fill-all}
+use Rattle.joguyvi_steps.specs.Steps.{payoffOf}
+use Rattle.joguyvi_steps.proofs.steps.payoff_of.Statement.{statement}
+use Rattle.joguyvi_steps.proofs.steps.payoff_of.Tie as tie
+
+abbrev Inv-loop : tie.InvT-loop
+Inv-loop numbers out₀ k₀ out k = Filled 32 (λ j. getD numbers j 0) k out
+
+abbrev μ-loop : tie.MeasureT-loop
+μ-loop numbers out₀ k₀ out k = 32 - k
+
+loop-holds : tie.Need-loop-holds Inv-loop μ-loop
+loop-holds c = fill-none 32 _
+
+number-at-requires : tie.Need-number-at-requires Inv-loop μ-loop
+number-at-requires c κs = tt
+
+mul-out : tie.Need-mul-out Inv-loop μ-loop
+mul-out c = omega arith
+
+array-write-out : tie.Need-array-write-out Inv-loop μ-loop
+array-write-out c = omega arith
+
+add-k : tie.Need-add-k Inv-loop μ-loop
+add-k c = omega arith
+
+loop-less : tie.Need-loop-less Inv-loop μ-loop
+loop-less c = omega arith
+
+loop-again : tie.Need-loop-again Inv-loop μ-loop
+loop-again c = fill-more _ _ _ _ _ (omega arith) (c .number-at .ensures) (c .before .before .loop .inv)
+
+returns : tie.Need-returns Inv-loop μ-loop
+unfolding payoffOf
+returns c = fill-all _ _ _ _ (omega arith) (c .before .loop .inv)
+
+pub payoff-of-spec : {M : Type 1} → statement M
+payoff-of-spec =
+    tie.close
+    (tie.spec
+    Inv-loop
+    μ-loop
+    loop-holds
+    number-at-requires
+    mul-out
+    array-write-out
+    add-k
+    loop-less
+    loop-again
+    returns)

@@ -1,0 +1,47 @@
+-- `step` meets its contract: the cause of reading, or the step put into its buffers.
+-- Assumes nothing.
+use Rattle.joguyvi_steps.proofs.Stepping.{step-stopped, step-passed}
+use borrow.Author.Needs.{needs}
+use Rattle.joguyvi_steps.proofs.steps.step.Statement.{statement}
+use Rattle.joguyvi_steps.proofs.steps.step.Tie as tie
+
+read-requires : tie.Need-read-requires
+read-requires c κs = search needs
+
+returns : tie.Need-returns
+returns c =
+    let start = c .before .before .before .before .before .before .args in
+    step-stopped (start .high) (start .bytes .now) (start .payoff .now) (start .class) (start .figure .now) (start .row .now) (c .before .read .ensures) (c .if1 .taken)
+
+payoff-of-requires : tie.Need-payoff-of-requires
+payoff-of-requires c κs = search needs
+
+answer-of-requires : tie.Need-answer-of-requires
+answer-of-requires c κs = search needs
+
+put-step-requires : tie.Need-put-step-requires
+put-step-requires c κs = search needs
+
+same-length : tie.Need-same-length
+same-length c = search needs
+
+same-length-2 : tie.Need-same-length-2
+same-length-2 c = search needs
+
+returns-2 : tie.Need-returns-2
+returns-2 c =
+    let start = c .before .before .before .before .before .before .before .before .before .before .before .before .before .before .before .args in
+    step-passed (start .high) (start .bytes .now) (start .payoff .now) (start .class) (start .figure .now) (start .row .now) (c .before .before .before .before .before .before .before .before .before .before .read .ensures) (c .before .before .before .before .before .before .before .before .before .if1 .left) (c .before .before .before .before .before .before .before .before .payoff-of .ensures) (c .before .before .before .before .before .before .before .answer-of .ensures) (c .before .before .before .before .put-step .ensures)
+
+pub step-spec : {M : Type 1} → statement M
+step-spec =
+    tie.close
+    (tie.spec
+    read-requires
+    returns
+    payoff-of-requires
+    answer-of-requires
+    put-step-requires
+    same-length
+    same-length-2
+    returns-2)

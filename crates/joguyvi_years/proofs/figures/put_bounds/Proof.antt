@@ -1,0 +1,49 @@
+-- `put_bounds` meets its contract: the answer's cause, the buffer's, or low and high.
+-- Assumes nothing.
+use native.Mathlib.Omega.{arith}
+use lib.ListN.{length-set}
+use Rattle.joguyvi_years.proofs.Putting.{put-refused, put-out, put-both}
+use borrow.Author.Needs.{needs}
+use Rattle.joguyvi_years.proofs.figures.put_bounds.Statement.{statement}
+use Rattle.joguyvi_years.proofs.figures.put_bounds.Tie as tie
+
+number-of-requires : tie.Need-number-of-requires
+number-of-requires c κs = search needs
+
+returns : tie.Need-returns
+returns c = put-refused _ _ (c .before .number-of .ensures) (c .if1 .taken)
+
+returns-2 : tie.Need-returns-2
+returns-2 c = put-out _ _ (c .before .before .number-of .ensures) (c .before .if1 .left) (c .if2 .taken)
+
+low-of-requires : tie.Need-low-of-requires
+low-of-requires c κs = search needs
+
+slice-write-out : tie.Need-slice-write-out
+slice-write-out c = search needs
+
+high-of-requires : tie.Need-high-of-requires
+high-of-requires c κs = search needs
+
+slice-write-out-2 : tie.Need-slice-write-out-2
+slice-write-out-2 c = let s = c .before .before .before .before .before .before in omega (arith, length-set (s .args .out .now) 0 (c .before .low-of .result))
+
+same-length : tie.Need-same-length
+same-length c = search needs
+
+returns-3 : tie.Need-returns-3
+returns-3 c = put-both _ _ (c .before .before .before .before .number-of .ensures) (c .before .before .before .if1 .left) (c .before .before .if2 .left) (c .before .low-of .ensures) (c .high-of .ensures)
+
+pub put-bounds-spec : {M : Type 1} → statement M
+put-bounds-spec =
+    tie.close
+    (tie.spec
+    number-of-requires
+    returns
+    returns-2
+    low-of-requires
+    slice-write-out
+    high-of-requires
+    slice-write-out-2
+    same-length
+    returns-3)
