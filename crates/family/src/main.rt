@@ -13,13 +13,18 @@ const ROOM: usize = 460;
 // One more than the most classes.
 const SHARES: usize = 33;
 
-// A byte and a 32-bit number in 64 bits.
-fn wide(x: u8) -> u64 {
-    x as u64
+// A word and a number.
+fn word(text: &[u8], x: u64) {
+    console::bytes(text);
+    console::number(x);
 }
 
-fn wider(x: u32) -> u64 {
-    x as u64
+// The first bytes of a text, or all where there are fewer.
+fn front(text: &[u8], n: usize) -> &[u8] {
+    if text.len() < n {
+        return text;
+    }
+    &text[0..n]
 }
 
 // The lowest byte of a number.
@@ -44,14 +49,11 @@ fn add_number(sum: u64, x: u64) -> u64 {
     add(next, low_byte(x))
 }
 
-// The checksum of the first bytes of a text.
-fn checksum(text: &[u8], n: usize) -> u64 {
+// The checksum of a text.
+fn checksum(text: &[u8]) -> u64 {
     let mut sum: u64 = 0;
     let mut i: usize = 0;
     while i < text.len() {
-        if n <= i {
-            return sum;
-        }
         sum = add(sum, text[i]);
         i += 1;
     }
@@ -84,50 +86,54 @@ fn hex_byte(x: u8) {
     console::bytes(&digits);
 }
 
-// A space and the first bytes of a part as digits, or a line where there is none.
-fn hex(part: &[u8], n: usize) {
-    if n == 0 {
-        console::bytes(b" -");
-        return;
-    }
+// A space and the bytes of a part as digits, or a dash where there is none.
+fn hex(part: &[u8]) {
     console::bytes(b" ");
+    if part.len() == 0 {
+        console::bytes(b"-");
+    }
     let mut i: usize = 0;
     while i < part.len() {
-        if n <= i {
-            return;
-        }
         hex_byte(part[i]);
         i += 1;
     }
 }
 
-// The number of a cause.
-fn no(cause: u8) {
-    console::bytes(b" NO");
-    console::number(wide(cause));
+// Whether a call was answered, or the number of its cause.
+fn told(cause: u8) {
+    if cause == 0 {
+        console::bytes(b" OK");
+    } else {
+        word(b" NO", cause as u64);
+    }
+}
+
+// Two figures or the cause, and the end of the line.
+fn pair(cause: u8, low: u64, high: u64) {
+    told(cause);
+    if cause == 0 {
+        console::number(low);
+        console::number(high);
+    }
+    console::end();
 }
 
 // What a call for bounds answered, and the end of the line.
 fn answer(b: Bounds) {
     match b {
         Bounds::Answered { low, high } => {
-            console::bytes(b" OK");
-            console::number(low);
-            console::number(high);
+            pair(0, low, high);
         }
         Bounds::Refused(cause) => {
-            no(cause);
+            pair(cause, 0, 0);
         }
     }
-    console::end();
 }
 
 // The rule row of a class.
 fn rules(bytes: &[u8], class: u64) {
-    console::bytes(b"RULES");
-    console::number(class);
-    let part = rule_rows::rule_row(bytes, class);
-    hex(part, part.len());
+    word(b"RULES", class);
+    hex(rule_rows::rule_row(bytes, class));
     console::end();
 }
 
@@ -135,8 +141,8 @@ fn rules(bytes: &[u8], class: u64) {
 fn band(bytes: &[u8], column: usize) {
     match bands::band_at(bytes, column) {
         Band::Ends { lower, upper } => {
-            console::number(wider(lower));
-            console::number(wider(upper));
+            console::number(lower as u64);
+            console::number(upper as u64);
         }
         Band::NoMore => {}
     }
@@ -144,8 +150,7 @@ fn band(bytes: &[u8], column: usize) {
 
 // All bands; one column more than there can be is asked for.
 fn bands(bytes: &[u8], count: u8) {
-    console::bytes(b"BANDS");
-    console::number(wide(count));
+    word(b"BANDS", count as u64);
     band(bytes, 0);
     band(bytes, 1);
     band(bytes, 2);
@@ -158,20 +163,25 @@ fn bands(bytes: &[u8], count: u8) {
     console::end();
 }
 
-// The record written into a slice.
-fn write_into(scheme: Scheme, out: &mut [u8]) {
-    console::bytes(b"WRITE");
-    console::number(out.len() as u64);
-    match writing::write(scheme, out) {
+// What writing answered, and the length of what it wrote.
+fn wrote(answer: WriteAnswer) -> usize {
+    match answer {
         WriteAnswer::Written(length) => {
-            console::bytes(b" OK");
-            console::number(length as u64);
+            word(b" OK", length as u64);
+            length
         }
         WriteAnswer::Declined(cause) => {
-            no(cause);
+            told(cause);
+            0
         }
     }
-    console::number(checksum(out, out.len()));
+}
+
+// The record written into a slice.
+fn write_into(scheme: Scheme, out: &mut [u8]) {
+    word(b"WRITE", out.len() as u64);
+    wrote(writing::write(scheme, out));
+    console::number(checksum(out));
     console::end();
 }
 
@@ -183,45 +193,39 @@ fn write(scheme: Scheme, n: usize) {
     }
 }
 
-// The sum of an interval row's entries.
-fn sum(row: [u64; 32]) -> u64 {
-    let mut all: u64 = 0;
-    let mut i: usize = 0;
-    while i < 32 {
-        all = std::num::wrapping_add_u64(all, row[i]);
-        i += 1;
-    }
-    all
+// The sum of a row's entries, and of class times entry.
+struct RowSums {
+    entries: u64,
+    weighted: u64,
 }
 
-// The sum of class times entry: the entries from each class on, summed over the classes.
-fn weighted(row: [u64; 32]) -> u64 {
-    let mut all: u64 = 0;
-    let mut rest: u64 = 0;
+// The sums of an interval row: the entries from each class on, summed over the classes.
+fn sums(row: [u64; 32]) -> RowSums {
+    let mut entries: u64 = 0;
+    let mut weighted: u64 = 0;
     let mut i: usize = 32;
     while 0 < i {
         i -= 1;
-        rest = std::num::wrapping_add_u64(rest, row[i]);
-        all = std::num::wrapping_add_u64(all, rest);
+        entries = std::num::wrapping_add_u64(entries, row[i]);
+        weighted = std::num::wrapping_add_u64(weighted, entries);
     }
-    all
+    RowSums { entries, weighted }
 }
 
 // The interval row of a class.
 fn row(scheme: Scheme, class: u64) {
-    console::bytes(b"ROW");
-    console::number(class);
+    word(b"ROW", class);
     let answer = rows::row(scheme, class);
+    told(answer.number);
     if answer.number == 0 {
-        let lower = answer.lower;
-        let upper = answer.upper;
-        console::bytes(b" OK");
-        console::number(sum(lower));
-        console::number(sum(upper));
-        console::number(weighted(lower));
-        console::number(weighted(upper));
-    } else {
-        no(answer.number);
+        let lowers = answer.lower;
+        let uppers = answer.upper;
+        let lower = sums(lowers);
+        let upper = sums(uppers);
+        console::number(lower.entries);
+        console::number(upper.entries);
+        console::number(lower.weighted);
+        console::number(upper.weighted);
     }
     console::end();
 }
@@ -263,23 +267,17 @@ fn payoff(kind: u8, classes: u8, number: u8, premiums: [u32; 32]) -> [u64; 32] {
 
 // The low and the high step of a class at a kind of payoff.
 fn step(scheme: Scheme, number: u8, class: u64, kind: u8) {
-    console::bytes(b"STEP");
-    console::number(class);
-    console::number(wide(kind));
+    word(b"STEP", class);
+    console::number(kind as u64);
     let premiums = scheme.premiums;
     let payoff = payoff(kind, scheme.classes, number, premiums);
     let low = step::low_step(scheme, payoff, class);
     let high = step::high_step(scheme, payoff, class);
-    if low.number != 0 {
-        no(low.number);
-    } else if high.number != 0 {
-        no(high.number);
-    } else {
-        console::bytes(b" OK");
-        console::number(low.figure);
-        console::number(high.figure);
-    }
-    console::end();
+    pair(
+        scheme::or_else(low.number, high.number),
+        low.figure,
+        high.figure,
+    );
 }
 
 // The steps of a class at all kinds of payoff.
@@ -294,8 +292,7 @@ fn steps(scheme: Scheme, number: u8, class: u64) {
 
 // The share of a class after a number of years.
 fn share(scheme: Scheme, class: u64, year: u64) {
-    console::bytes(b"SHARE");
-    console::number(class);
+    word(b"SHARE", class);
     console::number(year);
     answer(bounds::share(scheme, class, year));
 }
@@ -311,29 +308,21 @@ fn shares(scheme: Scheme, class: u64) {
 }
 
 fn mean(scheme: Scheme, year: u64) {
-    console::bytes(b"MEAN");
-    console::number(year);
+    word(b"MEAN", year);
     answer(bounds::mean(scheme, year));
 }
 
 fn total(scheme: Scheme, year: u64) {
-    console::bytes(b"TOTAL");
-    console::number(year);
+    word(b"TOTAL", year);
     answer(bounds::total(scheme, year));
 }
 
 // A share sheet into two slices.
 fn share_sheet(scheme: Scheme, year: u64, low: &mut [u64], high: &mut [u64]) {
-    console::bytes(b"SHARES");
-    console::number(year);
+    word(b"SHARES", year);
     console::number(low.len() as u64);
     console::number(high.len() as u64);
-    let cause = bounds::share_sheet(scheme, year, low, high);
-    if cause == 0 {
-        console::bytes(b" OK");
-    } else {
-        no(cause);
-    }
+    told(bounds::share_sheet(scheme, year, low, high));
     console::number(checksum_of(low));
     console::number(checksum_of(high));
     console::end();
@@ -348,8 +337,8 @@ fn sheet_into(scheme: Scheme, year: u64, a: usize, b: usize) {
     }
 }
 
-// Everything asked of an accepted scheme but its sheet.
-fn accepted(scheme: Scheme, number: u8, length: usize) {
+// The record written into rooms of its length, of five bytes more and of one less.
+fn writes(scheme: Scheme, length: usize) {
     if length == 0 {
         return;
     }
@@ -359,23 +348,33 @@ fn accepted(scheme: Scheme, number: u8, length: usize) {
     write(scheme, length);
     write(scheme, length + 5);
     write(scheme, length - 1);
+}
+
+// Everything asked of an accepted record but its sheet.
+fn accepted(scheme: Scheme, number: u8, bytes: &[u8]) {
     let s = scheme.classes as u64;
+    let beyond = s + 1;
     let start = scheme.start as u64;
+    rules(bytes, start);
+    rules(bytes, s);
+    rules(bytes, beyond);
+    bands(bytes, scheme.columns);
+    writes(scheme, bytes.len());
     row(scheme, 0);
     row(scheme, 1);
     row(scheme, start);
     row(scheme, s);
-    row(scheme, s + 1);
+    row(scheme, beyond);
     steps(scheme, number, 0);
     steps(scheme, number, 1);
     steps(scheme, number, start);
     steps(scheme, number, s);
-    steps(scheme, number, s + 1);
+    steps(scheme, number, beyond);
     shares(scheme, 0);
     shares(scheme, 1);
     shares(scheme, start);
     shares(scheme, s);
-    shares(scheme, s + 1);
+    shares(scheme, beyond);
     money(scheme);
     sheets(scheme);
 }
@@ -412,22 +411,20 @@ fn sheets(scheme: Scheme) {
 }
 
 // The length and checksum of a sheet, and a short one whole.
-fn show(sheet: &[u8], length: usize) {
-    console::bytes(b"SHEET");
-    console::number(length as u64);
-    console::number(checksum(sheet, length));
+fn show(sheet: &[u8]) {
+    word(b"SHEET", sheet.len() as u64);
+    console::number(checksum(sheet));
     console::end();
-    if length <= 1000 {
-        console::part(sheet, length);
+    if sheet.len() <= 1000 {
+        console::bytes(sheet);
     }
 }
 
-// The sheet's text.
-fn text(bytes: &[u8]) {
-    let mut out = [0u8; 132_862];
-    match sheet_text::sheet(bytes, &mut out) {
+// The sheet's text in a slice.
+fn text_in(bytes: &[u8], out: &mut [u8]) {
+    match sheet_text::sheet(bytes, out) {
         SheetAnswer::Written(length) => {
-            show(&out, length);
+            show(front(out, length));
         }
         SheetAnswer::Declined(_) => {
             console::complain(b"family: no room for the text\n");
@@ -435,43 +432,40 @@ fn text(bytes: &[u8]) {
     }
 }
 
+// The sheet's text.
+fn text(bytes: &[u8]) {
+    let mut out = [0u8; 132_862];
+    text_in(bytes, &mut out);
+}
+
 // The lines of one record.
 fn one(number: u8, bytes: &[u8]) {
-    console::bytes(b"RECORD");
-    console::number(wide(number));
+    word(b"RECORD", number as u64);
     console::number(bytes.len() as u64);
-    hex(bytes, bytes.len());
+    hex(bytes);
     console::end();
     let read = record::read(bytes);
-    console::bytes(b"CAUSE");
-    console::number(wide(read.number));
+    word(b"CAUSE", read.number as u64);
     console::end();
-    let scheme = read.scheme;
     rules(bytes, 0);
     rules(bytes, 1);
     if read.number == 0 {
-        let s = scheme.classes as u64;
-        rules(bytes, wide(scheme.start));
-        rules(bytes, s);
-        rules(bytes, s + 1);
-    }
-    bands(bytes, scheme.columns);
-    if read.number == 0 {
-        accepted(scheme, number, bytes.len());
+        accepted(read.scheme, number, bytes);
+    } else {
+        bands(bytes, 0);
     }
     text(bytes);
 }
 
 // A ready scheme's record.
 fn ready(number: u64, base: u64) {
-    console::bytes(b"READY");
-    console::number(number);
+    word(b"READY", number);
     console::number(base);
     let answer = ready::ready(number, base);
     if answer.number == 0 {
         record_of(answer.scheme);
     } else {
-        no(answer.number);
+        told(answer.number);
     }
     console::end();
 }
@@ -479,16 +473,8 @@ fn ready(number: u64, base: u64) {
 // The record of a scheme, and its length before it.
 fn record_of(scheme: Scheme) {
     let mut out = [0u8; 455];
-    match writing::write(scheme, &mut out) {
-        WriteAnswer::Written(length) => {
-            console::bytes(b" OK");
-            console::number(length as u64);
-            hex(&out, length);
-        }
-        WriteAnswer::Declined(cause) => {
-            no(cause);
-        }
-    }
+    let length = wrote(writing::write(scheme, &mut out));
+    hex(front(&out, length));
 }
 
 fn ready_schemes() {
@@ -513,29 +499,22 @@ fn length_of(high: u8, low: u8) -> usize {
     (high as usize) * 256 + (low as usize)
 }
 
-// All records in the first n bytes, numbered from 1.
-fn all(input: &[u8], n: usize) {
+// All records, numbered from 1.
+fn all(input: &[u8]) {
     let mut at: usize = 0;
     let mut number: u8 = 0;
-    while at < n {
-        if input.len() < n {
-            return;
-        }
-        if n - at < 2 {
+    while 2 <= input.len() - at {
+        let from = at + 2;
+        let length = length_of(input[at], input[at + 1]);
+        if input.len() - from < length {
             return;
         }
         if 254 < number {
             return;
         }
-        let from = at + 2;
-        let length = length_of(input[at], input[at + 1]);
-        if n - from < length {
-            return;
-        }
-        let to = from + length;
+        at = from + length;
         number += 1;
-        one(number, &input[from..to]);
-        at = to;
+        one(number, &input[from..at]);
     }
 }
 
@@ -543,7 +522,7 @@ fn main() {
     let mut input = io::large_buffer();
     match console::read_all(&mut input) {
         Got::Bytes(n) => {
-            all(&input, n);
+            all(front(&input, n));
             ready_schemes();
         }
         Got::Failed => {

@@ -1,29 +1,21 @@
 -- `all` is safe and ends: each record moves the place on.
 use Prim.Native.Nat.{_≤_, _-_}
+use lib.ListN.{length}
 use borrow.Author.Needs.{needs}
 use Rattle.family.proofs.all.Statement.{statement}
 use Rattle.family.proofs.all.Tie as tie
 
 abbrev Inv-loop : tie.InvT-loop
-Inv-loop input n at₀ number₀ at number = at ≤ n
+Inv-loop input at₀ number₀ at number = at ≤ length input
 
 abbrev μ-loop : tie.MeasureT-loop
-μ-loop input n at₀ number₀ at number = n - at
+μ-loop input at₀ number₀ at number = length input - at
 
 loop-holds : tie.Need-loop-holds Inv-loop μ-loop
 loop-holds c = search needs
 
-returns : tie.Need-returns Inv-loop μ-loop
-returns c = search needs
-
-sub-if2 : tie.Need-sub-if2 Inv-loop μ-loop
-sub-if2 c = search needs
-
-returns-2 : tie.Need-returns-2 Inv-loop μ-loop
-returns-2 c = search needs
-
-returns-3 : tie.Need-returns-3 Inv-loop μ-loop
-returns-3 c = search needs
+sub-loop : tie.Need-sub-loop Inv-loop μ-loop
+sub-loop c = search needs
 
 add-from : tie.Need-add-from Inv-loop μ-loop
 add-from c = search needs
@@ -40,14 +32,17 @@ shared-slice-read-length-of-2 c = search needs
 length-of-requires : tie.Need-length-of-requires Inv-loop μ-loop
 length-of-requires c κs = tt
 
-sub-if4 : tie.Need-sub-if4 Inv-loop μ-loop
-sub-if4 c = search needs
+sub-if1 : tie.Need-sub-if1 Inv-loop μ-loop
+sub-if1 c = search needs
 
-returns-4 : tie.Need-returns-4 Inv-loop μ-loop
-returns-4 c = search needs
+returns : tie.Need-returns Inv-loop μ-loop
+returns c = search needs
 
-add-to : tie.Need-add-to Inv-loop μ-loop
-add-to c = search needs
+returns-2 : tie.Need-returns-2 Inv-loop μ-loop
+returns-2 c = search needs
+
+add-at : tie.Need-add-at Inv-loop μ-loop
+add-at c = search needs
 
 add-number : tie.Need-add-number Inv-loop μ-loop
 add-number c = search needs
@@ -70,8 +65,8 @@ loop-less c = search needs
 loop-again : tie.Need-loop-again Inv-loop μ-loop
 loop-again c = search needs
 
-returns-5 : tie.Need-returns-5 Inv-loop μ-loop
-returns-5 c = search needs
+returns-3 : tie.Need-returns-3 Inv-loop μ-loop
+returns-3 c = search needs
 
 pub all-spec : {M : Type 1} → statement M
 all-spec =
@@ -80,18 +75,16 @@ all-spec =
     Inv-loop
     μ-loop
     loop-holds
-    returns
-    sub-if2
-    returns-2
-    returns-3
+    sub-loop
     add-from
     shared-slice-read-length-of
     add-length-of
     shared-slice-read-length-of-2
     length-of-requires
-    sub-if4
-    returns-4
-    add-to
+    sub-if1
+    returns
+    returns-2
+    add-at
     add-number
     sub-one
     part-one-start
@@ -99,4 +92,4 @@ all-spec =
     one-requires
     loop-less
     loop-again
-    returns-5)
+    returns-3)

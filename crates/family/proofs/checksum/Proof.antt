@@ -6,16 +6,13 @@ use Rattle.family.proofs.checksum.Statement.{statement}
 use Rattle.family.proofs.checksum.Tie as tie
 
 abbrev Inv-loop : tie.InvT-loop
-Inv-loop text n sum₀ i₀ sum i = i ≤ length text
+Inv-loop text sum₀ i₀ sum i = i ≤ length text
 
 abbrev μ-loop : tie.MeasureT-loop
-μ-loop text n sum₀ i₀ sum i = length text - i
+μ-loop text sum₀ i₀ sum i = length text - i
 
 loop-holds : tie.Need-loop-holds Inv-loop μ-loop
 loop-holds c = search needs
-
-returns : tie.Need-returns Inv-loop μ-loop
-returns c = search needs
 
 shared-slice-read-add : tie.Need-shared-slice-read-add Inv-loop μ-loop
 shared-slice-read-add c = search needs
@@ -32,8 +29,8 @@ loop-less c = search needs
 loop-again : tie.Need-loop-again Inv-loop μ-loop
 loop-again c = search needs
 
-returns-2 : tie.Need-returns-2 Inv-loop μ-loop
-returns-2 c = search needs
+returns : tie.Need-returns Inv-loop μ-loop
+returns c = search needs
 
 pub checksum-spec : {M : Type 1} → statement M
 checksum-spec =
@@ -42,10 +39,9 @@ checksum-spec =
     Inv-loop
     μ-loop
     loop-holds
-    returns
     shared-slice-read-add
     add-requires
     add-i
     loop-less
     loop-again
-    returns-2)
+    returns)

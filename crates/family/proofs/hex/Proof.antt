@@ -6,19 +6,16 @@ use Rattle.family.proofs.hex.Statement.{statement}
 use Rattle.family.proofs.hex.Tie as tie
 
 abbrev Inv-loop : tie.InvT-loop
-Inv-loop part n i₀ i = i ≤ length part
+Inv-loop part i₀ i = i ≤ length part
 
 abbrev μ-loop : tie.MeasureT-loop
-μ-loop part n i₀ i = length part - i
+μ-loop part i₀ i = length part - i
 
 slice-aggregate-bytes : tie.Need-slice-aggregate-bytes Inv-loop μ-loop
 slice-aggregate-bytes c = search needs
 
 bytes-requires : tie.Need-bytes-requires Inv-loop μ-loop
 bytes-requires c κs = tt
-
-returns : tie.Need-returns Inv-loop μ-loop
-returns c = search needs
 
 slice-aggregate-bytes-2 : tie.Need-slice-aggregate-bytes-2 Inv-loop μ-loop
 slice-aggregate-bytes-2 c = search needs
@@ -28,9 +25,6 @@ bytes-requires-2 c κs = tt
 
 loop-holds : tie.Need-loop-holds Inv-loop μ-loop
 loop-holds c = search needs
-
-returns-2 : tie.Need-returns-2 Inv-loop μ-loop
-returns-2 c = search needs
 
 shared-slice-read-hex-byte : tie.Need-shared-slice-read-hex-byte Inv-loop μ-loop
 shared-slice-read-hex-byte c = search needs
@@ -47,8 +41,8 @@ loop-less c = search needs
 loop-again : tie.Need-loop-again Inv-loop μ-loop
 loop-again c = search needs
 
-returns-3 : tie.Need-returns-3 Inv-loop μ-loop
-returns-3 c = search needs
+returns : tie.Need-returns Inv-loop μ-loop
+returns c = search needs
 
 pub hex-spec : {M : Type 1} → statement M
 hex-spec =
@@ -58,14 +52,12 @@ hex-spec =
     μ-loop
     slice-aggregate-bytes
     bytes-requires
-    returns
     slice-aggregate-bytes-2
     bytes-requires-2
     loop-holds
-    returns-2
     shared-slice-read-hex-byte
     hex-byte-requires
     add-i
     loop-less
     loop-again
-    returns-3)
+    returns)

@@ -1,14 +1,14 @@
--- `weighted` is safe and ends: the place falls.
+-- `sums` is safe and ends: the place falls.
 use Prim.Native.Nat.{_≤_}
 use borrow.Author.Needs.{needs}
-use Rattle.family.proofs.weighted.Statement.{statement}
-use Rattle.family.proofs.weighted.Tie as tie
+use Rattle.family.proofs.sums.Statement.{statement}
+use Rattle.family.proofs.sums.Tie as tie
 
 abbrev Inv-loop : tie.InvT-loop
-Inv-loop row all₀ rest₀ i₀ all rest i = i ≤ 32
+Inv-loop row entries₀ weighted₀ i₀ entries weighted i = i ≤ 32
 
 abbrev μ-loop : tie.MeasureT-loop
-μ-loop row all₀ rest₀ i₀ all rest i = i
+μ-loop row entries₀ weighted₀ i₀ entries weighted i = i
 
 loop-holds : tie.Need-loop-holds Inv-loop μ-loop
 loop-holds c = search needs
@@ -37,8 +37,8 @@ loop-again c = search needs
 returns : tie.Need-returns Inv-loop μ-loop
 returns c = search needs
 
-pub weighted-spec : {M : Type 1} → statement M
-weighted-spec =
+pub sums-spec : {M : Type 1} → statement M
+sums-spec =
     tie.close
     (tie.spec
     Inv-loop
