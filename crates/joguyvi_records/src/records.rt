@@ -1,6 +1,6 @@
 // A scheme put into a lent buffer as a record.
-use writing::WriteAnswer;
 use scheme::Scheme;
+use writing::WriteAnswer;
 ghost use mathlib.Core.Path.{_≡_};
 ghost use Rattle.scheme.specs.Cause.{causeOf};
 ghost use Rattle.writing.specs.Write.{numberOf, valueOf, writeLeaves};

@@ -9,7 +9,6 @@ use lib.Seq.{length-take-le, getD-append-add, getD-drop}
 use native.Mathlib.Decide.{decLt}
 use native.Mathlib.Omega.{arith}
 use borrow.Author.Tests.{lt-ltb, le-ltb}
-use native.Mathlib.Decide.{ℕ-discrete}
 use Rattle.setchain.specs.Sums.{onlyIf}
 use Rattle.setchain.specs.Laws.Sums.{onlyIf-true, onlyIf-false}
 use Rattle.scheme.specs.declared.Scheme.{Scheme}
