@@ -99,7 +99,7 @@ fn rules(bytes: &[u8], from: usize, s: usize, m: usize) -> [u8; 256]
     let mut at = from;
     let mut to: usize = 0;
     while i < s {
-        numbers::copy(bytes, at, &mut rules, to, m);
+        putting::copy(bytes, at, &mut rules, to, m);
         at += m;
         to += 8;
         i += 1;

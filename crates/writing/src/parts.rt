@@ -19,7 +19,7 @@ fn header(out: &mut [u8], size: usize, s: u8, m: u8, start: u8, horizon: u8)
     ensures { λ _. ⌜ now (out .exit) ≡ sets (now (out .entry)) 0 (headerBytes 1 size s m start horizon) ⌝ }
 {
     out[0] = 1;
-    numbers::put2(out, 1, size as u32);
+    putting::put2(out, 1, size as u32);
     out[3] = s;
     out[4] = m;
     out[5] = start;
@@ -35,7 +35,7 @@ fn rules(out: &mut [u8], from: usize, rules: &[u8; 256], s: usize, m: usize)
     let mut at: usize = 0;
     let mut to = from;
     while i < s {
-        numbers::copy(rules, at, out, to, m);
+        putting::copy(rules, at, out, to, m);
         at += 8;
         to += m;
         i += 1;
@@ -47,8 +47,8 @@ fn put_band(out: &mut [u8], at: usize, lower: u32, upper: u32)
     requires { ⌜ at + 8 ≤ length (now out) ⌝ }
     ensures { λ _. ⌜ now (out .exit) ≡ sets (now (out .entry)) at (bandBytes lower upper) ⌝ }
 {
-    numbers::put4(out, at, lower);
-    numbers::put4(out, at + 4, upper);
+    putting::put4(out, at, lower);
+    putting::put4(out, at + 4, upper);
 }
 
 // puts m bands, lower and upper, from place `from` on
@@ -73,7 +73,7 @@ fn premiums(out: &mut [u8], from: usize, premiums: &[u32; 32], s: usize)
     let mut j: usize = 0;
     let mut to = from;
     while j < s {
-        numbers::put4(out, to, premiums[j]);
+        putting::put4(out, to, premiums[j]);
         to += 4;
         j += 1;
     }

@@ -4,10 +4,10 @@ use mathlib.Core.Path.{sym, _∙_}
 use native.Mathlib.Omega.{arith}
 use lib.ListN.{length, length-set}
 use borrow.Author.Tests.{leb-true, not-true, not-false}
 use Rattle.numbers.specs.Laws.{put-held, put-none, put-2}
 use borrow.Author.Needs.{needs}
-use Rattle.numbers.proofs.put2.Statement.{statement}
-use Rattle.numbers.proofs.put2.Tie as tie
+use Rattle.putting.proofs.put2.Statement.{statement}
+use Rattle.putting.proofs.put2.Tie as tie
 
 -- the slice holds the number
 room : (c : tie.Else1) → c .before .before .before .args .at + 2 ≤ length (c .before .before .before .args .out .now)

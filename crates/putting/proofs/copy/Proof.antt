@@ -5,10 +5,10 @@ use native.Mathlib.Omega.{arith}
 use lib.ListN.{length, take, drop}
 use lib.Seq.{sets, length-sets}
 use borrow.Author.Tests.{leb-true, not-true, not-false}
 use Rattle.numbers.specs.Laws.{copy-more, part-held, part-none, part-no-room}
 use borrow.Author.Needs.{needs}
-use Rattle.numbers.proofs.copy.Statement.{statement}
-use Rattle.numbers.proofs.copy.Tie as tie
+use Rattle.putting.proofs.copy.Statement.{statement}
+use Rattle.putting.proofs.copy.Tie as tie
 
 abbrev Inv-loop : tie.InvT-loop
 Inv-loop from at out₀ to n k₀ out k =
