@@ -31,7 +31,7 @@ boundsLeaves bytes b out = filledWhere (readCause bytes) (putLeaves b out) out
 abbrev pub BufferKeeps : (ℕ → ℕ → Type 0) → ℕ → List ℕ → Type 0
 BufferKeeps keeps number out = number ≡ 0 → keeps (getD out 0 0) (getD out 1 0)
 
--- the promise of the share of a class (crate bounds, `Promises`)
+-- the promise of the share of a class (crate answers, `Promises`)
 abbrev pub ShareKept : Scheme → (class year low high : ℕ) → Type 0
 ShareKept s class year low high = Kept s year (startShare s (class - 1)) low high
 

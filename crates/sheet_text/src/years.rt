@@ -1,4 +1,4 @@
-// The lines of the years, from a table of low and one of high figures (crate bounds, `Table`).
+// The lines of the years, from a table of low and one of high figures (crate answers, `Table`).
 ghost use Prim.Native.Nat.{suc, _+_, _*_, _<_, _≤_};
 ghost use lib.ListN.{length};
 ghost use Rattle.record.specs.Joined.{joined};
