@@ -3,14 +3,17 @@
 use Prim.Native.Nat.{ℕ, _-_, _≤_}
 use mathlib.Core.Path.{_≡_, ap, sym, _∙_, subst, refl}
 use mathlib.Core.Bool.{Bool, true, false, cond}
-use mathlib.Core.List.{List, []}
+use mathlib.Core.List.{List, [], _++_, append-nil}
 use native.Mathlib.Omega.{arith}
 use native.Mathlib.Decide.{ℕ-discrete}
 use lib.Dec.{eqb}
 use lib.ListN.{length, take, drop, length-drop}
-use lib.Seq.{length-take-le}
+use lib.Seq.{sets, length-take-le, take-length, drop-length}
 use Rattle.scheme.specs.Cause.{outside}
 use Rattle.scheme.specs.Laws.Cause.{first-cause, second-cause, declined, answered}
+use Rattle.numbers.specs.Numbers.{partPut}
+use Rattle.numbers.specs.Laws.{part-held}
+use Rattle.record.specs.Laws.Lists.{sets-front}
 use Rattle.record.specs.Layout.{version1, rowPlace, classesIn, columnsIn}
 use Rattle.record.specs.Read.{readCause}
 use Rattle.rule_rows.specs.RuleRow.{rowCause, ruleRow}
@@ -46,8 +49,19 @@ module _ (part out : List ℕ) where
   pub part-out : (length part ≡ 0 → ⊥) → (length out ≡ length part → ⊥) → Parted 13 (partNumber part out) part out out
   part-out h wrong = (sym (some h ∙ buffer-out (length part) out wrong), sym (declined 13 part out thirteen))
 
-  pub part-copied : {out′ : List ℕ} → (length part ≡ 0 → ⊥) → length out ≡ length part → out′ ≡ part → Parted 0 (partNumber part out) part out out′
-  part-copied h fits e = (sym (some h ∙ buffer-fits (length part) out fits), e)
+  -- as many bytes laid from the front are all that the buffer then holds
+  whole : length out ≡ length part → sets out 0 (take (length part) part) ≡ part
+  whole fits =
+      ap (sets out 0) (take-length part)
+      ∙ sets-front out part (omega arith)
+      ∙ ap (λ n. part ++ drop n out) (sym fits)
+      ∙ ap (λ l. part ++ l) (drop-length out)
+      ∙ append-nil part
+
+  pub part-copied : {out′ : List ℕ} → (length part ≡ 0 → ⊥) → length out ≡ length part → out′ ≡ partPut (length part) part 0 out 0
+      → Parted 0 (partNumber part out) part out out′
+  part-copied h fits e =
+      (sym (some h ∙ buffer-fits (length part) out fits), e ∙ part-held (length part) part 0 out 0 (omega arith) (omega arith) ∙ whole fits)
 
 -- the test of the class
 class-only : (b : Bool) (n : ℕ) → n ≡ cond b 11 0 → (n ≡ 0 → ⊥) → n ≡ 11

@@ -1,4 +1,4 @@
-// The cause of two buffers, and numbers and bytes copied into lent buffers.
+// The cause of two buffers, and numbers copied into a lent buffer.
 use buffers::size_cause;
 use scheme::or_else;
 ghost use mathlib.Core.Path.{_≡_};
@@ -22,18 +22,6 @@ pub fn copy_ends(from: [u32; 8], out: &mut [u32])
 {
     let mut k: usize = 0;
     while k < out.len() {
-        out[k] = from[k];
-        k += 1;
-    }
-}
-
-// Copies bytes into a buffer of as many.
-pub fn copy_bytes(from: &[u8], out: &mut [u8])
-    requires { ⌜ length (now out) ≡ length (now from) ⌝ }
-    ensures { λ _. ⌜ now (out .exit) ≡ now (from .entry) ⌝ }
-{
-    let mut k: usize = 0;
-    while k < from.len() {
         out[k] = from[k];
         k += 1;
     }

@@ -37,7 +37,7 @@ pub fn put_part(part: &[u8], out: &mut [u8]) -> u8
     if out.len() != part.len() {
         return scheme::SLICE_OUT;
     }
-    copies::copy_bytes(part, out);
+    putting::copy(part, 0, out, 0, part.len());
     0
 }
 

@@ -11,14 +11,14 @@ returns c = part-empty (c .before .before .before .args .part .now) (c .before .
 returns-2 : tie.Need-returns-2
 returns-2 c = part-out (c .before .before .before .before .args .part .now) (c .before .before .before .before .args .out .now) (c .before .if1 .left) (c .if2 .taken)
 
-copy-bytes-requires : tie.Need-copy-bytes-requires
-copy-bytes-requires c κs = search needs
+copy-requires : tie.Need-copy-requires
+copy-requires c κs = search needs
 
 same-length : tie.Need-same-length
 same-length c = search needs
 
 returns-3 : tie.Need-returns-3
-returns-3 c = part-copied (c .before .before .before .before .before .before .before .before .args .part .now) (c .before .before .before .before .before .before .before .before .args .out .now) (c .before .before .before .before .before .if1 .left) (c .before .before .before .before .if2 .left) (c .before .before .copy-bytes .ensures)
+returns-3 c = part-copied (c .before .before .before .before .before .before .before .before .args .part .now) (c .before .before .before .before .before .before .before .before .args .out .now) (c .before .before .before .before .before .if1 .left) (c .before .before .before .before .if2 .left) (c .before .before .copy .ensures)
 
 pub put-part-spec : {M : Type 1} → statement M
 put-part-spec =
@@ -26,6 +26,6 @@ put-part-spec =
     (tie.spec
     returns
     returns-2
-    copy-bytes-requires
+    copy-requires
     same-length
     returns-3)
