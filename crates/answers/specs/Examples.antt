@@ -1,4 +1,4 @@
--- Document 01's examples that are marked (m), under one theorem.
+-- Document 01's examples that are marked (m), under one theorem; and Example A's share sheet and table, computed.
 use Prim.Native.Nat.{ℕ, zero, suc, _*_, _≤_}
 use mathlib.Core.Path.{_≡_, refl, ap, ap₂, sym, _∙_, subst}
 use mathlib.Core.List.{[], _∷_}
@@ -12,7 +12,7 @@ use Rattle.setchain.specs.Years.{lowYears, highYears, lowShare, highShare}
 use Rattle.setchain.specs.Examples.{StepExamples, step-examples}
 use Rattle.setchain.specs.Laws.Step.{low-parts, high-parts}
 use Rattle.scheme.specs.declared.Scheme.{Scheme}
-use Rattle.scheme.specs.Tables.{anyBelow}
+use Rattle.scheme.specs.Tables.{anyBelow, tab}
 use Rattle.scheme.specs.Accepted.{Accepted}
 use Rattle.scheme.specs.Cause.{outside, sizeOut, startOut, horizonOut, ruleOut, bandOut, sumOut, premiumOut, causeWhere, causeOf, orElse, classCause, yearCause}
 use Rattle.scheme.specs.Rows.{chainOf}
@@ -21,7 +21,8 @@ use Rattle.scheme.specs.Laws.Cause.{answered, second-cause, cond-false, inside-
 use Rattle.scheme.specs.Laws.Judged.{cause-accepted}
 use Rattle.scheme.specs.Laws.Sound.{accepted-sound}
 use Rattle.answers.specs.declared.Bounds.the-variants.{Answered, Refused}
-use Rattle.answers.specs.Answers.{startOf, shareCause, shareAnswer, moneyCause, meanAnswer, totalAnswer}
+use Rattle.answers.specs.Answers.{startOf, shareCause, shareAnswer, moneyCause, meanAnswer, totalAnswer, lowShares, highShares}
+use Rattle.answers.specs.Table.{tableEntry, lowTable, highTable}
 
 -- "Both classes 0→1, 1+→2; bands 333333333 and 666666667, each lower = upper; premiums 10, 11"
 abbrev pub schemeThirds : Scheme
@@ -129,3 +130,14 @@ document-examples =
       horizonZero = horizon-zero;
       thirds = refl;
     }
+
+-- Example A's share sheet of year 1, and all figures of its sheet: "YEAR 0 …" to "TOTAL 25500 26000"
+pub record SheetsA : Type 0 where
+  pub lowShares1 : lowShares schemeA 1 ≡ 800000000 ∷ 100000000 ∷ []
+  pub highShares1 : highShares schemeA 1 ≡ 900000000 ∷ 200000000 ∷ []
+  pub lows : lowTable schemeA ≡ 0 ∷ 1000000000 ∷ 15000 ∷ 800000000 ∷ 100000000 ∷ 10500 ∷ 920000000 ∷ 10000000 ∷ 10050 ∷ 25500 ∷ []
+  pub highs : highTable schemeA ≡ 0 ∷ 1000000000 ∷ 15000 ∷ 900000000 ∷ 200000000 ∷ 11000 ∷ 990000000 ∷ 80000000 ∷ 10400 ∷ 26000 ∷ []
+
+pub sheets-a : SheetsA
+unfolding lowShares highShares lowTable highTable tableEntry tab lowYears highYears lowStep highStep fillRow roomBefore sumTo onlyIf
+sheets-a = record { lowShares1 = refl; highShares1 = refl; lows = refl; highs = refl }
