@@ -15,8 +15,8 @@ use Rattle.setchain.specs.Laws.Step.{low-figure-only, high-figure-only}
 use Rattle.scheme.specs.Tables.{tab}
 use Rattle.gathering.specs.Gathered.{gathered}
 use Rattle.scheme.specs.Laws.Tab.{length-tab, getD-tab}
-use Rattle.order.specs.Order.{NotAfter, Arranged, arranged}
-use Rattle.order.specs.Laws.Arranging.{arranged-holds}
+use Rattle.order.specs.Order.{NotAfter, Arranged, Placed, numbered, sorted}
+use Rattle.order.specs.Laws.Arranging.{numbered-placed, sorted-holds}
 use Rattle.step.specs.Lists.{at, rowIn, gatheredRow, Agree}
 use Rattle.step.specs.Figure.{rounded, stepFigure}
 use Rattle.step.specs.Step.{Steppable, Stepped}
@@ -46,6 +46,13 @@ reached-figure false n r sound f p v w =
     low-figure-only n r sound f v (record { parts = p; inside = w .inside; least = w .extreme; rounded = w .rounded })
 reached-figure true n r sound f p v w =
     high-figure-only n r sound f v (record { parts = p; inside = w .inside; greatest = w .extreme; rounded = w .rounded })
+
+-- the classes in the order of their numbers, sorted, are arranged
+pub numbers-arranged : (payoff before order : List ℕ) {order′ : List ℕ} {d : Bool} → length before ≡ length payoff → length payoff ≤ 128
+    → order ≡ numbered before → order′ ≡ sorted payoff d order → Arranged payoff d order′
+numbers-arranged payoff before order {order′} {d} e few n s =
+    let placed : Placed (length payoff) order = subst (λ o. Placed (length payoff) o) (sym n) (subst (λ k. Placed k (numbered before)) e (numbered-placed before (omega arith))) in
+    subst (Arranged payoff d) (sym s) (sorted-holds payoff d order placed few)
 
 -- a part of an array that was lent, back in its place before the rest
 pub back-room : (n : ℕ) (g rest : List ℕ) → length g ≡ n → n ≤ length (g ++ rest)
@@ -88,13 +95,7 @@ module _ {rules lowers uppers payoff row : List ℕ} (able : Solvable rules lowe
   module _ {d : Bool} (g u o rest : List ℕ)
       (lower : g ≡ tab (length (take (length payoff) (replicate {A = ℕ} 32 0))) (gathered rules lowers))
       (upper : u ≡ tab (length (take (length payoff) (replicate {A = ℕ} 32 0))) (gathered rules uppers))
-      (is : o ≡ arranged payoff d (take (length payoff) (replicate {A = ℕ} 32 0))) where
-    -- the order has the classes by payoff
-    by-payoff : Arranged payoff d o
-    by-payoff =
-        subst (Arranged payoff d) (sym is)
-        (arranged-holds payoff d (take (length payoff) (replicate {A = ℕ} 32 0)) (lent-size (length payoff) (able .few)) (omega (arith, able .few)))
-
+      (by-payoff : Arranged payoff d o) where
     -- the step over the lists that were gathered
     steps : Steppable low high payoff o d row
     unfolding low high n

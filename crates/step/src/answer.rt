@@ -2,11 +2,14 @@
 use crate::StepAnswer;
 use crate::step::step;
 use gathering::gather;
-use order::arrange;
+use order::sort;
 use scheme::Scheme;
+use states::number;
 ghost use mathlib.Core.Path.{_≡_};
 ghost use Prim.Native.Nat.{_≤_};
 ghost use lib.Dec.{ltb};
+ghost use lib.ListN.{length};
+ghost use Rattle.order.specs.Order.{Arranged};
 ghost use Rattle.scheme.specs.Tables.{anyBelow};
 ghost use Rattle.step.specs.Lists.{at};
 ghost use Rattle.step.specs.Solve.{Answerable, Made, Solvable, Solved};
@@ -43,6 +46,15 @@ fn cause(scheme: Scheme, payoff: [u64; 32], class: u64) -> u8
         return scheme::CLASS_OUT;
     }
     0
+}
+
+// Puts all classes in the order of their payoffs.
+fn arrange(payoff: &[u64], falling: bool, order: &mut [u8])
+    requires { ⌜ (length (now order) ≡ length (now payoff)) × (length (now payoff) ≤ 128) ⌝ }
+    ensures { λ _. ⌜ Arranged (now (payoff .entry)) falling (now (order .exit)) ⌝ }
+{
+    number(order);
+    sort(payoff, falling, order);
 }
 
 // The figure of a class from its rules and their bands' ends, and in `row` a row that reaches it.

@@ -1,6 +1,7 @@
 -- `solve` gathers the ends of the interval, arranges the classes by payoff, and takes the step.
 -- Assumes nothing.
 use mathlib.Core.Path.{sym, _∙_}
+use native.Mathlib.Omega.{arith}
 use Rattle.step.proofs.Solving.{back-room, back-size, lent-size, gather-size, solve-steps, solve-solved}
 use borrow.Author.Needs.{needs}
 use Rattle.step.proofs.answer.solve.Statement.{statement}
@@ -31,7 +32,9 @@ slice-aggregate-arrange : tie.Need-slice-aggregate-arrange
 slice-aggregate-arrange c = sym (lent-size _ (c .before .before .before .before .before .before .before .before .before .before .before .before .pre .few))
 
 arrange-requires : tie.Need-arrange-requires
-arrange-requires c κs = tt
+arrange-requires c κs =
+    let few = c .before .before .before .before .before .before .before .before .before .before .before .before .pre .few in
+    (lent-size _ few, omega (arith, few))
 
 array-share-prefix-lower : tie.Need-array-share-prefix-lower
 array-share-prefix-lower c = back-room _ (c .before .before .before .before .before .before .before .gather .last .1 .1 .0) _ (gather-size _ _ _ (c .before .before .before .before .before .before .before .before .before .before .before .before .before .before .pre .few) (c .before .before .before .before .before .before .before .gather .ensures))
