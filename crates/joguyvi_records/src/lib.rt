@@ -4,7 +4,7 @@ ghost use Rattle.scheme.specs.Cause.{orElse};
 ghost use Rattle.record.specs.Read.{readCause};
 ghost use Rattle.writing.specs.Write.{writeLeaves};
 ghost use Rattle.record.specs.Layout.{schemeIn, version1};
-ghost use Rattle.ready.specs.Answer.{readyAnswer};
+ghost use Rattle.ready_schemes.specs.Answer.{readyAnswer};
 ghost use Rattle.buffers.specs.Buffers.{filledWhere};
 ghost use Rattle.joguyvi_records.specs.Records.{recordLength, recordNumber};
 

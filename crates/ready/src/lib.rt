@@ -2,11 +2,12 @@
 ghost use mathlib.Core.Path.{_≡_};
 ghost use Prim.Native.Nat.{_/_, _≤_, _<_};
 ghost use Rattle.scheme.specs.Tables.{tab};
-ghost use Rattle.ready.specs.Scales.{chosen, classesOf, factorOf, tenthsOf};
-ghost use Rattle.ready.specs.Moves.{held, movedClass, Movable};
-ghost use Rattle.ready.specs.Ready.{ruleEntry, premiumEntry, readyScheme};
+ghost use Rattle.ready_schemes.specs.Scales.{chosen, classesOf, factorOf, tenthsOf};
+ghost use Rattle.ready_schemes.specs.Moves.{held, movedClass, Movable};
+ghost use Rattle.ready_schemes.specs.Ready.{ruleEntry, premiumEntry, readyScheme};
 ghost use Rattle.scheme.specs.Stored.{noScheme};
-ghost use Rattle.ready.specs.Answer.{numberCause, baseCause, readyCause, readyAnswer};
+ghost use Rattle.ready_schemes.specs.Answer.{numberCause, baseCause, readyCause, readyAnswer};
+pub use ready_schemes::ReadyAnswer;
 use scheme::Scheme;
 use scheme::or_else;
 
@@ -102,12 +103,6 @@ const SCALE_3: [u16; 24] = [
     3435,
     3953,
 ];
-
-// A ready scheme's answer: its number is 0, or that of the cause beside a scheme all 0.
-pub struct ReadyAnswer {
-    pub number: u8,
-    pub scheme: Scheme,
-}
 
 // The same number, wider.
 fn wide(x: u16) -> u64

@@ -4,8 +4,8 @@ use mathlib.Core.Bool.{cond}
 use lib.Dec.{eqb, ltb}
 use Rattle.scheme.specs.Cause.{outside, orElse}
 use Rattle.scheme.specs.Stored.{noScheme}
-use Rattle.ready.specs.declared.ReadyAnswer.{ReadyAnswer}
-use Rattle.ready.specs.Ready.{readyScheme}
+use Rattle.ready_schemes.specs.declared.ReadyAnswer.{ReadyAnswer}
+use Rattle.ready_schemes.specs.Ready.{readyScheme}
 
 -- "Ready schemes": number 1 to 3, "base 0 to 2,500,000 cents"
 pub record Offered (number base : ℕ) : Type 0 where

@@ -9,11 +9,11 @@ use native.Mathlib.Omega.{arith}
 use native.Mathlib.Decide.{ℕ-discrete, decLt}
 use native.Mathlib.Nat.{mul-le-mul}
 use borrow.Author.Tests.{eq-eqb, ne-eqb, lt-ltb, le-ltb}
-use Rattle.ready.specs.Scales.{chosen, classesOf, factorOf, tenthsOf, premiumOf, scale1, scale2, scale3}
-use Rattle.ready.specs.Moves.{movedClass, Movable}
-use Rattle.ready.specs.Ready.{ruleEntry, premiumEntry, readyScheme}
+use Rattle.ready_schemes.specs.Scales.{chosen, classesOf, factorOf, tenthsOf, premiumOf, scale1, scale2, scale3}
+use Rattle.ready_schemes.specs.Moves.{movedClass, Movable}
+use Rattle.ready_schemes.specs.Ready.{ruleEntry, premiumEntry, readyScheme}
 use Rattle.scheme.specs.Stored.{noScheme}
-use Rattle.ready.specs.Answer.{Offered, readyCause, readyAnswer}
+use Rattle.ready_schemes.specs.Answer.{Offered, readyCause, readyAnswer}
 
 -- what holds of both cases holds of the one picked
 pub cond-all {ℓ} : {A : Type ℓ} (P : A → Type 0) (b : Bool) (x y : A) → P x → P y → P (cond b x y)

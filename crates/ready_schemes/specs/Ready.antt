@@ -5,8 +5,8 @@ use lib.Dec.{ltb}
 use Rattle.setchain.specs.Rows.{ONE}
 use Rattle.scheme.specs.declared.Scheme.{Scheme}
 use Rattle.scheme.specs.Tables.{tab}
-use Rattle.ready.specs.Scales.{classesOf, factorOf, premiumOf}
-use Rattle.ready.specs.Moves.{movedClass}
+use Rattle.ready_schemes.specs.Scales.{classesOf, factorOf, premiumOf}
+use Rattle.ready_schemes.specs.Moves.{movedClass}
 
 -- the value where i is below n, and 0 beyond ("Units and the scheme": "Values stored beyond s or m … 0")
 abbrev pub upTo : ℕ → ℕ → ℕ → ℕ

@@ -13,12 +13,12 @@ use Rattle.scheme.specs.Access.{ruleAt, lowerAt, upperAt, premiumAt}
 use Rattle.scheme.specs.Accepted.{SizeFits, StartFits, HorizonFits, RulesFit, BandsFit, SumsFit, PremiumsFit, Accepted}
 use Rattle.scheme.specs.Cause.{causeOf}
 use Rattle.scheme.specs.Laws.Judged.{cause-accepted}
-use Rattle.ready.specs.Scales.{classesOf, factorOf, premiumOf}
-use Rattle.ready.specs.Moves.{movedClass}
-use Rattle.ready.specs.Ready.{ruleEntry, premiumEntry, readyScheme}
-use Rattle.ready.specs.Answer.{Offered, readyAnswer}
+use Rattle.ready_schemes.specs.Scales.{classesOf, factorOf, premiumOf}
+use Rattle.ready_schemes.specs.Moves.{movedClass}
+use Rattle.ready_schemes.specs.Ready.{ruleEntry, premiumEntry, readyScheme}
+use Rattle.ready_schemes.specs.Answer.{Offered, readyAnswer}
 use Rattle.scheme.specs.Laws.Tab.{getD-tab}
-use Rattle.ready.specs.Laws.{classes-least, classes-most, product-most, rule-in, premium-in, offered}
+use Rattle.ready_schemes.specs.Laws.{classes-least, classes-most, product-most, rule-in, premium-in, offered}
 
 module _ (number base : ℕ) where
   -- the rule of class i + 1 and column k

@@ -2,8 +2,8 @@
 -- Assumes nothing.
 use native.Mathlib.Omega.{arith}
 use Rattle.scheme.specs.Tables.{tab}
-use Rattle.ready.specs.Ready.{readyScheme}
-use Rattle.ready.specs.Laws.{classes-most}
+use Rattle.ready_schemes.specs.Ready.{readyScheme}
+use Rattle.ready_schemes.specs.Laws.{classes-most}
 use borrow.Author.Needs.{needs}
 use Rattle.ready.proofs.made.Statement.{statement}
 use Rattle.ready.proofs.made.Tie as tie
