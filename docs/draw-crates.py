@@ -3,7 +3,7 @@
 import pathlib
 
 OUTSIDE = {"io", "libc", "console"}  # the kit's own libraries, and the programs' input and output
-CHECKS = {"cases", "family"}
+CHECKS = {"cases", "family", "sheets"}
 WIDTH, HEIGHT, GAP, STEP = 108, 34, 22, 78
 
 

@@ -1,7 +1,5 @@
 // Prints document 01's examples that programs check, and every refusal number at least once; the gate compares the lines.
-use bounds::Bounds;
 use scheme::Scheme;
-use sheet_text::SheetAnswer;
 use writing::WriteAnswer;
 
 // A word and a number.
@@ -18,22 +16,6 @@ fn wide(x: u8) -> u64 {
 
 fn wider(x: u32) -> u64 {
     x as u64
-}
-
-// A word and what a call for bounds answered.
-fn answer(word: &[u8], b: Bounds) {
-    console::bytes(word);
-    match b {
-        Bounds::Answered { low, high } => {
-            console::number(low);
-            console::number(high);
-        }
-        Bounds::Refused(number) => {
-            console::bytes(b" REFUSED");
-            console::number(number as u64);
-        }
-    }
-    console::end();
 }
 
 // A word and what writing a record answered.
@@ -117,9 +99,12 @@ fn refused_schemes() {
 // Queries that are refused, by number.
 fn refused_queries(s: Scheme) {
     line(b"ROW OF CLASS 2 OF 1", wide(rows::row(s, 2).number));
-    answer(b"SHARE OF CLASS 2 OF 1", bounds::share(s, 2, 101));
-    answer(b"SHARE IN YEAR 101", bounds::share(s, 1, 101));
-    answer(b"TOTAL IN YEAR 101", bounds::total(s, 101));
+    line(
+        b"SHARE OF CLASS 2 OF 1",
+        wide(queries::share_cause(s, 2, 101)),
+    );
+    line(b"SHARE IN YEAR 101", wide(queries::share_cause(s, 1, 101)));
+    line(b"TOTAL IN YEAR 101", wide(queries::money_cause(s, 101)));
 }
 
 // The first ready scheme: where claims lead, and premiums.
@@ -263,86 +248,12 @@ fn rules_a(bytes: &[u8]) {
     rules(b"RULES OF CLASS 3", bytes, 3);
 }
 
-// Example A's bounds.
-fn bounds_a(s: Scheme) {
-    answer(b"SHARE OF CLASS 1 AFTER 2", bounds::share(s, 1, 2));
-    answer(b"SHARE OF CLASS 2 AFTER 2", bounds::share(s, 2, 2));
-    answer(b"MEAN OF YEAR 2", bounds::mean(s, 2));
-    answer(b"TOTAL OF 2", bounds::total(s, 2));
-}
-
-// A share sheet of Example A for which one slice is too long.
-fn long_sheet_a(s: Scheme) {
-    let mut long = [7u64; 3];
-    let mut high = [7u64; 2];
-    line(
-        b"SHEET OF 3 AND 2",
-        wide(bounds::share_sheet(s, 1, &mut long, &mut high)),
-    );
-    line(b"UNTOUCHED", high[0]);
-}
-
-// A share sheet of Example A.
-fn sheet_a(s: Scheme) {
-    let mut low = [7u64; 2];
-    let mut high = [7u64; 2];
-    line(
-        b"SHEET OF 2 AND 2",
-        wide(bounds::share_sheet(s, 1, &mut low, &mut high)),
-    );
-    line(b"LOW 1", low[0]);
-    line(b"LOW 2", low[1]);
-    line(b"HIGH 1", high[0]);
-    line(b"HIGH 2", high[1]);
-}
-
-// A payoff of Example A's two classes; what lies beyond them is ignored.
-fn payoff_a(second: u64) -> [u64; 32] {
-    let mut payoff = [2_000_000_000u64; 32];
-    payoff[0] = 30;
-    payoff[1] = second;
-    payoff
-}
-
-// The one-year step.
-fn steps(s: Scheme) {
-    let low = step::low_step(s, payoff_a(10), 2);
-    line(b"LOW STEP", wide(low.number));
-    line(b"FIGURE", low.figure);
-    let row = low.row;
-    line(b"PART 1", row[0]);
-    line(b"PART 2", row[1]);
-    line(b"HIGH STEP", step::high_step(s, payoff_a(10), 2).figure);
-    line(
-        b"PAYOFF ABOVE ITS LIMIT",
-        wide(step::high_step(s, payoff_a(1_000_000_001), 3).number),
-    );
-}
-
-// The sheet's text into too short a slice.
-fn short_text(bytes: &[u8]) {
-    let mut out = [0u8; 10];
-    match sheet_text::sheet(bytes, &mut out) {
-        SheetAnswer::Written(length) => {
-            line(b"TEXT OF", length as u64);
-        }
-        SheetAnswer::Declined(number) => {
-            line(b"TEXT INTO 10", number as u64);
-        }
-    }
-}
-
-// Example A: read, written, its rule rows, bounds, steps and sheet.
+// Example A: read, written, and its rule rows.
 fn example_a(bytes: &[u8]) {
     let answer = record::read(bytes);
     line(b"READ", wide(answer.number));
     written(answer.scheme);
     rules_a(bytes);
-    bounds_a(answer.scheme);
-    long_sheet_a(answer.scheme);
-    sheet_a(answer.scheme);
-    steps(answer.scheme);
-    short_text(bytes);
 }
 
 fn main() {

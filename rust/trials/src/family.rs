@@ -3,7 +3,7 @@
 
 use crate::made::{damage, record_of, scheme_of};
 use crate::rng::Rng;
-use plain::{Figures, Scheme, MAX_RECORD, ONE};
+use plain::{Figures, Scheme, ONE};
 use std::fmt::Write;
 
 /// Example A of the scope.
@@ -139,148 +139,104 @@ macro_rules! put {
 
 /// The report on one record.
 pub fn report_record(out: &mut String, number: u64, record: &[u8]) {
-    put!(out, "RECORD {number} {} {}\n", record.len(), hex(record));
     let read = plain::read(record);
-    put!(out, "CAUSE {}\n", read.as_ref().err().unwrap_or(&0));
-
-    let classes = read.as_ref().map_or(vec![0, 1], classes);
-    for &class in &classes {
-        put!(
-            out,
-            "RULES {class} {}\n",
-            hex(plain::rule_row(record, class))
-        );
-    }
-    let bands = plain::bands(record);
-    put!(out, "BANDS {}", bands.len());
-    for (lower, upper) in bands {
+    let told = answer(read.as_ref().map(|_| vec![]).map_err(|&cause| cause));
+    put!(out, "RECORD {number} {} {told}\n", record.len());
+    report_rules(out, record, &[0, 1]);
+    put!(out, "BANDS");
+    for (lower, upper) in plain::bands(record) {
         put!(out, " {lower} {upper}");
     }
     out.push('\n');
-
     if let Ok(scheme) = read {
-        report_scheme(out, number, record.len(), &scheme, &classes);
-    }
-    let text = plain::sheet(record);
-    put!(
-        out,
-        "SHEET {} {}\n",
-        text.len(),
-        checksum(text.iter().copied())
-    );
-    if text.len() <= 1000 {
-        out.push_str(std::str::from_utf8(&text).expect("a sheet is text"));
+        report_scheme(out, number, record, &scheme);
     }
 }
 
-fn classes(scheme: &Scheme) -> Vec<u64> {
+fn report_rules(out: &mut String, record: &[u8], classes: &[u64]) {
+    for &class in classes {
+        let row = plain::rule_row(record, class);
+        put!(out, "RULES {class} {} {}\n", row.len(), bytes_sum(row));
+    }
+}
+
+fn report_scheme(out: &mut String, number: u64, record: &[u8], scheme: &Scheme) {
     let s = u64::from(scheme.classes);
-    vec![0, 1, u64::from(scheme.start), s, s + 1]
-}
-
-fn report_scheme(out: &mut String, number: u64, length: usize, scheme: &Scheme, classes: &[u64]) {
-    for room in [length, length + 5, length - 1] {
+    let start = u64::from(scheme.start);
+    let horizon = u64::from(scheme.horizon);
+    let years = [0, 1, 2, horizon, horizon + 1];
+    report_rules(out, record, &[start, s, s + 1]);
+    for room in [record.len(), record.len() + 5, record.len() - 1] {
         let mut bytes = vec![0xAA; room];
         let result = plain::write(scheme, &mut bytes).map(|length| vec![length as u64]);
         put!(
             out,
             "WRITE {room} {} {}\n",
             answer(result),
-            checksum(bytes.into_iter())
+            bytes_sum(&bytes)
         );
     }
-
-    for &class in classes {
-        let result = plain::row(scheme, class).map(|(lower, upper)| {
-            vec![
-                sum(&lower),
-                sum(&upper),
-                weighted_sum(&lower),
-                weighted_sum(&upper),
-            ]
-        });
-        put!(out, "ROW {class} {}\n", answer(result));
-    }
-
-    for &class in classes {
-        for kind in 0..6 {
-            let payoff = payoff(scheme, number, kind);
-            let low = plain::low_step(scheme, &payoff, class).map(|(figure, _)| figure);
-            let high = plain::high_step(scheme, &payoff, class).map(|(figure, _)| figure);
-            let result = low.and_then(|low| high.map(|high| (low, high)));
-            put!(out, "STEP {class} {kind} {}\n", answer(result.map(pair)));
-        }
-    }
-
-    let horizon = u64::from(scheme.horizon);
-    let years = [0, 1, 2, horizon, horizon + 1];
-    for &class in classes {
-        for year in years {
-            let result = plain::share(scheme, class, year).map(pair);
-            put!(out, "SHARE {class} {year} {}\n", answer(result));
-        }
+    for class in [0, 1, start, s, s + 1] {
+        report_class(out, number, scheme, class, &years);
     }
     for year in years {
-        put!(
-            out,
-            "MEAN {year} {}\n",
-            answer(plain::mean(scheme, year).map(pair))
-        );
+        report_year(out, scheme, year);
     }
-    for year in years {
-        put!(
-            out,
-            "TOTAL {year} {}\n",
-            answer(plain::total(scheme, year).map(pair))
-        );
-    }
+}
 
+fn report_class(out: &mut String, number: u64, scheme: &Scheme, class: u64, years: &[u64]) {
+    let row = plain::row(scheme, class)
+        .map(|(lower, upper)| (checksum(lower.into_iter()), checksum(upper.into_iter())));
+    put!(out, "ROW {class} {}\n", answer(row.map(pair)));
+    for kind in 0..4 {
+        let payoff = payoff(scheme, number, kind);
+        let low = plain::low_step(scheme, &payoff, class).map(|(figure, _)| figure);
+        let high = plain::high_step(scheme, &payoff, class).map(|(figure, _)| figure);
+        let result = low.and_then(|low| high.map(|high| (low, high)));
+        put!(out, "STEP {class} {kind} {}\n", answer(result.map(pair)));
+    }
+    for &year in years {
+        let result = plain::share(scheme, class, year).map(pair);
+        put!(out, "SHARE {class} {year} {}\n", answer(result));
+    }
+}
+
+fn report_year(out: &mut String, scheme: &Scheme, year: u64) {
+    let mean = plain::mean(scheme, year).map(pair);
+    put!(out, "MEAN {year} {}\n", answer(mean));
+    let total = plain::total(scheme, year).map(pair);
+    put!(out, "TOTAL {year} {}\n", answer(total));
     let s = usize::from(scheme.classes);
-    let queries = years
-        .iter()
-        .map(|&year| (year, s, s))
-        .chain([(0, s - 1, s), (0, s, s + 1)]);
-    for (year, a, b) in queries {
+    for (a, b) in [(s, s), (s, s + 1), (s / 2, s)] {
         let (mut low, mut high) = (vec![7; a], vec![7; b]);
         let result = plain::share_sheet(scheme, year, &mut low, &mut high).map(|()| vec![]);
-        let sums = (checksum(big_endian(&low)), checksum(big_endian(&high)));
         put!(
             out,
-            "SHARES {year} {a} {b} {} {} {}\n",
+            "SHARES {year} {} {} {}\n",
             answer(result),
-            sums.0,
-            sums.1
+            checksum(low.into_iter()),
+            checksum(high.into_iter())
         );
     }
 }
 
 fn report_ready(out: &mut String) {
     let queries = [
-        (0, 1000),
+        (0, 2_500_001),
         (1, 0),
-        (1, 1000),
         (1, 2_500_000),
-        (1, 2_500_001),
-        (2, 1),
         (2, 999),
-        (2, 2_500_000),
         (2, 2_500_001),
         (3, 123_457),
-        (3, 2_500_000),
         (3, 4_000_000_000),
         (4, 0),
-        (4, 2_500_001),
     ];
     for (number, base) in queries {
-        put!(out, "READY {number} {base} ");
-        match plain::ready(number, base) {
-            Ok(scheme) => {
-                let mut bytes = [0; MAX_RECORD];
-                let length = plain::write(&scheme, &mut bytes).expect("an accepted scheme");
-                put!(out, "OK {length} {}\n", hex(&bytes[..length]));
-            }
-            Err(cause) => put!(out, "NO {cause}\n"),
-        }
+        let result = plain::ready(number, base).map(|scheme| {
+            let record = record_of(&scheme);
+            vec![record.len() as u64, bytes_sum(&record)]
+        });
+        put!(out, "READY {number} {base} {}\n", answer(result));
     }
 }
 
@@ -292,11 +248,9 @@ fn payoff(scheme: &Scheme, number: u64, kind: u64) -> Figures {
         let index = class as usize - 1;
         let mixed = (618_033_989 * class + 271_828_183 * number) % (ONE + 1);
         payoff[index] = match kind {
-            0 => 0,
-            1 => ONE,
-            2 => 100 * u64::from(scheme.premiums[index]),
-            4 => mixed % 3,
-            5 if class == s => ONE + 1,
+            0 => 100 * u64::from(scheme.premiums[index]),
+            1 => mixed % 3,
+            2 if class == s => ONE + 1,
             _ => mixed,
         };
     }
@@ -316,31 +270,14 @@ fn answer(result: Result<Vec<u64>, u8>) -> String {
     }
 }
 
-fn hex(bytes: &[u8]) -> String {
-    if bytes.is_empty() {
-        return "-".to_string();
-    }
-    bytes.iter().map(|byte| format!("{byte:02x}")).collect()
-}
-
-fn sum(figures: &Figures) -> u64 {
-    figures.iter().sum()
-}
-
-fn weighted_sum(figures: &Figures) -> u64 {
-    (1..)
-        .zip(figures)
-        .map(|(j, figure): (u64, _)| j * figure)
-        .sum()
-}
-
-fn big_endian(numbers: &[u64]) -> impl Iterator<Item = u8> + '_ {
-    numbers.iter().flat_map(|number| number.to_be_bytes())
+/// The checksum of bytes.
+pub fn bytes_sum(bytes: &[u8]) -> u64 {
+    checksum(bytes.iter().map(|&byte| u64::from(byte)))
 }
 
 /// The checksum that the format names.
-pub fn checksum(bytes: impl Iterator<Item = u8>) -> u64 {
-    bytes.fold(0, |sum, byte| {
-        (sum * 16_777_619 + u64::from(byte) + 1) % 4_294_967_291
+pub fn checksum(numbers: impl Iterator<Item = u64>) -> u64 {
+    numbers.fold(0, |sum, number| {
+        (sum * 16_777_619 + number % 4_294_967_291 + 1) % 4_294_967_291
     })
 }

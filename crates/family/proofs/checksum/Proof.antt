@@ -14,8 +14,11 @@ abbrev μ-loop : tie.MeasureT-loop
 loop-holds : tie.Need-loop-holds Inv-loop μ-loop
 loop-holds c = search needs
 
-shared-slice-read-add : tie.Need-shared-slice-read-add Inv-loop μ-loop
-shared-slice-read-add c = search needs
+shared-slice-read-wide : tie.Need-shared-slice-read-wide Inv-loop μ-loop
+shared-slice-read-wide c = search needs
+
+wide-requires : tie.Need-wide-requires Inv-loop μ-loop
+wide-requires c κs = tt
 
 add-requires : tie.Need-add-requires Inv-loop μ-loop
 add-requires c κs = tt
@@ -39,7 +42,8 @@ checksum-spec =
     Inv-loop
     μ-loop
     loop-holds
-    shared-slice-read-add
+    shared-slice-read-wide
+    wide-requires
     add-requires
     add-i
     loop-less

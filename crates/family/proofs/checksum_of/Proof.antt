@@ -14,14 +14,14 @@ abbrev μ-loop : tie.MeasureT-loop
 loop-holds : tie.Need-loop-holds Inv-loop μ-loop
 loop-holds c = search needs
 
-mul-add-number : tie.Need-mul-add-number Inv-loop μ-loop
-mul-add-number c = search needs
+mul-add : tie.Need-mul-add Inv-loop μ-loop
+mul-add c = search needs
 
-shared-slice-read-add-number : tie.Need-shared-slice-read-add-number Inv-loop μ-loop
-shared-slice-read-add-number c = search needs
+shared-slice-read-add : tie.Need-shared-slice-read-add Inv-loop μ-loop
+shared-slice-read-add c = search needs
 
-add-number-requires : tie.Need-add-number-requires Inv-loop μ-loop
-add-number-requires c κs = tt
+add-requires : tie.Need-add-requires Inv-loop μ-loop
+add-requires c κs = tt
 
 add-i : tie.Need-add-i Inv-loop μ-loop
 add-i c = search needs
@@ -42,9 +42,9 @@ checksum-of-spec =
     Inv-loop
     μ-loop
     loop-holds
-    mul-add-number
-    shared-slice-read-add-number
-    add-number-requires
+    mul-add
+    shared-slice-read-add
+    add-requires
     add-i
     loop-less
     loop-again

@@ -3,73 +3,64 @@
 //! its length in 2 bytes, big-endian, and its bytes.
 //!
 //! Lines (single spaces between fields, decimal numbers without leading zeros,
-//! every line ends in byte 0A). HEX is two digits 0-9a-f for each byte without
-//! spaces, or `-` where there is no byte. ANSWER is `OK` and the numbers
-//! named, or `NO` and the number of the cause.
+//! every line ends in byte 0A). ANSWER is `OK` and the numbers named, or `NO`
+//! and the number of the cause.
 //!
 //! For each record of the family, numbered from 1, in this order:
 //!
 //! ```text
-//! RECORD number length HEX
-//! CAUSE n                          n of reading, 0 where accepted
-//! RULES class HEX                  the rule row; class 0, 1, start, s, s + 1
-//! BANDS count lower upper ...      all bands in order
+//! RECORD number length ANSWER      of reading; OK alone
+//! RULES class length sum           the rule row; class 0, 1
+//! BANDS lower upper ...            all bands in order
 //! ```
 //!
-//! (where the record is declined, RULES has class 0 and 1 only) and, where it
-//! is accepted:
+//! and, where it is accepted:
 //!
 //! ```text
+//! RULES class length sum           class start, s, s + 1
 //! WRITE room ANSWER sum            room = length, length + 5, length - 1;
 //!                                  OK length; then in any case the checksum
 //!                                  of the room, filled with AA beforehand
-//! ROW class ANSWER                 class 0, 1, start, s, s + 1; OK sums: of
-//!                                  lower, of upper, of j x lower to class j,
-//!                                  of j x upper to class j
-//! STEP class kind ANSWER           class 0, 1, start, s, s + 1, and for each
-//!                                  class the kinds 0 to 5 of payoff, one
-//!                                  after the other; OK low high
-//! SHARE class year ANSWER          class 0, 1, start, s, s + 1, and for each
-//!                                  class the years 0, 1, 2, horizon,
-//!                                  horizon + 1; OK low high
-//! MEAN year ANSWER                 year as above; OK low high
-//! TOTAL year ANSWER                year as above; OK low high
-//! SHARES year a b ANSWER sum sum   share sheet into slices of a and b numbers,
-//!                                  year as above with a = b = s, then year 0
-//!                                  with a = s - 1, b = s and a = s, b = s + 1;
-//!                                  OK alone; then in any case the checksums of
-//!                                  low and high, each number as 8 bytes,
-//!                                  big-endian, filled with 7 beforehand
 //! ```
 //!
-//! Last for each record:
+//! then for each class of 0, 1, start, s, s + 1:
 //!
 //! ```text
-//! SHEET length sum                 length and checksum of the sheet's text;
-//!                                  after this line the text itself where it
-//!                                  has at most 1,000 bytes
+//! ROW class ANSWER                 OK checksums of lower and upper
+//! STEP class kind ANSWER           the kinds 0 to 3 of payoff; OK low high
+//! SHARE class year ANSWER          year 0, 1, 2, horizon, horizon + 1;
+//!                                  OK low high
+//! ```
+//!
+//! then for each of these years:
+//!
+//! ```text
+//! MEAN year ANSWER                 OK low high
+//! TOTAL year ANSWER                OK low high
+//! SHARES year ANSWER sum sum       share sheet into slices of s and s numbers,
+//!                                  of s and s + 1, of s / 2 and s; OK alone;
+//!                                  then in any case the checksums of low and
+//!                                  high, filled with 7 beforehand
 //! ```
 //!
 //! The kinds of payoff, for class j from 1 to s (beyond s it is 4000000000):
 //!
 //! ```text
-//! 0  0
-//! 1  1000000000
-//! 2  100 x premium of j
+//! 0  100 x premium of j
+//! 1  as 3, mod 3
+//! 2  as 3, but 1000000001 at class s
 //! 3  (618033989 x j + 271828183 x record number) mod 1000000001
-//! 4  as 3, mod 3
-//! 5  as 3, but 1000000001 at class s
 //! ```
 //!
 //! The classes and years named are asked in that order also where two of them
 //! are equal. After all records come the ready schemes:
 //!
 //! ```text
-//! READY number base ANSWER         OK length HEX of the written record
+//! READY number base ANSWER         OK length and checksum of the record
 //! ```
 //!
-//! A checksum starts at 0 and takes each byte b in order:
-//! sum := (sum x 16777619 + b + 1) mod 4294967291.
+//! A checksum starts at 0 and takes each byte or number x in order:
+//! sum := (sum x 16777619 + x mod 4294967291 + 1) mod 4294967291.
 
 use std::io::{self, Write};
 
