@@ -12,14 +12,14 @@ use borrow.Author.Tests.{eq-eqb, ne-eqb, lt-ltb, le-ltb, eqb-true, ltb-true}
 use Rattle.scheme.specs.Tables.{tab}
 use Rattle.scheme.specs.Access.{lowerAt, upperAt}
 use Rattle.scheme.specs.Laws.Tab.{tab-eq}
-use Rattle.bands.specs.declared.Band.{Band}
-use Rattle.bands.specs.declared.Band.the-variants.{Ends, NoMore}
+use Rattle.layout.specs.declared.Band.{Band}
+use Rattle.layout.specs.declared.Band.the-variants.{Ends, NoMore}
 use Rattle.numbers.specs.Numbers.{beAt}
-use Rattle.record.specs.Layout.{version1, lengthOf, schemeIn, classesIn, columnsIn}
-use Rattle.record.specs.Frame.{Framed}
-use Rattle.record.specs.Read.{frameCause, readCause}
-use Rattle.bands.specs.Reader.{handedOut, stored, bandIn, bandAt, afterAt, openPart, answers, cursorAfter, storedBands}
-use Rattle.record.specs.Laws.Read.{read-framed}
+use Rattle.layout.specs.Layout.{version1, lengthOf, schemeIn, classesIn, columnsIn}
+use Rattle.layout.specs.Frame.{Framed}
+use Rattle.layout.specs.Read.{frameCause, readCause}
+use Rattle.layout.specs.Reader.{handedOut, stored, bandIn, bandAt, afterAt, openPart, answers, cursorAfter, storedBands}
+use Rattle.layout.specs.Laws.Read.{read-framed}
 use Rattle.record.specs.Laws.Made.{lower-made, upper-made}
 
 -- both tests pass

@@ -1,4 +1,2 @@
--- The bands of a record and the band reader, by definition; Laws has the lemmas by which they are proved.
-pub mod Reader
+-- The lemmas by which the band reader is proved; crate layout has the definitions.
 pub mod Laws
-pub mod Examples

@@ -1,20 +1,15 @@
 // The bands that stand in a record: that of a column, and the band reader, which hands them out in order.
 ghost use mathlib.Core.Path.{_≡_};
 ghost use Prim.Native.Nat.{_<_};
-ghost use Rattle.record.specs.Read.{readCause};
-ghost use Rattle.bands.specs.Reader.{stored, handedOut, bandAt, afterAt, openPart};
+ghost use Rattle.layout.specs.Read.{readCause};
+ghost use Rattle.layout.specs.Reader.{stored, handedOut, bandAt, afterAt, openPart};
+pub use layout::Band;
 
 // a byte as a count
 fn count(x: u8) -> usize
     ensures { λ r. ⌜ (r ≡ x) × (r < 256) ⌝ }
 {
     x as usize
-}
-
-// What a reader answers: the lower and upper end of the next band, or that there is no more.
-pub enum Band {
-    Ends { lower: u32, upper: u32 },
-    NoMore,
 }
 
 // A reader: the lent record, and the column whose band comes next.

@@ -10,9 +10,9 @@ use Rattle.writing.specs.Laws.Write.{answer-number}
 use Rattle.scheme.specs.declared.Scheme.{Scheme}
 use Rattle.scheme.specs.Cause.{orElse, causeOf}
 use Rattle.scheme.specs.Laws.Cause.{first-cause, second-cause, declined}
-use Rattle.record.specs.Layout.{version1}
-use Rattle.writing.specs.Bytes.{bytesOf}
-use Rattle.writing.specs.Write.{numberOf, valueOf, recordLength, writeCause, writeAnswer, writeLeaves}
+use Rattle.layout.specs.Layout.{version1}
+use Rattle.layout.specs.Bytes.{bytesOf}
+use Rattle.layout.specs.Write.{numberOf, valueOf, recordLength, writeCause, writeAnswer, writeLeaves}
 use Rattle.buffers.specs.Laws.Texting.{Texted, unfilled}
 use Rattle.joguyvi_records.specs.Records.{recordNumber}
 

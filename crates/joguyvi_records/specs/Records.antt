@@ -3,7 +3,7 @@ use Prim.Native.Nat.{ℕ}
 use mathlib.Core.List.{List, [], _∷_}
 use Rattle.scheme.specs.declared.Scheme.{Scheme}
 use Rattle.scheme.specs.Cause.{orElse}
-use Rattle.writing.specs.Write.{numberOf, valueOf, writeAnswer}
+use Rattle.layout.specs.Write.{numberOf, valueOf, writeAnswer}
 use Rattle.buffers.specs.Buffers.{bufferCause}
 
 -- the cause of writing, then 13 where the buffer for the length is not of 1 number

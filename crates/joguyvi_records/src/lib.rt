@@ -1,9 +1,9 @@
 // Records checked, written again and made ready, for C and for Rust: each function answers 0 or the cause's number, and fills the lent buffers only where it answers 0.
 ghost use mathlib.Core.Path.{_≡_};
 ghost use Rattle.scheme.specs.Cause.{orElse};
-ghost use Rattle.record.specs.Read.{readCause};
-ghost use Rattle.writing.specs.Write.{writeLeaves};
-ghost use Rattle.record.specs.Layout.{schemeIn, version1};
+ghost use Rattle.layout.specs.Read.{readCause};
+ghost use Rattle.layout.specs.Write.{writeLeaves};
+ghost use Rattle.layout.specs.Layout.{schemeIn, version1};
 ghost use Rattle.ready_schemes.specs.Answer.{readyAnswer};
 ghost use Rattle.buffers.specs.Buffers.{filledWhere};
 ghost use Rattle.joguyvi_records.specs.Records.{recordLength, recordNumber};

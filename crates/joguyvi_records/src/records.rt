@@ -3,7 +3,7 @@ use scheme::Scheme;
 use writing::WriteAnswer;
 ghost use mathlib.Core.Path.{_≡_};
 ghost use Rattle.scheme.specs.Cause.{causeOf};
-ghost use Rattle.writing.specs.Write.{numberOf, valueOf, writeLeaves};
+ghost use Rattle.layout.specs.Write.{numberOf, valueOf, writeLeaves};
 ghost use Rattle.buffers.specs.Buffers.{filledWhere};
 ghost use Rattle.joguyvi_records.specs.Records.{recordLength, recordNumber};
 

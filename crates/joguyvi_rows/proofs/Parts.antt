@@ -14,9 +14,9 @@ use Rattle.scheme.specs.Laws.Cause.{first-cause, second-cause, declined, answer
 use Rattle.numbers.specs.Numbers.{partPut}
 use Rattle.numbers.specs.Laws.{part-held}
 use Rattle.record.specs.Laws.Lists.{sets-front}
-use Rattle.record.specs.Layout.{version1, rowPlace, classesIn, columnsIn}
-use Rattle.record.specs.Read.{readCause}
-use Rattle.rule_rows.specs.RuleRow.{rowCause, ruleRow}
+use Rattle.layout.specs.Layout.{version1, rowPlace, classesIn, columnsIn}
+use Rattle.layout.specs.Read.{readCause}
+use Rattle.layout.specs.RuleRow.{rowCause, ruleRow}
 use Rattle.rule_rows.specs.Laws.{row-read, row-framed, row-within}
 use Rattle.buffers.specs.Buffers.{bufferCause, filledWhere}
 use Rattle.buffers.specs.Laws.Sizes.{buffer-out, buffer-fits, thirteen}

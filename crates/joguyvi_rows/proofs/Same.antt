@@ -6,7 +6,7 @@ use mathlib.Core.List.{List}
 use Rattle.scheme.specs.declared.Scheme.{Scheme}
 use Rattle.scheme.specs.Stored.{schemeOf}
 use Rattle.rows.specs.declared.RowAnswer.{RowAnswer}
-use Rattle.record.specs.Layout.{columnsIn, schemeIn, version1}
+use Rattle.layout.specs.Layout.{columnsIn, schemeIn, version1}
 use Rattle.buffers.specs.Buffers.{buffersCause}
 use Rattle.buffers.specs.Laws.Pairs.{Paired}
 use Rattle.joguyvi_rows.specs.Rows.{putRowNumber, lowerBands, upperBands}

@@ -6,10 +6,10 @@ use Rattle.setchain.specs.Sums.{sumTo}
 use Rattle.scheme.specs.Tables.{tab, anyBelow}
 use Rattle.scheme.specs.Cause.{sizeOut, startOut, horizonOut, ruleOut, bandOut, sumOut, premiumOut, causeWhere}
 use Rattle.scheme.specs.Stored.{upTo, schemeOf}
-use Rattle.record.specs.Numbers.{beAt}
-use Rattle.record.specs.Layout.{version1, schemeIn}
-use Rattle.record.specs.Read.{frameCause}
-use Rattle.record.specs.Examples.{exampleA}
+use Rattle.layout.specs.Numbers.{beAt}
+use Rattle.layout.specs.Layout.{version1, schemeIn}
+use Rattle.layout.specs.Read.{frameCause}
+use Rattle.layout.specs.Examples.{exampleA}
 use Rattle.joguyvi_rows.specs.Rows.{partNumber, ruleRowNumber, bandsNumber, lowerBands, upperBands}
 
 -- buffers of two, three and four numbers

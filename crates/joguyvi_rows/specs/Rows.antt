@@ -10,9 +10,9 @@ use Rattle.scheme.specs.Tables.{tab}
 use Rattle.scheme.specs.Access.{lowerAt, upperAt}
 use Rattle.scheme.specs.Cause.{orElse}
 use Rattle.rows.specs.Rows.{rowAnswer}
-use Rattle.record.specs.Layout.{version1, schemeIn, columnsIn}
-use Rattle.record.specs.Read.{readCause}
-use Rattle.rule_rows.specs.RuleRow.{rowCause}
+use Rattle.layout.specs.Layout.{version1, schemeIn, columnsIn}
+use Rattle.layout.specs.Read.{readCause}
+use Rattle.layout.specs.RuleRow.{rowCause}
 use Rattle.buffers.specs.Buffers.{bufferCause, buffersCause}
 
 -- a row into two buffers: its cause, then 13 where one of them is not of 32 numbers

@@ -1,7 +1,7 @@
 // Interval rows, rule rows and bands of a record, for C and for Rust: each function answers 0 or the cause's number, and fills the lent buffers only where it answers 0.
 ghost use mathlib.Core.Path.{_≡_};
-ghost use Rattle.record.specs.Layout.{schemeIn, version1};
-ghost use Rattle.rule_rows.specs.RuleRow.{ruleRow};
+ghost use Rattle.layout.specs.Layout.{schemeIn, version1};
+ghost use Rattle.layout.specs.RuleRow.{ruleRow};
 ghost use Rattle.buffers.specs.Buffers.{filledWhere};
 ghost use Rattle.joguyvi_rows.specs.Rows.{bandsNumber, lowerBands, rowIn, rowNumber, ruleRowNumber, upperBands};
 

@@ -9,14 +9,14 @@ use lib.ListN.{length, getD}
 use Rattle.scheme.specs.declared.Scheme.{Scheme}
 use Rattle.scheme.specs.Cause.{orElse}
 use Rattle.scheme.specs.Laws.Cause.{first-cause, second-cause, declined, answered, first-none, second-none}
-use Rattle.record.specs.declared.ReadAnswer.{ReadAnswer}
-use Rattle.record.specs.Layout.{schemeIn, version1}
-use Rattle.record.specs.Read.{readCause, readAnswer}
+use Rattle.layout.specs.declared.ReadAnswer.{ReadAnswer}
+use Rattle.layout.specs.Layout.{schemeIn, version1}
+use Rattle.layout.specs.Read.{readCause, readAnswer}
 use Rattle.step.specs.declared.StepAnswer.{StepAnswer}
 use Rattle.step.specs.Lists.{at}
 use Rattle.step.specs.Figure.{stepFigure}
 use Rattle.step.specs.StepAnswer.{stepCause, classRow, Reaches, StepAnswered}
-use Rattle.record.specs.Laws.Read.{read-cause, read-passed, read-in}
+use Rattle.layout.specs.Laws.Read.{read-cause, read-passed, read-in}
 use Rattle.buffers.specs.Buffers.{bufferCause, filledWhere}
 use Rattle.buffers.specs.Laws.Sizes.{buffer-size}
 use Rattle.buffers.specs.Laws.Pairs.{Paired}

@@ -7,8 +7,8 @@ use lib.ListN.{length}
 use Rattle.scheme.specs.declared.Scheme.{Scheme}
 use Rattle.scheme.specs.Tables.{tab}
 use Rattle.scheme.specs.Cause.{orElse}
-use Rattle.record.specs.Layout.{version1, schemeIn}
-use Rattle.record.specs.Read.{readCause}
+use Rattle.layout.specs.Layout.{version1, schemeIn}
+use Rattle.layout.specs.Read.{readCause}
 use Rattle.step.specs.Lists.{at}
 use Rattle.step.specs.Figure.{stepFigure}
 use Rattle.step.specs.StepAnswer.{stepCause, classRow, Reaches}

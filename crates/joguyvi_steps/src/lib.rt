@@ -2,7 +2,7 @@
 ghost use mathlib.Core.Path.{_≡_};
 ghost use mathlib.Core.Bool.{false, true};
 ghost use lib.ListN.{getD};
-ghost use Rattle.record.specs.Layout.{schemeIn, version1};
+ghost use Rattle.layout.specs.Layout.{schemeIn, version1};
 ghost use Rattle.buffers.specs.Buffers.{filledWhere};
 ghost use Rattle.joguyvi_steps.specs.Steps.{figureOf, RowKept, stepNumber};
 

@@ -8,10 +8,10 @@ use lib.ListN.{length, set}
 use Rattle.scheme.specs.Cause.{orElse}
 use Rattle.scheme.specs.Laws.Cause.{first-cause, second-cause, declined, answered, first-none}
 use Rattle.scheme.specs.declared.Scheme.{Scheme}
-use Rattle.record.specs.declared.ReadAnswer.{ReadAnswer}
-use Rattle.record.specs.Layout.{schemeIn, version1}
-use Rattle.record.specs.Read.{readCause, readAnswer}
-use Rattle.record.specs.Laws.Read.{read-cause, read-passed, read-in}
+use Rattle.layout.specs.declared.ReadAnswer.{ReadAnswer}
+use Rattle.layout.specs.Layout.{schemeIn, version1}
+use Rattle.layout.specs.Read.{readCause, readAnswer}
+use Rattle.layout.specs.Laws.Read.{read-cause, read-passed, read-in}
 use Rattle.answers.specs.declared.Bounds.{Bounds}
 use Rattle.answers.specs.Answers.{numberOf, lowOf, highOf, sheetCause, lowShares, highShares}
 use Rattle.answers.specs.Promises.{SheetPromise}

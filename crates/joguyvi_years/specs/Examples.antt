@@ -6,9 +6,9 @@ use Rattle.setchain.specs.Sums.{sumTo}
 use Rattle.scheme.specs.Tables.{tab, anyBelow}
 use Rattle.scheme.specs.Cause.{sizeOut, startOut, horizonOut, ruleOut, bandOut, sumOut, premiumOut, causeWhere}
 use Rattle.scheme.specs.Stored.{upTo, schemeOf}
-use Rattle.record.specs.Numbers.{beAt}
-use Rattle.record.specs.Read.{frameCause}
-use Rattle.record.specs.Examples.{exampleA}
+use Rattle.layout.specs.Numbers.{beAt}
+use Rattle.layout.specs.Read.{frameCause}
+use Rattle.layout.specs.Examples.{exampleA}
 use Rattle.answers.specs.declared.Bounds.{Bounds}
 use Rattle.answers.specs.declared.Bounds.the-variants.{Answered, Refused}
 use Rattle.joguyvi_years.specs.Figures.{putNumber, putLeaves, boundsNumber, boundsLeaves}

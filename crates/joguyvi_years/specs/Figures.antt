@@ -5,7 +5,7 @@ use mathlib.Core.List.{List, [], _∷_}
 use lib.ListN.{getD}
 use Rattle.scheme.specs.Cause.{orElse}
 use Rattle.scheme.specs.declared.Scheme.{Scheme}
-use Rattle.record.specs.Read.{readCause}
+use Rattle.layout.specs.Read.{readCause}
 use Rattle.answers.specs.declared.Bounds.{Bounds}
 use Rattle.answers.specs.Answers.{numberOf, lowOf, highOf}
 use Rattle.answers.specs.Promises.{Kept, startShare, startMean, startTotal}

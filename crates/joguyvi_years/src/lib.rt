@@ -1,6 +1,6 @@
 // Shares, means, totals, share sheets and whole sheets of a record, for C and for Rust: each function answers 0 or the cause's number, and fills the lent buffers only where it answers 0.
 ghost use mathlib.Core.Path.{_≡_};
-ghost use Rattle.record.specs.Layout.{schemeIn, version1};
+ghost use Rattle.layout.specs.Layout.{schemeIn, version1};
 ghost use Rattle.answers.specs.Answers.{highShares, lowShares, meanAnswer, shareAnswer, totalAnswer};
 ghost use Rattle.answers.specs.Promises.{SheetPromise};
 ghost use Rattle.sheet_lines.specs.Answer.{sheetLeaves};

@@ -1,8 +1,2 @@
--- Read in this order: numbers and lists, the record's layout, what reading answers. Laws has the lemmas by which all is proved.
-pub mod Numbers
-pub mod Joined
-pub mod Layout
-pub mod Read
-pub mod Frame
+-- The lemmas by which reading a record is proved; crate layout has the definitions.
 pub mod Laws
-pub mod Examples

@@ -1,7 +1,8 @@
 // The record of document 01: its length, the scheme in any bytes, and their cause.
 ghost use mathlib.Core.Path.{_≡_};
-ghost use Rattle.record.specs.Read.{readCause, declinedWith, readAnswer};
-ghost use Rattle.record.specs.Layout.{version1, lengthOf};
+ghost use Rattle.layout.specs.Read.{readCause, declinedWith, readAnswer};
+ghost use Rattle.layout.specs.Layout.{version1, lengthOf};
+pub use layout::ReadAnswer;
 use scheme::Scheme;
 
 mod reading;
@@ -12,12 +13,6 @@ pub const VERSION_OUT: u8 = 1;
 pub const FIELD_OUT: u8 = 2;
 
 pub const LENGTH_OUT: u8 = 4;
-
-// What reading a record answers: number 0 and the scheme, or the cause and a scheme of 0.
-pub struct ReadAnswer {
-    pub number: u8,
-    pub scheme: Scheme,
-}
 
 // The answer of a declined reading.
 fn declined(number: u8) -> ReadAnswer

@@ -9,11 +9,11 @@ use lib.ListN.{length, take, drop}
 use borrow.Author.Tests.{eq-eqb, ne-eqb}
 use Rattle.scheme.specs.Cause.{outside}
 use Rattle.scheme.specs.Laws.Cause.{outside-false, first-cause, second-cause, first-none, second-none, test-none}
-use Rattle.record.specs.Layout.{classesIn, columnsIn}
-use Rattle.record.specs.Frame.{Framed}
-use Rattle.record.specs.Read.{readCause}
-use Rattle.record.specs.Laws.Read.{read-framed}
-use Rattle.rule_rows.specs.RuleRow.{rowCause, ruleRow}
+use Rattle.layout.specs.Layout.{classesIn, columnsIn}
+use Rattle.layout.specs.Frame.{Framed}
+use Rattle.layout.specs.Read.{readCause}
+use Rattle.layout.specs.Laws.Read.{read-framed}
+use Rattle.layout.specs.RuleRow.{rowCause, ruleRow}
 
 -- no cause in the number of a class
 pub class-fits : (s class : ℕ) → _≡_ {A = ℕ} (cond (outside s class) 11 0) 0 → (1 ≤ class) × (class ≤ s)

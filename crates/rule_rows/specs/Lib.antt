@@ -1,4 +1,2 @@
--- The rule row of a class, by definition; Laws has the lemmas by which it is proved.
-pub mod RuleRow
+-- The lemmas by which the rule row of a class is proved; crate layout has the definitions.
 pub mod Laws
-pub mod Examples

@@ -1,7 +1,7 @@
 // The rule row of a class, as it stands in a record.
 ghost use mathlib.Core.Path.{_≡_};
 ghost use Prim.Native.Nat.{_<_};
-ghost use Rattle.rule_rows.specs.RuleRow.{rowCause, ruleRow};
+ghost use Rattle.layout.specs.RuleRow.{rowCause, ruleRow};
 
 // a byte as a count
 fn count(x: u8) -> usize

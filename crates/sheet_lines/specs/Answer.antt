@@ -6,8 +6,8 @@ use mathlib.Core.List.{List, _++_}
 use lib.Dec.{eqb, ltb}
 use lib.ListN.{length, drop}
 use Rattle.scheme.specs.declared.Scheme.{Scheme}
-use Rattle.record.specs.Layout.{version1, schemeIn}
-use Rattle.record.specs.Read.{readCause}
+use Rattle.layout.specs.Layout.{version1, schemeIn}
+use Rattle.layout.specs.Read.{readCause}
 use Rattle.sheet_lines.specs.declared.SheetAnswer.{SheetAnswer}
 use Rattle.sheet_lines.specs.declared.SheetAnswer.the-variants.{Written, Declined}
 use Rattle.sheet_lines.specs.Sheet.{sheetText}

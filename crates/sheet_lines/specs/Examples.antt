@@ -7,11 +7,11 @@ use Rattle.setchain.specs.Years.{lowYears, highYears}
 use Rattle.scheme.specs.Examples.{schemeA}
 use Rattle.scheme.specs.Tables.{tab, anyBelow}
 use Rattle.scheme.specs.Cause.{sizeOut, startOut, horizonOut, ruleOut, bandOut, sumOut, premiumOut, causeWhere}
-use Rattle.record.specs.Joined.{joined}
-use Rattle.record.specs.Numbers.{beAt}
+use Rattle.layout.specs.Joined.{joined}
+use Rattle.layout.specs.Numbers.{beAt}
 use Rattle.scheme.specs.Stored.{upTo, schemeOf}
-use Rattle.record.specs.Read.{frameCause}
-use Rattle.record.specs.Examples.{exampleA}
+use Rattle.layout.specs.Read.{frameCause}
+use Rattle.layout.specs.Examples.{exampleA}
 use Rattle.sheet_lines.specs.Text.{digitsWithin, twoDigits, decimal}
 use Rattle.sheet_lines.specs.Sheet.{classLine, premiumLine, yearLines, totalLine, refusedLine, schemeLine, sheetOf, sheetText}
 

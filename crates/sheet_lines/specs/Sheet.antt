@@ -7,9 +7,9 @@ use Rattle.setchain.specs.Years.{lowShare, highShare, lowMean, highMean, lowTot
 use Rattle.scheme.specs.declared.Scheme.{Scheme}
 use Rattle.scheme.specs.Access.{premiumAt}
 use Rattle.scheme.specs.Rows.{chainOf}
-use Rattle.record.specs.Joined.{joined}
-use Rattle.record.specs.Layout.{version1, schemeIn}
-use Rattle.record.specs.Read.{readCause}
+use Rattle.layout.specs.Joined.{joined}
+use Rattle.layout.specs.Layout.{version1, schemeIn}
+use Rattle.layout.specs.Read.{readCause}
 use Rattle.answers.specs.Answers.{startOf}
 use Rattle.sheet_lines.specs.Text.{field, newline, schemeWord, yearWord, classWord, premiumWord, totalWord, refusedWord}
 

@@ -2,7 +2,7 @@
 use Prim.Native.Nat.{ℕ, suc, _+_, _*_}
 use mathlib.Core.List.{List, _++_}
 use lib.ListN.{getD}
-use Rattle.record.specs.Joined.{joined}
+use Rattle.layout.specs.Joined.{joined}
 use Rattle.sheet_lines.specs.Sheet.{classLine, premiumLine}
 
 -- class j's line of a year, whose figures stand from place `base` on

@@ -15,15 +15,15 @@ use Rattle.scheme.specs.Accepted.{Accepted}
 use Rattle.scheme.specs.Laws.Judged.{accepted-cause, cause-accepted}
 use Rattle.numbers.specs.Numbers.{beAt, beBytes}
 use Rattle.scheme.specs.Stored.{schemeOf, cleared}
-use Rattle.record.specs.Layout.{version1, lengthOf, rowPlace, bandPlace, premiumPlace, classesIn, columnsIn, schemeIn}
-use Rattle.writing.specs.Bytes.{headerBytes, headerOf, rulesOf, bandsOf, premiumsOf, bytesOf}
-use Rattle.record.specs.Read.{frameCause, readCause, readAnswer}
-use Rattle.writing.specs.Write.{recordLength, writeLeaves}
-use Rattle.record.specs.Frame.{Framed}
+use Rattle.layout.specs.Layout.{version1, lengthOf, rowPlace, bandPlace, premiumPlace, classesIn, columnsIn, schemeIn}
+use Rattle.layout.specs.Bytes.{headerBytes, headerOf, rulesOf, bandsOf, premiumsOf, bytesOf}
+use Rattle.layout.specs.Read.{frameCause, readCause, readAnswer}
+use Rattle.layout.specs.Write.{recordLength, writeLeaves}
+use Rattle.layout.specs.Frame.{Framed}
 use Rattle.writing.specs.Laws.Lists.{tab-part}
 use Rattle.numbers.specs.Laws.{put-read}
-use Rattle.record.specs.Laws.Frame.{framed}
-use Rattle.record.specs.Laws.Read.{read-framed, scheme-next, answer-scheme}
+use Rattle.layout.specs.Laws.Frame.{framed}
+use Rattle.layout.specs.Laws.Read.{read-framed, scheme-next, answer-scheme}
 use Rattle.writing.specs.Laws.Bytes.{length-header, length-bytes}
 use Rattle.writing.specs.Laws.Write.{written}
 use Rattle.writing.specs.Laws.Cleared.{made-eq, cleared-accepted}

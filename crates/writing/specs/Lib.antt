@@ -1,6 +1,3 @@
--- Read in this order: a scheme's record, what writing answers and leaves, and that reading and writing agree. Laws has the lemmas by which all is proved.
-pub mod Bytes
-pub mod Write
+-- That reading and writing agree. Laws has the lemmas by which it is proved; crate layout has the definitions.
 pub mod Agreement
-pub mod Examples
 pub mod Laws

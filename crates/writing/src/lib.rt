@@ -1,15 +1,10 @@
 // A scheme written as a record.
 ghost use mathlib.Core.Path.{_≡_};
-ghost use Rattle.writing.specs.Write.{writeAnswer, writeLeaves};
+ghost use Rattle.layout.specs.Write.{writeAnswer, writeLeaves};
+pub use layout::WriteAnswer;
 use scheme::Scheme;
 
 mod parts;
-
-// What writing a record answers: the record's length, or the cause.
-pub enum WriteAnswer {
-    Written(usize),
-    Declined(u8),
-}
 
 // Writes the record of a scheme into the slice, and leaves bytes past it unchanged; declined, all of them.
 pub fn write(scheme: Scheme, out: &mut [u8]) -> WriteAnswer

@@ -7,10 +7,10 @@ ghost use lib.Seq.{sets};
 ghost use Rattle.scheme.specs.Tables.{tab};
 ghost use Rattle.scheme.specs.Accepted.{SizeFits};
 ghost use Rattle.numbers.specs.Numbers.{beBytes};
-ghost use Rattle.record.specs.Joined.{joined};
-ghost use Rattle.record.specs.Layout.{version1};
-ghost use Rattle.writing.specs.Bytes.{headerBytes, bandBytes, bytesOf};
-ghost use Rattle.writing.specs.Write.{recordLength};
+ghost use Rattle.layout.specs.Joined.{joined};
+ghost use Rattle.layout.specs.Layout.{version1};
+ghost use Rattle.layout.specs.Bytes.{headerBytes, bandBytes, bytesOf};
+ghost use Rattle.layout.specs.Write.{recordLength};
 use scheme::Scheme;
 
 // puts the header

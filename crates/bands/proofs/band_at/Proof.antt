@@ -5,8 +5,8 @@ use mathlib.Core.Path.{_≡_, sym, _∙_}
 use native.Mathlib.Omega.{arith}
 use lib.ListN.{length}
 use borrow.Author.Tests.{not-true, not-false}
-use Rattle.bands.specs.Reader.{stored}
-use Rattle.record.specs.Laws.Read.{read-framed}
+use Rattle.layout.specs.Reader.{stored}
+use Rattle.layout.specs.Laws.Read.{read-framed}
 use Rattle.numbers.specs.Laws.{read-held}
 use Rattle.bands.specs.Laws.{stored-read, band-within, answer-none, answer-ends}
 use borrow.Author.Needs.{needs}

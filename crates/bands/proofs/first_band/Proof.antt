@@ -45,14 +45,14 @@ use denote.Triple.Table.{entered, cited}
 use denote.Triple.Walked.{says, Stays, stay-none-slice, walkOf, goes-none-slice, Walks, ends-at, walked, walk-meets}
 use denote.Triple.Clauses.{ensured, lasts}
 use denote.Exit.{yes}
-use Rattle.record.specs.Read.{readCause}
-use Rattle.bands.specs.Reader.{bandAt, afterAt, openPart}
+use Rattle.layout.specs.Read.{readCause}
+use Rattle.layout.specs.Reader.{bandAt, afterAt, openPart}
 use Rattle.bands.specs.Laws.{part-answer}
-use Rattle.bands.specs.declared.Band.{Band}
+use Rattle.layout.specs.declared.Band.{Band}
 use Rattle.bands.specs.declared.Reader.{Reader}
 use Rattle.bands.specs.declared.Opened.{Opened}
-use Rattle.bands.proofs.Band as B
-use Rattle.bands.proofs.Band.Laws as B′
+use Rattle.layout.proofs.Band as B
+use Rattle.layout.proofs.Band.Laws as B′
 use Rattle.bands.proofs.Reader as T
 use Rattle.bands.proofs.Reader.Laws as T′
 use Rattle.bands.proofs.Opened as O

@@ -42,11 +42,11 @@ use denote.Triple.Spec.{Meets, tripleOf}
 use denote.Triple.Table.{entered, cited}
 use denote.Triple.Walked.{says, Stays, stay-ref, walkOf, goes-ref, Walks, ends-at, walked, walk-meets}
 use denote.Triple.Clauses.{ensured, lasts}
-use Rattle.bands.specs.Reader.{bandAt, afterAt}
-use Rattle.bands.specs.declared.Band.{Band}
+use Rattle.layout.specs.Reader.{bandAt, afterAt}
+use Rattle.layout.specs.declared.Band.{Band}
 use Rattle.bands.specs.declared.Reader.{Reader}
-use Rattle.bands.proofs.Band as B
-use Rattle.bands.proofs.Band.Laws as B′
+use Rattle.layout.proofs.Band as B
+use Rattle.layout.proofs.Band.Laws as B′
 use Rattle.bands.proofs.Reader as T
 use Rattle.bands.proofs.Reader.Laws as T′
 use Rattle.bands.proofs.band_at as band

@@ -38,8 +38,8 @@ use denote.Triple.Table.{entered, cited}
 use denote.Triple.Walked.{says, Stays, stay-none-slice, walkOf, goes-none-slice, Walks, ends-at, walked, walk-meets}
 use denote.Triple.Clauses.{ensured, lasts}
 use denote.Exit.{yes}
-use Rattle.record.specs.Read.{readCause}
-use Rattle.bands.specs.Reader.{openPart}
+use Rattle.layout.specs.Read.{readCause}
+use Rattle.layout.specs.Reader.{openPart}
 use Rattle.bands.specs.declared.Reader.{Reader}
 use Rattle.bands.specs.declared.Opened.{Opened}
 use Rattle.bands.proofs.Reader as R

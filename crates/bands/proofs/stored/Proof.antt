@@ -1,7 +1,7 @@
 -- `stored` meets its contract: false where the bytes are declined, else the column's test.
 use mathlib.Core.Path.{sym, _∙_}
 use native.Mathlib.Omega.{arith}
-use Rattle.record.specs.Laws.Read.{read-framed}
+use Rattle.layout.specs.Laws.Read.{read-framed}
 use Rattle.bands.specs.Laws.{stored-declined, stored-accepted}
 use borrow.Author.Needs.{needs}
 use Rattle.bands.proofs.stored.Statement.{statement}

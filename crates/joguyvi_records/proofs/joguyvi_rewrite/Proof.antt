@@ -3,9 +3,9 @@
 use mathlib.Core.Path.{ap, _∙_}
 use Rattle.scheme.specs.Laws.Cause.{second-none}
 use Rattle.scheme.specs.Cause.{causeOf}
-use Rattle.record.specs.Layout.{schemeIn, version1}
-use Rattle.record.specs.Read.{frameCause, readCause}
-use Rattle.record.specs.Laws.Read.{read-cause, read-passed, read-in}
+use Rattle.layout.specs.Layout.{schemeIn, version1}
+use Rattle.layout.specs.Read.{frameCause, readCause}
+use Rattle.layout.specs.Laws.Read.{read-cause, read-passed, read-in}
 use Rattle.joguyvi_records.proofs.RecordTexts.{record-stopped, record-passed}
 use borrow.Author.Needs.{needs}
 use Rattle.joguyvi_records.proofs.joguyvi_rewrite.Statement.{statement}

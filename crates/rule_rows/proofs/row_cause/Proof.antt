@@ -2,8 +2,8 @@
 use mathlib.Core.Path.{_≡_, ap, sym, _∙_}
 use mathlib.Core.Bool.{cond}
 use native.Mathlib.Omega.{arith}
-use Rattle.record.specs.Read.{readCause}
-use Rattle.record.specs.Laws.Read.{read-framed}
+use Rattle.layout.specs.Read.{readCause}
+use Rattle.layout.specs.Laws.Read.{read-framed}
 use Rattle.rule_rows.specs.Laws.{row-read, row-next}
 use borrow.Author.Needs.{needs}
 use Rattle.rule_rows.proofs.row_cause.Statement.{statement}

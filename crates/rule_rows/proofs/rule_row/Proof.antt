@@ -3,7 +3,7 @@ use Prim.Native.Nat.{_+_, _*_, _-_, _<_}
 use mathlib.Core.Path.{_≡_, sym, _∙_}
 use native.Mathlib.Omega.{arith}
 use lib.ListN.{length}
-use Rattle.rule_rows.specs.RuleRow.{rowCause}
+use Rattle.layout.specs.RuleRow.{rowCause}
 use Rattle.rule_rows.specs.Laws.{row-empty, row-framed, row-class, row-within, row-shown}
 use borrow.Author.Needs.{needs}
 use Rattle.rule_rows.proofs.rule_row.Statement.{statement}

@@ -15,9 +15,9 @@ use Rattle.scheme.specs.declared.Scheme.{Scheme}
 use Rattle.scheme.specs.Accepted.{Accepted}
 use Rattle.scheme.specs.Cause.{outside, sizeOut, startOut, horizonOut, ruleOut, bandOut, sumOut, premiumOut, causeWhere, causeOf, orElse}
 use Rattle.scheme.specs.Laws.Judged.{accepted-cause}
-use Rattle.record.specs.Numbers.{beAt}
-use Rattle.record.specs.Layout.{version1, lengthOf, classesIn, columnsIn, schemeIn}
-use Rattle.record.specs.Read.{versionCause, fieldCause, sizeCause, lengthCause, frameCause, readCause}
+use Rattle.layout.specs.Numbers.{beAt}
+use Rattle.layout.specs.Layout.{version1, lengthOf, classesIn, columnsIn, schemeIn}
+use Rattle.layout.specs.Read.{versionCause, fieldCause, sizeCause, lengthCause, frameCause, readCause}
 use Rattle.sheet_lines.specs.Sheet.{classLines, yearPremium, yearLines, sheetOf, refusedLine, sheetText}
 use Rattle.sheet_lines.specs.Answer.{roomOf, roomFor}
 use Rattle.sheet_lines.specs.Laws.Figures.{low-share-at-most, high-share-at-most, low-mean-at-most, high-mean-at-most, low-total-at-most, high-total-at-most}

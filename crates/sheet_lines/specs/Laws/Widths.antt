@@ -9,7 +9,7 @@ use borrow.Author.Tests.{lt-ltb, le-ltb}
 use lib.ListN.{length, length-append}
 use Rattle.scheme.specs.declared.Scheme.{Scheme}
 use Rattle.scheme.specs.Accepted.{Accepted}
-use Rattle.record.specs.Joined.{joined}
+use Rattle.layout.specs.Joined.{joined}
 use Rattle.sheet_lines.specs.Text.{digitsWithin, field, newline, schemeWord, yearWord, classWord, premiumWord, totalWord, refusedWord}
 use Rattle.sheet_lines.specs.Sheet.{schemeLine, classLine, premiumLine, totalLine, refusedLine}
 

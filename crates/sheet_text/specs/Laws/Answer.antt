@@ -10,8 +10,8 @@ use Rattle.scheme.specs.Accepted.{Accepted}
 use Rattle.scheme.specs.Cause.{causeOf}
 use Rattle.scheme.specs.Laws.Cause.{second-cause}
 use Rattle.scheme.specs.Laws.Judged.{cause-accepted}
-use Rattle.record.specs.Layout.{version1, schemeIn}
-use Rattle.record.specs.Read.{readCause}
+use Rattle.layout.specs.Layout.{version1, schemeIn}
+use Rattle.layout.specs.Read.{readCause}
 use Rattle.record.specs.Laws.Lists.{sets-front}
 use Rattle.answers.specs.Answers.{sheetSlice}
 use Rattle.answers.specs.Table.{tableSize, tableCause}

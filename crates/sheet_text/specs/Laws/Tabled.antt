@@ -8,7 +8,7 @@ use lib.ListN.{length, getD}
 use Rattle.scheme.specs.declared.Scheme.{Scheme}
 use Rattle.scheme.specs.Rows.{chainOf}
 use Rattle.scheme.specs.Laws.Tab.{length-tab}
-use Rattle.record.specs.Joined.{joined}
+use Rattle.layout.specs.Joined.{joined}
 use Rattle.record.specs.Laws.Lists.{joined-eq}
 use Rattle.setchain.specs.Years.{lowShare, highShare}
 use Rattle.answers.specs.Answers.{startOf}

@@ -11,10 +11,10 @@ use Rattle.scheme.specs.Tables.{tab}
 use Rattle.scheme.specs.Access.{ruleAt, lowerAt, upperAt, premiumAt}
 use Rattle.scheme.specs.Laws.Tab.{length-tab, getD-tab, tab-eq}
 use Rattle.numbers.specs.Numbers.{beAt, beBytes}
-use Rattle.record.specs.Joined.{joined}
+use Rattle.layout.specs.Joined.{joined}
 use Rattle.scheme.specs.Stored.{schemeOf}
-use Rattle.record.specs.Layout.{Layout, lengthOf, rowPlace, bandPlace, premiumPlace, schemeFrom}
-use Rattle.writing.specs.Bytes.{bandBytes, rulesOf, bandsOf, premiumsOf}
+use Rattle.layout.specs.Layout.{Layout, lengthOf, rowPlace, bandPlace, premiumPlace, schemeFrom}
+use Rattle.layout.specs.Bytes.{bandBytes, rulesOf, bandsOf, premiumsOf}
 use Rattle.writing.specs.Laws.Lists.{tab-part, joined-parts, getD-joined}
 use Rattle.record.specs.Laws.Lists.{joined-eq}
 use Rattle.numbers.specs.Laws.{put-read, read-put, beAt-eq, length-beBytes}

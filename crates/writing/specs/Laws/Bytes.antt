@@ -8,11 +8,11 @@ use lib.Seq.{sets}
 use Rattle.scheme.specs.declared.Scheme.{Scheme}
 use Rattle.scheme.specs.Access.{ruleAt, lowerAt, upperAt, premiumAt}
 use Rattle.numbers.specs.Numbers.{beBytes}
-use Rattle.record.specs.Joined.{joined}
-use Rattle.writing.specs.Write.{recordLength}
+use Rattle.layout.specs.Joined.{joined}
+use Rattle.layout.specs.Write.{recordLength}
 use Rattle.scheme.specs.Tables.{tab}
-use Rattle.record.specs.Layout.{Layout, version1, lengthOf}
-use Rattle.writing.specs.Bytes.{bandBytes, headerBytes, headerOf, rulesOf, bandsOf, premiumsOf, bytesOf}
+use Rattle.layout.specs.Layout.{Layout, version1, lengthOf}
+use Rattle.layout.specs.Bytes.{bandBytes, headerBytes, headerOf, rulesOf, bandsOf, premiumsOf, bytesOf}
 use Rattle.scheme.specs.Laws.Tab.{length-tab}
 use Rattle.writing.specs.Laws.Lists.{length-joined, sets-4}
 use Rattle.record.specs.Laws.Lists.{sets-front}

@@ -11,7 +11,7 @@ use lib.Seq.{sets, getD-append-add, take-add, drop-drop}
 use Rattle.scheme.specs.Tables.{tab}
 use Rattle.scheme.specs.Laws.Tab.{as-tab}
 use Rattle.numbers.specs.Laws.{sets-append}
-use Rattle.record.specs.Joined.{joined}
+use Rattle.layout.specs.Joined.{joined}
 use Rattle.record.specs.Laws.Lists.{part-length, part-at}
 
 -- four lists, each laid where the last one ends

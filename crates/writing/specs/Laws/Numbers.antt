@@ -6,7 +6,7 @@ use native.Mathlib.Omega.{arith}
 use lib.ListN.{length, set, length-append}
 use lib.Seq.{sets, length-sets}
 use Rattle.numbers.specs.Numbers.{beBytes, numberPut}
-use Rattle.writing.specs.Bytes.{bandBytes, headerBytes}
+use Rattle.layout.specs.Bytes.{bandBytes, headerBytes}
 use Rattle.numbers.specs.Laws.{sets-append, length-beBytes, put-held}
 
 pub length-band : (lower upper : ℕ) → length (bandBytes lower upper) ≡ 8

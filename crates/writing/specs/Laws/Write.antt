@@ -8,10 +8,10 @@ use borrow.Author.Tests.{eq-eqb, ne-eqb, lt-ltb, le-ltb}
 use Rattle.scheme.specs.declared.Scheme.{Scheme}
 use Rattle.scheme.specs.Cause.{causeOf}
 use Rattle.scheme.specs.Laws.Cause.{first-cause, second-cause}
-use Rattle.writing.specs.declared.WriteAnswer.the-variants.{Written, Declined}
-use Rattle.record.specs.Layout.{version1}
-use Rattle.writing.specs.Bytes.{bytesOf}
-use Rattle.writing.specs.Write.{recordLength, writeCause, writeAnswer, writeLeaves, numberOf, valueOf}
+use Rattle.layout.specs.declared.WriteAnswer.the-variants.{Written, Declined}
+use Rattle.layout.specs.Layout.{version1}
+use Rattle.layout.specs.Bytes.{bytesOf}
+use Rattle.layout.specs.Write.{recordLength, writeCause, writeAnswer, writeLeaves, numberOf, valueOf}
 
 module _ (s : Scheme) (out : List ℕ) where
   -- a cause n

@@ -7,9 +7,9 @@ use native.Mathlib.Nat.{mul-le-mul}
 use lib.ListN.{getD}
 use Rattle.scheme.specs.declared.Scheme.{Scheme}
 use Rattle.scheme.specs.Tables.{tab}
-use Rattle.record.specs.Numbers.{beAt}
+use Rattle.layout.specs.Numbers.{beAt}
 use Rattle.scheme.specs.Stored.{upTo, rulesUpTo, schemeOf}
-use Rattle.record.specs.Layout.{version1, classesIn, columnsIn, schemeIn}
+use Rattle.layout.specs.Layout.{version1, classesIn, columnsIn, schemeIn}
 use Rattle.scheme.specs.Laws.Tab.{tab-eq}
 use Rattle.record.specs.Laws.Stored.{upTo-eq}
 use borrow.Author.Needs.{needs}

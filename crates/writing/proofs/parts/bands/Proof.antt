@@ -4,8 +4,8 @@ use mathlib.Core.Path.{_≡_, _∙_}
 use native.Mathlib.Omega.{arith}
 use lib.ListN.{length, getD}
 use lib.Seq.{sets, length-sets}
-use Rattle.record.specs.Joined.{joined}
-use Rattle.writing.specs.Bytes.{bandBytes}
+use Rattle.layout.specs.Joined.{joined}
+use Rattle.layout.specs.Bytes.{bandBytes}
 use Rattle.writing.specs.Laws.Lists.{join-none, join-more}
 use Rattle.writing.specs.Laws.Numbers.{length-band}
 use Rattle.writing.proofs.parts.bands.Statement.{statement}

@@ -5,7 +5,7 @@ use native.Mathlib.Omega.{arith}
 use lib.ListN.{length, getD}
 use lib.Seq.{sets, length-sets}
 use Rattle.numbers.specs.Numbers.{beBytes}
-use Rattle.record.specs.Joined.{joined}
+use Rattle.layout.specs.Joined.{joined}
 use Rattle.writing.specs.Laws.Lists.{join-none, join-more}
 use Rattle.numbers.specs.Laws.{length-beBytes, put-held}
 use borrow.Author.Needs.{needs}

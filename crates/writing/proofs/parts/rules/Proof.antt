@@ -6,7 +6,7 @@ use native.Mathlib.Nat.{mul-le-mul-right}
 use lib.ListN.{length, getD}
 use lib.Seq.{sets, length-sets}
 use Rattle.scheme.specs.Tables.{tab}
-use Rattle.record.specs.Joined.{joined}
+use Rattle.layout.specs.Joined.{joined}
 use Rattle.scheme.specs.Laws.Tab.{length-tab}
 use Rattle.numbers.specs.Laws.{part-held}
 use Rattle.writing.specs.Laws.Lists.{tab-part, join-none, join-more}

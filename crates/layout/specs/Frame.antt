@@ -3,8 +3,8 @@ use Prim.Native.Nat.{ℕ, _≤_}
 use mathlib.Core.Path.{_≡_}
 use mathlib.Core.List.{List}
 use lib.ListN.{length, getD}
-use Rattle.record.specs.Numbers.{beAt}
-use Rattle.record.specs.Layout.{version1, lengthOf, classesIn, columnsIn}
+use Rattle.layout.specs.Numbers.{beAt}
+use Rattle.layout.specs.Layout.{version1, lengthOf, classesIn, columnsIn}
 
 pub record Framed (bytes : List ℕ) : Type 0 where
   pub version : getD bytes 0 0 ≡ 1

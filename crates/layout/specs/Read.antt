@@ -5,10 +5,10 @@ use mathlib.Core.List.{List}
 use lib.Dec.{eqb, ltb}
 use lib.ListN.{length, getD}
 use Rattle.scheme.specs.Cause.{outside, causeOf, orElse}
-use Rattle.record.specs.declared.ReadAnswer.{ReadAnswer}
-use Rattle.record.specs.Numbers.{beAt}
+use Rattle.layout.specs.declared.ReadAnswer.{ReadAnswer}
+use Rattle.layout.specs.Numbers.{beAt}
 use Rattle.scheme.specs.Stored.{noScheme}
-use Rattle.record.specs.Layout.{version1, lengthOf, classesIn, columnsIn, schemeIn}
+use Rattle.layout.specs.Layout.{version1, lengthOf, classesIn, columnsIn, schemeIn}
 
 -- cause 1: "no byte, or byte 0 is not 1"
 abbrev pub versionCause : List ℕ → ℕ

@@ -6,11 +6,11 @@ use native.Mathlib.Decide.{ℕ-discrete}
 use borrow.Author.Tests.{eq-eqb, ne-eqb}
 use Rattle.scheme.specs.Cause.{causeOf}
 use Rattle.scheme.specs.Laws.Cause.{first-cause, second-cause, first-none}
-use Rattle.record.specs.declared.ReadAnswer.{ReadAnswer}
-use Rattle.record.specs.Layout.{version1, schemeIn}
-use Rattle.record.specs.Frame.{Framed}
-use Rattle.record.specs.Read.{frameCause, readCause, declinedWith, readAnswer}
-use Rattle.record.specs.Laws.Frame.{frame-clear}
+use Rattle.layout.specs.declared.ReadAnswer.{ReadAnswer}
+use Rattle.layout.specs.Layout.{version1, schemeIn}
+use Rattle.layout.specs.Frame.{Framed}
+use Rattle.layout.specs.Read.{frameCause, readCause, declinedWith, readAnswer}
+use Rattle.layout.specs.Laws.Frame.{frame-clear}
 
 module _ (bytes : List ℕ) where
   -- one of the causes 1 to 4 is the bytes' cause

@@ -5,8 +5,8 @@ use mathlib.Core.List.{List, []}
 use lib.Dec.{eqb}
 use lib.ListN.{take, drop}
 use Rattle.scheme.specs.Cause.{orElse, outside}
-use Rattle.record.specs.Layout.{version1, rowPlace, classesIn, columnsIn}
-use Rattle.record.specs.Read.{readCause}
+use Rattle.layout.specs.Layout.{version1, rowPlace, classesIn, columnsIn}
+use Rattle.layout.specs.Read.{readCause}
 
 -- "reading the record tells which cause, and where it is accepted the cause was 11"
 abbrev pub rowCause : List ℕ → ℕ → ℕ

@@ -6,10 +6,10 @@ use lib.Dec.{eqb, ltb}
 use lib.ListN.{length, drop}
 use Rattle.scheme.specs.declared.Scheme.{Scheme}
 use Rattle.scheme.specs.Cause.{causeOf, orElse}
-use Rattle.writing.specs.declared.WriteAnswer.{WriteAnswer}
-use Rattle.writing.specs.declared.WriteAnswer.the-variants.{Written, Declined}
-use Rattle.record.specs.Layout.{version1, lengthOf}
-use Rattle.writing.specs.Bytes.{bytesOf}
+use Rattle.layout.specs.declared.WriteAnswer.{WriteAnswer}
+use Rattle.layout.specs.declared.WriteAnswer.the-variants.{Written, Declined}
+use Rattle.layout.specs.Layout.{version1, lengthOf}
+use Rattle.layout.specs.Bytes.{bytesOf}
 
 -- the number of each answer: 0 where the record was written
 abbrev pub numberOf : WriteAnswer → ℕ

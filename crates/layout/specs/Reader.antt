@@ -4,11 +4,11 @@ use mathlib.Core.Bool.{Bool, cond, _&&_}
 use mathlib.Core.List.{List, [], _∷_}
 use lib.Dec.{eqb, ltb}
 use Rattle.scheme.specs.Tables.{tab}
-use Rattle.bands.specs.declared.Band.{Band}
-use Rattle.bands.specs.declared.Band.the-variants.{Ends, NoMore}
+use Rattle.layout.specs.declared.Band.{Band}
+use Rattle.layout.specs.declared.Band.the-variants.{Ends, NoMore}
 use Rattle.numbers.specs.Numbers.{beAt}
-use Rattle.record.specs.Layout.{version1, bandPlace, classesIn, columnsIn}
-use Rattle.record.specs.Read.{readCause}
+use Rattle.layout.specs.Layout.{version1, bandPlace, classesIn, columnsIn}
+use Rattle.layout.specs.Read.{readCause}
 
 -- the number of each answer: how many bands it hands out
 abbrev pub handedOut : Band → ℕ

@@ -5,8 +5,8 @@ use Rattle.scheme.specs.declared.Scheme.{Scheme}
 use Rattle.scheme.specs.Tables.{tab}
 use Rattle.scheme.specs.Access.{ruleAt, lowerAt, upperAt, premiumAt}
 use Rattle.numbers.specs.Numbers.{beBytes}
-use Rattle.record.specs.Joined.{joined}
-use Rattle.record.specs.Layout.{Layout, lengthOf}
+use Rattle.layout.specs.Joined.{joined}
+use Rattle.layout.specs.Layout.{Layout, lengthOf}
 
 -- "Byte 0: version … Bytes 1 to 2: length of the whole record. Byte 3: s. Byte 4: m. Byte 5: start. Byte 6: horizon."
 unfoldable pub headerBytes : (version length s m start horizon : ℕ) → List ℕ

@@ -1,0 +1,3 @@
+-- The lemmas behind the theorems, by subject.
+pub mod Frame
+pub mod Read

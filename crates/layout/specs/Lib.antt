@@ -1,0 +1,13 @@
+-- Read in this order: numbers and lists, the record's layout, what reading answers, the rule row of a class, the band reader, a scheme's record and what writing it answers, worked cases.
+-- Laws has the causes of a record's bytes and the answer of a reading, by cases.
+pub mod Numbers
+pub mod Joined
+pub mod Layout
+pub mod Read
+pub mod Frame
+pub mod RuleRow
+pub mod Reader
+pub mod Bytes
+pub mod Write
+pub mod Examples
+pub mod Laws

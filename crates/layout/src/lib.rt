@@ -1,0 +1,20 @@
+// What reading a record, writing one and the band reader answer. The record's layout, and all that is read from it and written by it, are defined in specs/.
+use scheme::Scheme;
+
+// What reading a record answers: number 0 and the scheme, or the cause and a scheme of 0.
+pub struct ReadAnswer {
+    pub number: u8,
+    pub scheme: Scheme,
+}
+
+// What writing a record answers: the record's length, or the cause.
+pub enum WriteAnswer {
+    Written(usize),
+    Declined(u8),
+}
+
+// What a reader answers: the lower and upper end of the next band, or that there is no more.
+pub enum Band {
+    Ends { lower: u32, upper: u32 },
+    NoMore,
+}
