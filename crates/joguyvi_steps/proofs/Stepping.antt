@@ -12,10 +12,10 @@ use Rattle.scheme.specs.Laws.Cause.{first-cause, second-cause, declined, answer
 use Rattle.layout.specs.declared.ReadAnswer.{ReadAnswer}
 use Rattle.layout.specs.Layout.{schemeIn, version1}
 use Rattle.layout.specs.Read.{readCause, readAnswer}
-use Rattle.step.specs.declared.StepAnswer.{StepAnswer}
+use Rattle.one_year.specs.declared.StepAnswer.{StepAnswer}
 use Rattle.step.specs.Lists.{at}
-use Rattle.step.specs.Figure.{stepFigure}
-use Rattle.step.specs.StepAnswer.{stepCause, classRow, Reaches, StepAnswered}
+use Rattle.one_year.specs.Figure.{stepFigure}
+use Rattle.one_year.specs.StepAnswer.{stepCause, classRow, Reaches, StepAnswered}
 use Rattle.layout.specs.Laws.Read.{read-cause, read-passed, read-in}
 use Rattle.buffers.specs.Buffers.{bufferCause, filledWhere}
 use Rattle.buffers.specs.Laws.Sizes.{buffer-size}

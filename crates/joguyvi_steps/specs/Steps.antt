@@ -10,8 +10,8 @@ use Rattle.scheme.specs.Cause.{orElse}
 use Rattle.layout.specs.Layout.{version1, schemeIn}
 use Rattle.layout.specs.Read.{readCause}
 use Rattle.step.specs.Lists.{at}
-use Rattle.step.specs.Figure.{stepFigure}
-use Rattle.step.specs.StepAnswer.{stepCause, classRow, Reaches}
+use Rattle.one_year.specs.Figure.{stepFigure}
+use Rattle.one_year.specs.StepAnswer.{stepCause, classRow, Reaches}
 use Rattle.buffers.specs.Buffers.{bufferCause}
 
 -- a payoff of 32 numbers: what is missing counts as 0, and what lies beyond 32 is ignored
@@ -38,5 +38,5 @@ pub record RowKept (high : Bool) (s : Scheme) (payoff : List ℕ) (class number 
   pub size : number ≡ 0 → length after ≡ 32
   -- "with 0 beyond s"
   pub beyond : number ≡ 0 → (j : ℕ) → s .classes ≤ j → at after j ≡ 0
-  -- it lies inside the class's interval and reaches its unrounded figure (crate step, `StepAnswer`)
+  -- it lies inside the class's interval and reaches its unrounded figure (crate one_year, `StepAnswer`)
   pub reaches : number ≡ 0 → Reaches high (s .classes) (classRow s class) (at (payoffOf payoff)) (at after) figure

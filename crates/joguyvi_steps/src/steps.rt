@@ -8,7 +8,7 @@ ghost use mathlib.Core.List.{[], _∷_};
 ghost use lib.ListN.{getD};
 ghost use Rattle.scheme.specs.Cause.{orElse};
 ghost use Rattle.layout.specs.Layout.{schemeIn, version1};
-ghost use Rattle.step.specs.StepAnswer.{StepAnswered};
+ghost use Rattle.one_year.specs.StepAnswer.{StepAnswered};
 ghost use Rattle.buffers.specs.Buffers.{bufferCause, filledWhere, sizeCause};
 ghost use Rattle.joguyvi_steps.specs.Steps.{figureOf, payoffOf, RowKept, stepBuffers, stepNumber};
 

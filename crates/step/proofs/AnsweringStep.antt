@@ -16,7 +16,7 @@ use Rattle.scheme.specs.Laws.Judged.{accepted-cause}
 use Rattle.scheme.specs.Laws.Sound.{accepted-sound}
 use Rattle.gathering.specs.Laws.Entries.{lower-is, upper-is}
 use Rattle.scheme.specs.Laws.Tables.{any-false}
-use Rattle.step.specs.declared.StepAnswer.{StepAnswer}
+use Rattle.one_year.specs.declared.StepAnswer.{StepAnswer}
 use Rattle.step.specs.Lists.{at, Agree}
 use Rattle.step.specs.Figure.{stepFigure}
 use Rattle.step.specs.StepAnswer.{payoffOut, stepCause, classRow, Reaches, StepAnswered}

@@ -1,19 +1,13 @@
 -- The figure of a row: the sum of part times payoff over ONE, rounded away from what it bounds.
 use Prim.Native.Nat.{ℕ, _*_, _≤_, _<_}
 use mathlib.Core.Path.{_≡_}
-use mathlib.Core.Bool.{Bool, true, false}
 use mathlib.Core.List.{List}
 use lib.ListN.{length}
 use Rattle.setchain.specs.Sums.{sumTo, dot}
-use Rattle.setchain.specs.Rows.{ONE, IntervalRow}
-use Rattle.setchain.specs.Step.{lowStep, highStep}
+use Rattle.setchain.specs.Rows.{ONE}
 pub use Rattle.direction.specs.Direction.{rounded}
+pub use Rattle.one_year.specs.Figure.{stepFigure}
 use Rattle.step.specs.Lists.{at}
-
--- the figure of document 01, "One year": low where payoffs rise along the order, high where they fall
-abbrev pub stepFigure : Bool → ℕ → IntervalRow → (ℕ → ℕ) → ℕ
-stepFigure false = lowStep
-stepFigure true = highStep
 
 -- the largest payoff for which every sum of part times payoff fits 64 bits
 abbrev pub LARGEST : ℕ

@@ -5,7 +5,7 @@ use mathlib.Core.Bool.{Bool}
 use mathlib.Core.List.{List}
 use lib.ListN.{length, take, drop}
 use Rattle.setchain.specs.Rows.{IntervalRow, SoundRow}
-use Rattle.step.specs.declared.StepAnswer.{StepAnswer}
+use Rattle.one_year.specs.declared.StepAnswer.{StepAnswer}
 use Rattle.step.specs.Lists.{at, gatheredRow}
 use Rattle.step.specs.Figure.{LARGEST}
 use Rattle.step.specs.StepAnswer.{Reaches}

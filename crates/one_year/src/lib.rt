@@ -1,0 +1,11 @@
+// What the one-year step answers, and the limit of its payoffs. The figures, the causes and the rows that reach the figures are defined in specs/.
+
+// The limit of a payoff in the one-year step.
+pub const MOST_PAYOFF: u64 = 1_000_000_000;
+
+// What the one-year step answers: the number of the cause for which it is declined, or 0; the figure; and a row that reaches it.
+pub struct StepAnswer {
+    pub number: u8,
+    pub figure: u64,
+    pub row: [u64; 32],
+}

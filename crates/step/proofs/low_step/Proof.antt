@@ -1,0 +1,13 @@
+-- `low_step` meets its contract: the answer where payoffs rise along the order.
+use borrow.Author.Needs.{needs}
+use Rattle.step.proofs.low_step.Statement.{statement}
+use Rattle.step.proofs.low_step.Tie as tie
+
+answer-requires : tie.Need-answer-requires
+answer-requires c κs = search needs
+
+returns : tie.Need-returns
+returns c = c .answer .ensures
+
+pub low-step-spec : {M : Type 1} → statement M
+low-step-spec = tie.close (tie.spec answer-requires returns)
