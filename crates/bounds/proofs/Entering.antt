@@ -14,52 +14,122 @@ use Rattle.setchain.specs.Sums.{onlyIf}
 use Rattle.setchain.specs.Rows.{ONE}
 use Rattle.setchain.specs.Laws.Sums.{sumTo-eq, onlyIf-zero, sumTo-more}
 use Rattle.step.specs.Lists.{at}
-use Rattle.bounds.specs.Entries.{sumOf, Arrays, Addable, Added}
+use Rattle.bounds.specs.Entries.{lows, rooms, counts, sumOf, Addable, Added}
 
 -- what list k has for row q
-abbrev pub listSum : (from ends counts : List ℕ) → ℕ → ℕ → ℕ
-listSum from ends counts k q = sumOf from ends (k * 32) (at counts k) q
+abbrev pub listSum : List ℕ → ℕ → ℕ → ℕ → ℕ
+listSum entries ends k q = sumOf entries ends (k * 32) (at entries (counts + k)) q
 
--- a store outside some entries leaves their sum as it was
-store-outside : (from ends : List ℕ) (place a v first count q : ℕ) → ((e : ℕ) → e < count → first + e ≡ place → ⊥)
-    → sumOf (set from place a) (set ends place v) first count q ≡ sumOf from ends first count q
-store-outside from ends place a v first count q h =
-    sumTo-eq count _ _
-    (λ e l.
-    ap₂ (λ x y. onlyIf (eqb x q) y)
-    (getD-set-other from place (first + e) a 0 (h e l))
-    (getD-set-other ends place (first + e) v 0 (h e l)))
+-- two tables that differ in one entry, and in no other of the same ends
+record Stored (entries entries′ : List ℕ) (ends place a v : ℕ) : Type 0 where
+  row : at entries′ place ≡ a
+  end : at entries′ (ends + place) ≡ v
+  rows : (e : ℕ) → e < 1024 → (e ≡ place → ⊥) → at entries′ e ≡ at entries e
+  others : (e : ℕ) → e < 1024 → (e ≡ place → ⊥) → at entries′ (ends + e) ≡ at entries (ends + e)
+
+-- an entry outside some others leaves their sum as it was
+store-outside : {entries entries′ : List ℕ} {ends place a v : ℕ} → Stored entries entries′ ends place a v
+    → (first count q : ℕ) → first + count ≤ 1024 → ((e : ℕ) → e < count → first + e ≡ place → ⊥)
+    → sumOf entries′ ends first count q ≡ sumOf entries ends first count q
+store-outside w first count q f h =
+    sumTo-eq count _ _ (λ e l. ap₂ (λ x y. onlyIf (eqb x q) y) (w .rows (first + e) (omega arith) (h e l)) (w .others (first + e) (omega arith) (h e l)))
 
 -- and one right after them is one term more
-store-after : (from ends : List ℕ) (a v first count q : ℕ) → first + count < length from → first + count < length ends
-    → sumOf (set from (first + count) a) (set ends (first + count) v) first (count + 1) q
-    ≡ sumOf from ends first count q + onlyIf (eqb a q) v
-store-after from ends a v first count q f g =
+store-after : {entries entries′ : List ℕ} {ends a v : ℕ} (first count q : ℕ) → Stored entries entries′ ends (first + count) a v → first + count < 1024
+    → sumOf entries′ ends first (count + 1) q ≡ sumOf entries ends first count q + onlyIf (eqb a q) v
+store-after first count q w f =
     sumTo-more _ count
     ∙ ap₂ (λ x y. x + y)
-    (store-outside from ends (first + count) a v first count q (λ e l z. omega arith))
-    (ap₂ (λ x y. onlyIf (eqb x q) y)
-    (getD-set-same from (first + count) a 0 f)
-    (getD-set-same ends (first + count) v 0 g))
+    (store-outside w first count q (omega arith) (λ e l z. omega arith))
+    (ap₂ (λ x y. onlyIf (eqb x q) y) (w .row) (w .end))
+
+-- the table with an entry of row i more at a place, and a count that says so
+abbrev pub entered : List ℕ → (place i low room j count : ℕ) → List ℕ
+entered entries place i low room j count =
+    set (set (set (set entries place i) (lows + place) low) (rooms + place) room) (counts + j) count
+
+module _ (entries : List ℕ) (size : length entries ≡ 3104) (place i low room j count : ℕ) (p : place < 1024) (q : j < 32) where
+  abbrev first : List ℕ
+  first = set entries place i
+
+  abbrev second : List ℕ
+  second = set first (lows + place) low
+
+  abbrev third : List ℕ
+  third = set second (rooms + place) room
+
+  first-size : length first ≡ 3104
+  first-size = length-set entries place i ∙ size
+
+  second-size : length second ≡ 3104
+  second-size = length-set first (lows + place) low ∙ first-size
+
+  third-size : length third ≡ 3104
+  third-size = length-set second (rooms + place) room ∙ second-size
+
+  entered-size : length (entered entries place i low room j count) ≡ 3104
+  entered-size = length-set third (counts + j) count ∙ third-size
+
+  entered-count : at (entered entries place i low room j count) (counts + j) ≡ count
+  entered-count = getD-set-same third (counts + j) count 0 (omega (arith, third-size))
+
+  -- what stands at no place of this entry
+  entered-other : (e : ℕ) → (e ≡ place → ⊥) → (e ≡ lows + place → ⊥) → (e ≡ rooms + place → ⊥) → (e ≡ counts + j → ⊥)
+      → at (entered entries place i low room j count) e ≡ at entries e
+  entered-other e a b c d =
+      getD-set-other third (counts + j) e count 0 d
+      ∙ getD-set-other second (rooms + place) e room 0 c
+      ∙ getD-set-other first (lows + place) e low 0 b
+      ∙ getD-set-other entries place e i 0 a
+
+  entered-row : at (entered entries place i low room j count) place ≡ i
+  entered-row =
+      getD-set-other third (counts + j) place count 0 (λ z. omega arith)
+      ∙ getD-set-other second (rooms + place) place room 0 (λ z. omega arith)
+      ∙ getD-set-other first (lows + place) place low 0 (λ z. omega arith)
+      ∙ getD-set-same entries place i 0 (omega arith)
+
+  entered-lows : Stored entries (entered entries place i low room j count) lows place i low
+  entered-lows =
+      record {
+        row = entered-row;
+        end =
+            getD-set-other third (counts + j) (lows + place) count 0 (λ z. omega arith)
+            ∙ getD-set-other second (rooms + place) (lows + place) room 0 (λ z. omega arith)
+            ∙ getD-set-same first (lows + place) low 0 (omega (arith, first-size));
+        rows = λ e l d. entered-other e d (λ z. omega arith) (λ z. omega arith) (λ z. omega arith);
+        others = λ e l d. entered-other (lows + e) (λ z. omega arith) (λ z. d (omega arith)) (λ z. omega arith) (λ z. omega arith);
+      }
+
+  entered-rooms : Stored entries (entered entries place i low room j count) rooms place i room
+  entered-rooms =
+      record {
+        row = entered-row;
+        end =
+            getD-set-other third (counts + j) (rooms + place) count 0 (λ z. omega arith)
+            ∙ getD-set-same second (rooms + place) room 0 (omega (arith, second-size));
+        rows = λ e l d. entered-other e d (λ z. omega arith) (λ z. omega arith) (λ z. omega arith);
+        others = λ e l d. entered-other (rooms + e) (λ z. omega arith) (λ z. omega arith) (λ z. d (omega arith)) (λ z. omega arith);
+      }
 
 -- the lists at state j: those of the states passed have the row's entries, the others what they had
-pub record Adding (lower upper : List ℕ) (i : ℕ) (from lows rooms counts from′ lows′ rooms′ counts′ : List ℕ) (j : ℕ) : Type 0 where
-  pub arrays : Arrays from′ lows′ rooms′ counts′
+pub record Adding (lower upper : List ℕ) (i : ℕ) (entries entries′ : List ℕ) (j : ℕ) : Type 0 where
+  pub table : length entries′ ≡ 3104
   pub inside : j ≤ length upper
-  pub within : (e : ℕ) → e < 1024 → at from′ e < length upper
-  pub short : (k : ℕ) → k < j → at counts′ k ≤ i + 1
-  pub lowers : (k : ℕ) → k < j → (q : ℕ) → listSum from′ lows′ counts′ k q ≡ listSum from lows counts k q + onlyIf (eqb i q) (at lower k)
+  pub within : (e : ℕ) → e < 1024 → at entries′ e < length upper
+  pub short : (k : ℕ) → k < j → at entries′ (counts + k) ≤ i + 1
+  pub lowers : (k : ℕ) → k < j → (q : ℕ) → listSum entries′ lows k q ≡ listSum entries lows k q + onlyIf (eqb i q) (at lower k)
   pub rises : (k : ℕ) → k < j → (q : ℕ)
-      → listSum from′ rooms′ counts′ k q ≡ listSum from rooms counts k q + onlyIf (eqb i q) (at upper k - at lower k)
-  pub shortLater : (k : ℕ) → j ≤ k → k < length upper → at counts′ k ≤ i
-  pub lowersLater : (k : ℕ) → j ≤ k → k < length upper → (q : ℕ) → listSum from′ lows′ counts′ k q ≡ listSum from lows counts k q
-  pub risesLater : (k : ℕ) → j ≤ k → k < length upper → (q : ℕ) → listSum from′ rooms′ counts′ k q ≡ listSum from rooms counts k q
+      → listSum entries′ rooms k q ≡ listSum entries rooms k q + onlyIf (eqb i q) (at upper k - at lower k)
+  pub shortLater : (k : ℕ) → j ≤ k → k < length upper → at entries′ (counts + k) ≤ i
+  pub lowersLater : (k : ℕ) → j ≤ k → k < length upper → (q : ℕ) → listSum entries′ lows k q ≡ listSum entries lows k q
+  pub risesLater : (k : ℕ) → j ≤ k → k < length upper → (q : ℕ) → listSum entries′ rooms k q ≡ listSum entries rooms k q
 
-module _ {lower upper : List ℕ} {i : ℕ} {from lows rooms counts : List ℕ} (able : Addable lower upper i from lows rooms counts) where
-  pub adding-none : Adding lower upper i from lows rooms counts from lows rooms counts 0
+module _ {lower upper : List ℕ} {i : ℕ} {entries : List ℕ} (able : Addable lower upper i entries) where
+  pub adding-none : Adding lower upper i entries entries 0
   adding-none =
       record {
-        arrays = able .arrays;
+        table = able .table;
         inside = omega arith;
         within = able .within;
         short = below-none _;
@@ -70,9 +140,9 @@ module _ {lower upper : List ℕ} {i : ℕ} {from lows rooms counts : List ℕ} 
         risesLater = λ k h l q. refl;
       }
 
-  module _ {from′ lows′ rooms′ counts′ : List ℕ} {j : ℕ} (w : Adding lower upper i from lows rooms counts from′ lows′ rooms′ counts′ j) (here : j < length upper) where
+  module _ {entries′ : List ℕ} {j : ℕ} (w : Adding lower upper i entries entries′ j) (here : j < length upper) where
     -- the list of state j has a free place, and the entry fits
-    pub adding-here : (at counts′ j ≤ i) × (i < 32) × (j < 32) × (at lower j ≤ at upper j) × (at upper j ≤ ONE) × (j < length lower)
+    pub adding-here : (at entries′ (counts + j) ≤ i) × (i < 32) × (j < 32) × (at lower j ≤ at upper j) × (at upper j ≤ ONE) × (j < length lower)
     adding-here =
         omega (
           arith,
@@ -85,10 +155,10 @@ module _ {lower upper : List ℕ} {i : ℕ} {from lows rooms counts : List ℕ} 
         )
 
     -- no entry of this row
-    pub adding-skip : at upper j ≡ 0 → Adding lower upper i from lows rooms counts from′ lows′ rooms′ counts′ (j + 1)
+    pub adding-skip : at upper j ≡ 0 → Adding lower upper i entries entries′ (j + 1)
     adding-skip e =
         record {
-          arrays = w .arrays;
+          table = w .table;
           inside = omega arith;
           within = w .within;
           short = below-more _ j (w .short) (omega (arith, w .shortLater j (omega arith) here));
@@ -104,94 +174,101 @@ module _ {lower upper : List ℕ} {i : ℕ} {from lows rooms counts : List ℕ} 
 
     -- an entry of this row, with its ends
     place : ℕ
-    place = j * 32 + at counts′ j
+    place = j * 32 + at entries′ (counts + j)
 
-    from″ : List ℕ
-    from″ = set from′ place i
+    abbrev after : List ℕ
+    after = entered entries′ (j * 32 + at entries′ (counts + j)) i (at lower j) (at upper j - at lower j) j (at entries′ (counts + j) + 1)
 
-    counts″ : List ℕ
-    counts″ = set counts′ j (at counts′ j + 1)
+    place-inside : place < 1024
+    unfolding place
+    place-inside = omega (arith, adding-here)
 
-    counted : at counts″ j ≡ at counts′ j + 1
-    unfolding counts″
-    counted = getD-set-same counts′ j (at counts′ j + 1) 0 (omega (arith, adding-here, w .arrays .counted))
+    count-inside : j < 32
+    count-inside = adding-here .2
 
-    uncounted : (k : ℕ) → (k < j) ⊎ (j < k) → at counts″ k ≡ at counts′ k
-    unfolding counts″
+    counted : at after (counts + j) ≡ at entries′ (counts + j) + 1
+    unfolding place
+    counted = entered-count entries′ (w .table) place i (at lower j) (at upper j - at lower j) j (at entries′ (counts + j) + 1) place-inside count-inside
+
+    uncounted : (k : ℕ) → (k < j) ⊎ (j < k) → at after (counts + k) ≡ at entries′ (counts + k)
+    unfolding place
     uncounted k h =
-        getD-set-other counts′ j k (at counts′ j + 1) 0 (λ e. ⊎-elim (λ l. omega arith) (λ l. omega arith) h)
+        entered-other entries′ (w .table) place i (at lower j) (at upper j - at lower j) j (at entries′ (counts + j) + 1) place-inside count-inside (counts + k)
+        (λ e. omega (arith, place-inside))
+        (λ e. omega (arith, place-inside))
+        (λ e. omega (arith, place-inside))
+        (λ e. ⊎-elim (λ l. omega arith) (λ l. omega arith) h)
 
-    here-sum : (ends : List ℕ) (v q : ℕ) → length ends ≡ 1024
-        → listSum from″ (set ends place v) counts″ j q ≡ listSum from′ ends counts′ j q + onlyIf (eqb i q) v
-    unfolding place from″
-    here-sum ends v q e =
-        ap (λ c. sumOf from″ (set ends place v) (j * 32) c q) counted
-        ∙ store-after from′ ends i v (j * 32) (at counts′ j) q (omega (arith, adding-here, w .arrays .froms)) (omega (arith, adding-here))
+    low-stored : Stored entries′ after lows (j * 32 + at entries′ (counts + j)) i (at lower j)
+    unfolding place
+    low-stored = entered-lows entries′ (w .table) place i (at lower j) (at upper j - at lower j) j (at entries′ (counts + j) + 1) place-inside count-inside
 
-    other-sum : (ends : List ℕ) (v k q : ℕ) → at counts′ k ≤ 32 → (k < j) ⊎ (j < k)
-        → listSum from″ (set ends place v) counts″ k q ≡ listSum from′ ends counts′ k q
-    unfolding place from″
-    other-sum ends v k q h d =
-        ap (λ c. sumOf from″ (set ends place v) (k * 32) c q) (uncounted k d)
-        ∙ store-outside from′ ends place i v (k * 32) (at counts′ k) q
+    room-stored : Stored entries′ after rooms (j * 32 + at entries′ (counts + j)) i (at upper j - at lower j)
+    unfolding place
+    room-stored = entered-rooms entries′ (w .table) place i (at lower j) (at upper j - at lower j) j (at entries′ (counts + j) + 1) place-inside count-inside
+
+    here-sum : (ends v q : ℕ) → Stored entries′ after ends (j * 32 + at entries′ (counts + j)) i v
+        → listSum after ends j q ≡ listSum entries′ ends j q + onlyIf (eqb i q) v
+    unfolding place
+    here-sum ends v q s =
+        ap (λ c. sumOf after ends (j * 32) c q) counted ∙ store-after (j * 32) (at entries′ (counts + j)) q s place-inside
+
+    other-sum : (ends v k q : ℕ) → Stored entries′ after ends (j * 32 + at entries′ (counts + j)) i v → k < 32 → at entries′ (counts + k) ≤ 32 → (k < j) ⊎ (j < k)
+        → listSum after ends k q ≡ listSum entries′ ends k q
+    other-sum ends v k q s m h d =
+        ap (λ c. sumOf after ends (k * 32) c q) (uncounted k d)
+        ∙ store-outside s (k * 32) (at entries′ (counts + k)) q (omega arith)
         (λ e l z. ⊎-elim (λ g. omega (arith, adding-here)) (λ g. omega (arith, adding-here)) d)
 
-    entry-within : (e : ℕ) → e < 1024 → at from″ e < length upper
-    unfolding from″
-    entry-within e l = by (ℕ-discrete e place)
+    entry-within : (e : ℕ) → e < 1024 → at after e < length upper
+    entry-within e l = by (ℕ-discrete e (j * 32 + at entries′ (counts + j)))
       where
-        by : Dec (e ≡ place) → at (set from′ place i) e < length upper
-        by (yes z) =
-            rw z (omega (arith, getD-set-same from′ place i 0 (omega (arith, w .arrays .froms)), able .inside))
-        by (no ne) = omega (arith, getD-set-other from′ place e i 0 ne, w .within e l)
+        by : Dec (e ≡ j * 32 + at entries′ (counts + j)) → at after e < length upper
+        by (yes z) = omega (arith, ap (at after) z, low-stored .row, able .inside)
+        by (no ne) = omega (arith, low-stored .rows e l ne, w .within e l)
 
-    pub adding-more : Adding lower upper i from lows rooms counts
-        (set from′ (j * 32 + at counts′ j) i)
-        (set lows′ (j * 32 + at counts′ j) (at lower j))
-        (set rooms′ (j * 32 + at counts′ j) (at upper j - at lower j))
-        (set counts′ j (at counts′ j + 1))
-        (j + 1)
-    unfolding place from″ counts″
-    adding-more =
+    below : (k : ℕ) → k < length upper → k < 32
+    below k l = omega (arith, able .few)
+
+    adding-after : Adding lower upper i entries after (j + 1)
+    unfolding place
+    adding-after =
         record {
-          arrays =
-              record {
-                froms = length-set from′ place i ∙ w .arrays .froms;
-                lowers = length-set lows′ place (at lower j) ∙ w .arrays .lowers;
-                rises = length-set rooms′ place (at upper j - at lower j) ∙ w .arrays .rises;
-                counted = length-set counts′ j (at counts′ j + 1) ∙ w .arrays .counted;
-              };
+          table = entered-size entries′ (w .table) place i (at lower j) (at upper j - at lower j) j (at entries′ (counts + j) + 1) place-inside count-inside;
           inside = omega arith;
           within = entry-within;
           short =
-              below-more (λ k. at counts″ k ≤ i + 1) j
+              below-more (λ k. at after (counts + k) ≤ i + 1) j
               (λ k l. omega (arith, uncounted k (inl l), w .short k l))
               (omega (arith, counted, adding-here));
           lowers =
-              below-more (λ k. (q : ℕ) → listSum from″ (set lows′ place (at lower j)) counts″ k q ≡ listSum from lows counts k q + onlyIf (eqb i q) (at lower k)) j
-              (λ k l q. other-sum lows′ (at lower j) k q (omega (arith, w .short k l, adding-here)) (inl l) ∙ w .lowers k l q)
-              (λ q. here-sum lows′ (at lower j) q (w .arrays .lowers) ∙ ap (λ x. x + onlyIf (eqb i q) (at lower j)) (w .lowersLater j (omega arith) here q));
+              below-more (λ k. (q : ℕ) → listSum after lows k q ≡ listSum entries lows k q + onlyIf (eqb i q) (at lower k)) j
+              (λ k l q. other-sum lows (at lower j) k q low-stored (below k (omega arith)) (omega (arith, w .short k l, adding-here)) (inl l) ∙ w .lowers k l q)
+              (λ q. here-sum lows (at lower j) q low-stored ∙ ap (λ x. x + onlyIf (eqb i q) (at lower j)) (w .lowersLater j (omega arith) here q));
           rises =
-              below-more (λ k. (q : ℕ) → listSum from″ (set rooms′ place (at upper j - at lower j)) counts″ k q ≡ listSum from rooms counts k q + onlyIf (eqb i q) (at upper k - at lower k)) j
-              (λ k l q. other-sum rooms′ (at upper j - at lower j) k q (omega (arith, w .short k l, adding-here)) (inl l) ∙ w .rises k l q)
-              (λ q. here-sum rooms′ (at upper j - at lower j) q (w .arrays .rises) ∙ ap (λ x. x + onlyIf (eqb i q) (at upper j - at lower j)) (w .risesLater j (omega arith) here q));
+              below-more (λ k. (q : ℕ) → listSum after rooms k q ≡ listSum entries rooms k q + onlyIf (eqb i q) (at upper k - at lower k)) j
+              (λ k l q. other-sum rooms (at upper j - at lower j) k q room-stored (below k (omega arith)) (omega (arith, w .short k l, adding-here)) (inl l) ∙ w .rises k l q)
+              (λ q. here-sum rooms (at upper j - at lower j) q room-stored ∙ ap (λ x. x + onlyIf (eqb i q) (at upper j - at lower j)) (w .risesLater j (omega arith) here q));
           shortLater = λ k h l. omega (arith, uncounted k (inr (omega arith)), w .shortLater k (omega arith) l);
-          lowersLater = λ k h l q. other-sum lows′ (at lower j) k q (omega (arith, w .shortLater k (omega arith) l, adding-here)) (inr (omega arith)) ∙ w .lowersLater k (omega arith) l q;
-          risesLater = λ k h l q. other-sum rooms′ (at upper j - at lower j) k q (omega (arith, w .shortLater k (omega arith) l, adding-here)) (inr (omega arith)) ∙ w .risesLater k (omega arith) l q;
+          lowersLater = λ k h l q. other-sum lows (at lower j) k q low-stored (below k l) (omega (arith, w .shortLater k (omega arith) l, adding-here)) (inr (omega arith)) ∙ w .lowersLater k (omega arith) l q;
+          risesLater = λ k h l q. other-sum rooms (at upper j - at lower j) k q room-stored (below k l) (omega (arith, w .shortLater k (omega arith) l, adding-here)) (inr (omega arith)) ∙ w .risesLater k (omega arith) l q;
         }
 
--- the same of lists that are equal
-pub adding-as : {lower upper : List ℕ} {i : ℕ} {from lows rooms counts a b c d a′ b′ c′ d′ : List ℕ} {j : ℕ} → a′ ≡ a → b′ ≡ b → c′ ≡ c → d′ ≡ d
-    → Adding lower upper i from lows rooms counts a b c d j → Adding lower upper i from lows rooms counts a′ b′ c′ d′ j
-adding-as e f g h w = rw (e, f, g, h) w
+    pub adding-more : {p : ℕ} → p ≡ at entries′ (counts + j)
+        → Adding lower upper i entries (entered entries′ (j * 32 + p) i (at lower j) (at upper j - at lower j) j (at entries′ (counts + j) + 1)) (j + 1)
+    adding-more e = rw e adding-after
+
+-- the same of a table that is equal
+pub adding-as : {lower upper : List ℕ} {i : ℕ} {entries a a′ : List ℕ} {j : ℕ} → a′ ≡ a → Adding lower upper i entries a j → Adding lower upper i entries a′ j
+adding-as e w = rw e w
 
 -- when all states are passed
-pub adding-all : {lower upper : List ℕ} {i : ℕ} {from lows rooms counts from′ lows′ rooms′ counts′ : List ℕ} {j : ℕ} → length upper ≤ j
-    → Adding lower upper i from lows rooms counts from′ lows′ rooms′ counts′ j
-    → Added lower upper i from lows rooms counts from′ lows′ rooms′ counts′
+pub adding-all : {lower upper : List ℕ} {i : ℕ} {entries entries′ : List ℕ} {j : ℕ} → length upper ≤ j
+    → Adding lower upper i entries entries′ j
+    → Added lower upper i entries entries′
 adding-all h w =
     record {
-      arrays = w .arrays;
+      table = w .table;
       within = w .within;
       short = λ j l. w .short j (omega arith);
       lowers = λ j k l. w .lowers j (omega arith) k;

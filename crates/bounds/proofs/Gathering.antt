@@ -12,12 +12,12 @@ use Rattle.scheme.specs.Tables.{tab}
 use Rattle.gathering.specs.Gathered.{gathered, spareOf}
 use Rattle.scheme.specs.Laws.Tab.{length-tab, getD-tab}
 use Rattle.step.specs.Lists.{at}
-use Rattle.bounds.specs.Entries.{sumOf, Addable, Added, Listable, RowListed}
+use Rattle.bounds.specs.Entries.{lows, rooms, counts, sumOf, Addable, Added, Listable, RowListed}
 use Rattle.bounds.proofs.Forming.{zeros, front-made}
 
 -- a row whose ends stand at the fronts of arrays of 32 that were lent to be gathered in
-module _ {rules lowers uppers : List ℕ} {n i : ℕ} {from lows rooms counts : List ℕ} (lower upper : List ℕ)
-    (able : Listable rules lowers uppers n i from lows rooms counts)
+module _ {rules lowers uppers : List ℕ} {n i : ℕ} {entries : List ℕ} (lower upper : List ℕ)
+    (able : Listable rules lowers uppers n i entries)
     (isLower : lower ≡ tab (length (take n zeros)) (gathered rules lowers))
     (isUpper : upper ≡ tab (length (take n zeros)) (gathered rules uppers)) where
   front : List ℕ → List ℕ
@@ -45,11 +45,11 @@ module _ {rules lowers uppers : List ℕ} {n i : ℕ} {from lows rooms counts : 
   upper-at : (j : ℕ) → j < n → at (front upper) j ≡ gathered rules uppers j
   upper-at = front-at upper uppers isUpper
 
-  pub row-adds : Addable (take n (lower ++ drop n zeros)) (take n (upper ++ drop n zeros)) i from lows rooms counts
+  pub row-adds : Addable (take n (lower ++ drop n zeros)) (take n (upper ++ drop n zeros)) i entries
   unfolding front
   row-adds =
       record {
-        arrays = able .arrays;
+        table = able .table;
         size = lower-size ∙ sym upper-size;
         few = omega (arith, upper-size, able .few);
         inside = omega (arith, upper-size, able .inside);
@@ -67,21 +67,21 @@ module _ {rules lowers uppers : List ℕ} {n i : ℕ} {from lows rooms counts : 
   row-sum =
       ap (λ k. sumTo k (at (front lower))) lower-size ∙ sumTo-eq n (at (front lower)) (gathered rules lowers) lower-at
 
-  pub row-listed : {from′ lows′ rooms′ counts′ : List ℕ} {t : ℕ}
-      → Added (take n (lower ++ drop n zeros)) (take n (upper ++ drop n zeros)) i from lows rooms counts from′ lows′ rooms′ counts′
+  pub row-listed : {entries′ : List ℕ} {t : ℕ}
+      → Added (take n (lower ++ drop n zeros)) (take n (upper ++ drop n zeros)) i entries entries′
       → t ≡ spareOf (take n (lower ++ drop n zeros))
-      → RowListed rules lowers uppers n i from lows rooms counts from′ lows′ rooms′ counts′ t
+      → RowListed rules lowers uppers n i entries entries′ t
   unfolding front
   row-listed a e =
       record {
-        arrays = a .arrays;
+        table = a .table;
         within = λ e l. omega (arith, upper-size, a .within e l);
         short = λ j l. a .short j (omega (arith, upper-size));
         lowers = λ j k l.
             a .lowers j k (omega (arith, upper-size))
-            ∙ ap (λ x. sumOf from lows (j * 32) (at counts j) k + onlyIf (eqb i k) x) (lower-at j l);
+            ∙ ap (λ x. sumOf entries lows (j * 32) (at entries (counts + j)) k + onlyIf (eqb i k) x) (lower-at j l);
         rises = λ j k l.
             a .rises j k (omega (arith, upper-size))
-            ∙ ap₂ (λ x y. sumOf from rooms (j * 32) (at counts j) k + onlyIf (eqb i k) (x - y)) (upper-at j l) (lower-at j l);
+            ∙ ap₂ (λ x y. sumOf entries rooms (j * 32) (at entries (counts + j)) k + onlyIf (eqb i k) (x - y)) (upper-at j l) (lower-at j l);
         whole = omega (arith, row-sum, able .sound .lowers);
       }

@@ -15,41 +15,41 @@ use Rattle.setchain.specs.Rows.{ONE}
 use Rattle.setchain.specs.Laws.Sums.{onlyIf-true, onlyIf-false, sumTo-front, term-le}
 use Rattle.step.specs.Lists.{at}
 use Rattle.step.specs.Figure.{LARGEST}
-use Rattle.bounds.specs.Entries.{sumOf}
+use Rattle.bounds.specs.Entries.{lows, rooms, sumOf}
 use Rattle.bounds.specs.Walk.{taken, Givable, Given}
 
 -- no entry, and one entry more
-sum-none : (from ends : List ℕ) (first i : ℕ) → sumOf from ends first (first - first) i ≡ 0
+sum-none : (entries : List ℕ) (ends : ℕ) (first i : ℕ) → sumOf entries ends first (first - first) i ≡ 0
 unfolding sumTo
-sum-none from ends first i = let e : first - first ≡ 0 = omega arith in ap (λ k. sumOf from ends first k i) e
+sum-none entries ends first i = let e : first - first ≡ 0 = omega arith in ap (λ k. sumOf entries ends first k i) e
 
-sum-more : (from ends : List ℕ) (first e i : ℕ) → first ≤ e
-    → sumOf from ends first (e + 1 - first) i ≡ sumOf from ends first (e - first) i + onlyIf (eqb (at from e) i) (at ends e)
+sum-more : (entries : List ℕ) (ends : ℕ) (first e i : ℕ) → first ≤ e
+    → sumOf entries ends first (e + 1 - first) i ≡ sumOf entries ends first (e - first) i + onlyIf (eqb (at entries e) i) (at entries (ends + e))
 unfolding sumTo
-sum-more from ends first e i h =
+sum-more entries ends first e i h =
     let n : e + 1 - first ≡ suc (e - first) = omega arith in
     let p : first + (e - first) ≡ e = omega arith in
-    ap (λ k. sumOf from ends first k i) n
-    ∙ ap (λ q. sumOf from ends first (e - first) i + onlyIf (eqb (at from q) i) (at ends q)) p
+    ap (λ k. sumOf entries ends first k i) n
+    ∙ ap (λ q. sumOf entries ends first (e - first) i + onlyIf (eqb (at entries q) i) (at entries (ends + q))) p
 
 -- one entry is at most what its row has of the list
-pub entry-in : (from ends : List ℕ) (first count e : ℕ) → first ≤ e → e < first + count → at ends e ≤ sumOf from ends first count (at from e)
-entry-in from ends first count e h l =
-    let f : ℕ → ℕ = λ k. onlyIf (eqb (at from (first + k)) (at from e)) (at ends (first + k)) in
+pub entry-in : (entries : List ℕ) (ends : ℕ) (first count e : ℕ) → first ≤ e → e < first + count → at entries (ends + e) ≤ sumOf entries ends first count (at entries e)
+entry-in entries ends first count e h l =
+    let f : ℕ → ℕ = λ k. onlyIf (eqb (at entries (first + k)) (at entries e)) (at entries (ends + (first + k))) in
     let p : first + (e - first) ≡ e = omega arith in
-    let term : f (e - first) ≡ at ends e =
-    ap (λ q. onlyIf (eqb (at from q) (at from e)) (at ends q)) p
-    ∙ onlyIf-true (eqb (at from e) (at from e)) (at ends e) (eq-eqb (at from e) (at from e) refl) in
+    let term : f (e - first) ≡ at entries (ends + e) =
+    ap (λ q. onlyIf (eqb (at entries q) (at entries e)) (at entries (ends + q))) p
+    ∙ onlyIf-true (eqb (at entries e) (at entries e)) (at entries (ends + e)) (eq-eqb (at entries e) (at entries e) refl) in
     omega (arith, term, term-le count f (e - first) (omega arith))
 
 -- the entries below place e are given
-pub record Giving (from lows rooms : List ℕ) (first end pays : ℕ) (left sums left′ sums′ : List ℕ) (e : ℕ) : Type 0 where
+pub record Giving (entries : List ℕ) (first end pays : ℕ) (left sums left′ sums′ : List ℕ) (e : ℕ) : Type 0 where
   pub begun : first ≤ e
   pub inside : e ≤ end
-  pub given : Given from lows rooms first e pays left sums left′ sums′
+  pub given : Given entries first e pays left sums left′ sums′
 
-module _ {from lows rooms : List ℕ} {first end pays : ℕ} {left sums : List ℕ} (able : Givable from lows rooms first end pays left sums) where
-  pub giving-none : Giving from lows rooms first end pays left sums left sums first
+module _ {entries : List ℕ} {first end pays : ℕ} {left sums : List ℕ} (able : Givable entries first end pays left sums) where
+  pub giving-none : Giving entries first end pays left sums left sums first
   giving-none =
       record {
         begun = le-refl first;
@@ -58,52 +58,52 @@ module _ {from lows rooms : List ℕ} {first end pays : ℕ} {left sums : List �
             record {
               lefts = refl;
               size = able .size;
-              rest = λ i l. omega (arith, sum-none from rooms first i);
+              rest = λ i l. omega (arith, sum-none entries rooms first i);
               more = λ i l. more i;
             };
       }
     where
-      more : (i : ℕ) → at sums i ≡ at sums i + taken from lows rooms first first left i * pays
+      more : (i : ℕ) → at sums i ≡ at sums i + taken entries first first left i * pays
       more i =
-          let z : taken from lows rooms first first left i ≡ 0 = omega (arith, sum-none from lows first i, sum-none from rooms first i) in
+          let z : taken entries first first left i ≡ 0 = omega (arith, sum-none entries lows first i, sum-none entries rooms first i) in
           omega (arith, ap (λ x. x * pays) z)
 
-  module _ {left′ sums′ : List ℕ} {e : ℕ} (w : Giving from lows rooms first end pays left sums left′ sums′ e) (further : e < end)
-      {i : ℕ} (row : i ≡ at from e) {given : ℕ} (is : given ≡ min (at rooms e) (at left′ i)) where
+  module _ {left′ sums′ : List ℕ} {e : ℕ} (w : Giving entries first end pays left sums left′ sums′ e) (further : e < end)
+      {i : ℕ} (row : i ≡ at entries e) {given : ℕ} (is : given ≡ min (at entries (rooms + e)) (at left′ i)) where
     pub row-inside : i < length left
     row-inside = rw row (able .within e (omega (arith, able .ends)))
 
     -- the row's own entry counts, and no other row's does
-    own : (ends : List ℕ) → sumOf from ends first (e + 1 - first) i ≡ sumOf from ends first (e - first) i + at ends e
-    own ends = sum-more from ends first e i (w .begun) ∙ ap (λ x. sumOf from ends first (e - first) i + x) (onlyIf-true (eqb (at from e) i) (at ends e) (eq-eqb (at from e) i (sym row)))
+    own : (ends : ℕ) → sumOf entries ends first (e + 1 - first) i ≡ sumOf entries ends first (e - first) i + at entries (ends + e)
+    own ends = sum-more entries ends first e i (w .begun) ∙ ap (λ x. sumOf entries ends first (e - first) i + x) (onlyIf-true (eqb (at entries e) i) (at entries (ends + e)) (eq-eqb (at entries e) i (sym row)))
 
-    others : (ends : List ℕ) (k : ℕ) → (k ≡ i → ⊥) → sumOf from ends first (e + 1 - first) k ≡ sumOf from ends first (e - first) k
+    others : (ends : ℕ) (k : ℕ) → (k ≡ i → ⊥) → sumOf entries ends first (e + 1 - first) k ≡ sumOf entries ends first (e - first) k
     others ends k ne =
         omega (
           arith,
-          sum-more from ends first e k (w .begun),
-          onlyIf-false (eqb (at from e) k) (at ends e) (ne-eqb (at from e) k (λ g. ne (sym (row ∙ g)))),
+          sum-more entries ends first e k (w .begun),
+          onlyIf-false (eqb (at entries e) k) (at entries (ends + e)) (ne-eqb (at entries e) k (λ g. ne (sym (row ∙ g)))),
         )
 
     -- what the row has taken with this entry
-    taken-more : taken from lows rooms first (e + 1) left i ≡ taken from lows rooms first e left i + (at lows e + given)
+    taken-more : taken entries first (e + 1) left i ≡ taken entries first e left i + (at entries (lows + e) + given)
     taken-more = omega (arith, own lows, own rooms, is, w .given .rest i row-inside)
 
-    sums-now : at sums′ i + (at lows e + given) * pays ≡ at sums i + taken from lows rooms first (e + 1) left i * pays
+    sums-now : at sums′ i + (at entries (lows + e) + given) * pays ≡ at sums i + taken entries first (e + 1) left i * pays
     sums-now = omega (arith, w .given .more i row-inside, ap (λ x. x * pays) taken-more)
 
-    taken-front : taken from lows rooms first (e + 1) left i ≤ taken from lows rooms first end left i
+    taken-front : taken entries first (e + 1) left i ≤ taken entries first end left i
     taken-front =
         omega (
           arith,
-          sumTo-front (λ k. onlyIf (eqb (at from (first + k)) i) (at lows (first + k))) (end - first) (e + 1 - first) (omega (arith, w .begun)),
-          sumTo-front (λ k. onlyIf (eqb (at from (first + k)) i) (at rooms (first + k))) (end - first) (e + 1 - first) (omega (arith, w .begun)),
+          sumTo-front (λ k. onlyIf (eqb (at entries (first + k)) i) (at entries (lows + (first + k)))) (end - first) (e + 1 - first) (omega (arith, w .begun)),
+          sumTo-front (λ k. onlyIf (eqb (at entries (first + k)) i) (at entries (rooms + (first + k)))) (end - first) (e + 1 - first) (omega (arith, w .begun)),
         )
 
-    pub giving-fits : at sums′ i + (at lows e + given) * pays ≤ LARGEST * ONE
+    pub giving-fits : at sums′ i + (at entries (lows + e) + given) * pays ≤ LARGEST * ONE
     giving-fits = omega (arith, sums-now, mul-le-mul-right pays taken-front, able .fits i row-inside)
 
-    pub giving-more : Giving from lows rooms first end pays left sums (set left′ i (at left′ i - given)) (set sums′ i (at sums′ i + (at lows e + given) * pays)) (e + 1)
+    pub giving-more : Giving entries first end pays left sums (set left′ i (at left′ i - given)) (set sums′ i (at sums′ i + (at entries (lows + e) + given) * pays)) (e + 1)
     giving-more =
         record {
           begun = omega (arith, w .begun);
@@ -111,13 +111,13 @@ module _ {from lows rooms : List ℕ} {first end pays : ℕ} {left sums : List �
           given =
               record {
                 lefts = length-set left′ i (at left′ i - given) ∙ w .given .lefts;
-                size = length-set sums′ i (at sums′ i + (at lows e + given) * pays) ∙ w .given .size;
+                size = length-set sums′ i (at sums′ i + (at entries (lows + e) + given) * pays) ∙ w .given .size;
                 rest = λ k l. rest k l (ℕ-discrete k i);
                 more = λ k l. more k l (ℕ-discrete k i);
               };
         }
       where
-        rest : (k : ℕ) → k < length left → Dec (k ≡ i) → at (set left′ i (at left′ i - given)) k ≡ at left k - sumOf from rooms first (e + 1 - first) k
+        rest : (k : ℕ) → k < length left → Dec (k ≡ i) → at (set left′ i (at left′ i - given)) k ≡ at left k - sumOf entries rooms first (e + 1 - first) k
         rest k l (yes g) =
             rw g
             (getD-set-same left′ i (at left′ i - given) 0 (omega (arith, row-inside, w .given .lefts))
@@ -125,16 +125,16 @@ module _ {from lows rooms : List ℕ} {first end pays : ℕ} {left sums : List �
         rest k l (no ne) = getD-set-other left′ i k (at left′ i - given) 0 ne ∙ omega (arith, others rooms k ne, w .given .rest k l)
 
         more : (k : ℕ) → k < length left → Dec (k ≡ i)
-            → at (set sums′ i (at sums′ i + (at lows e + given) * pays)) k ≡ at sums k + taken from lows rooms first (e + 1) left k * pays
+            → at (set sums′ i (at sums′ i + (at entries (lows + e) + given) * pays)) k ≡ at sums k + taken entries first (e + 1) left k * pays
         more k l (yes g) =
             rw g
-            (getD-set-same sums′ i (at sums′ i + (at lows e + given) * pays) 0 (omega (arith, row-inside, w .given .size)) ∙ sums-now)
+            (getD-set-same sums′ i (at sums′ i + (at entries (lows + e) + given) * pays) 0 (omega (arith, row-inside, w .given .size)) ∙ sums-now)
         more k l (no ne) =
-            let t : taken from lows rooms first (e + 1) left k ≡ taken from lows rooms first e left k = omega (arith, others lows k ne, others rooms k ne) in
-            getD-set-other sums′ i k (at sums′ i + (at lows e + given) * pays) 0 ne
+            let t : taken entries first (e + 1) left k ≡ taken entries first e left k = omega (arith, others lows k ne, others rooms k ne) in
+            getD-set-other sums′ i k (at sums′ i + (at entries (lows + e) + given) * pays) 0 ne
             ∙ w .given .more k l
             ∙ ap (λ x. at sums k + x * pays) (sym t)
 
-  pub giving-all : {left′ sums′ : List ℕ} {e : ℕ} → end ≤ e → Giving from lows rooms first end pays left sums left′ sums′ e
-      → Given from lows rooms first end pays left sums left′ sums′
+  pub giving-all : {left′ sums′ : List ℕ} {e : ℕ} → end ≤ e → Giving entries first end pays left sums left′ sums′ e
+      → Given entries first end pays left sums left′ sums′
   giving-all {e = e} h w = let g : e ≡ end = omega (arith, w .inside) in rw g at (w .given)

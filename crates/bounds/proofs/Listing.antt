@@ -13,23 +13,23 @@ use Rattle.setchain.specs.Sums.{sumTo, onlyIf}
 use Rattle.setchain.specs.Rows.{ONE, SoundRow}
 use Rattle.setchain.specs.Laws.Sums.{sumTo-eq, onlyIf-true, onlyIf-false, total-start}
 use Rattle.step.specs.Lists.{at, gatheredRow, rulesOf, Agree}
-use Rattle.bounds.specs.Entries.{sumOf, listedRow, Arrays, Listable, RowListed, Storable, Listed}
+use Rattle.bounds.specs.Entries.{lows, rooms, counts, sumOf, listedRow, Listable, RowListed, Storable, Listed}
 use Rattle.step.specs.Laws.Agreeing.{sound-same}
 use Rattle.bounds.proofs.Entering.{listSum}
 
 -- the lists at row i: the rows below it are listed, and of the others there is no entry
-pub record Listing (n : ℕ) (rules lowers uppers from lows rooms counts spare : List ℕ) (i : ℕ) : Type 0 where
-  pub arrays : Arrays from lows rooms counts
+pub record Listing (n : ℕ) (rules lowers uppers entries spare : List ℕ) (i : ℕ) : Type 0 where
+  pub table : length entries ≡ 3104
   pub spares : length spare ≡ 32
   pub inside : i ≤ n
-  pub within : (e : ℕ) → e < 1024 → at from e < n
-  pub short : (j : ℕ) → j < n → at counts j ≤ i
-  pub lower : (k : ℕ) → k < i → (j : ℕ) → j < n → listSum from lows counts j k ≡ gatheredRow (rulesOf (length lowers) rules k) lowers uppers .lower j
+  pub within : (e : ℕ) → e < 1024 → at entries e < n
+  pub short : (j : ℕ) → j < n → at entries (counts + j) ≤ i
+  pub lower : (k : ℕ) → k < i → (j : ℕ) → j < n → listSum entries lows j k ≡ gatheredRow (rulesOf (length lowers) rules k) lowers uppers .lower j
   pub rise : (k : ℕ) → k < i → (j : ℕ) → j < n
-      → listSum from rooms counts j k
+      → listSum entries rooms j k
       ≡ gatheredRow (rulesOf (length lowers) rules k) lowers uppers .upper j - gatheredRow (rulesOf (length lowers) rules k) lowers uppers .lower j
-  pub lowerLater : (k : ℕ) → i ≤ k → (j : ℕ) → j < n → listSum from lows counts j k ≡ 0
-  pub riseLater : (k : ℕ) → i ≤ k → (j : ℕ) → j < n → listSum from rooms counts j k ≡ 0
+  pub lowerLater : (k : ℕ) → i ≤ k → (j : ℕ) → j < n → listSum entries lows j k ≡ 0
+  pub riseLater : (k : ℕ) → i ≤ k → (j : ℕ) → j < n → listSum entries rooms j k ≡ 0
   pub whole : (k : ℕ) → k < i → sumTo n (gatheredRow (rulesOf (length lowers) rules k) lowers uppers .lower) + at spare k ≡ ONE
 
 -- what a row adds to its own sum and to another's
@@ -39,36 +39,36 @@ own-sum i {z = z} e f = omega (arith, onlyIf-true (eqb i i) z (eq-eqb i i refl))
 other-sum : (i k : ℕ) {x y : ℕ} (z : ℕ) → (i ≡ k → ⊥) → x ≡ y + onlyIf (eqb i k) z → x ≡ y
 other-sum i k z d e = omega (arith, onlyIf-false (eqb i k) z (ne-eqb i k d))
 
-module _ {n : ℕ} {rules lowers uppers from₀ lows₀ rooms₀ counts₀ spare₀ : List ℕ}
-    (able : Storable n rules lowers uppers from₀ lows₀ rooms₀ counts₀ spare₀) where
-  no-sum : (ends : List ℕ) (j k : ℕ) → j < n → listSum from₀ ends counts₀ j k ≡ 0
+module _ {n : ℕ} {rules lowers uppers entries₀ spare₀ : List ℕ}
+    (able : Storable n rules lowers uppers entries₀ spare₀) where
+  no-sum : (ends j k : ℕ) → j < n → listSum entries₀ ends j k ≡ 0
   no-sum ends j k l =
-      ap (λ c. sumOf from₀ ends (j * 32) c k) (able .empty .none j (omega (arith, able .few)))
-      ∙ sym (total-start (λ e. onlyIf (eqb (at from₀ (j * 32 + e)) k) (at ends (j * 32 + e))))
+      ap (λ c. sumOf entries₀ ends (j * 32) c k) (able .empty .none j (omega (arith, able .few)))
+      ∙ sym (total-start (λ e. onlyIf (eqb (at entries₀ (j * 32 + e)) k) (at entries₀ (ends + (j * 32 + e)))))
 
-  pub listing-none : Listing n rules lowers uppers from₀ lows₀ rooms₀ counts₀ spare₀ 0
+  pub listing-none : Listing n rules lowers uppers entries₀ spare₀ 0
   listing-none =
       record {
-        arrays = able .empty .arrays;
+        table = able .empty .table;
         spares = able .empty .spares;
         inside = omega arith;
         within = λ e l. omega (arith, able .empty .froms e l, able .positive);
         short = λ j l. omega (arith, able .empty .none j (omega (arith, able .few)));
         lower = below-none _;
         rise = below-none _;
-        lowerLater = λ k h j l. no-sum lows₀ j k l;
-        riseLater = λ k h j l. no-sum rooms₀ j k l;
+        lowerLater = λ k h j l. no-sum lows j k l;
+        riseLater = λ k h j l. no-sum rooms j k l;
         whole = below-none _;
       }
 
-  module _ {from lows rooms counts spare : List ℕ} (i : ℕ) (w : Listing n rules lowers uppers from lows rooms counts spare i) where
+  module _ {entries spare : List ℕ} (i : ℕ) (w : Listing n rules lowers uppers entries spare i) where
     part-count : i * 8 + length lowers - i * 8 ≡ length lowers
     part-count = omega arith
 
-    pub listing-takes : i < n → Listable (take (i * 8 + length lowers - i * 8) (drop (i * 8) rules)) lowers uppers n i from lows rooms counts
+    pub listing-takes : i < n → Listable (take (i * 8 + length lowers - i * 8) (drop (i * 8) rules)) lowers uppers n i entries
     listing-takes l =
         record {
-          arrays = w .arrays;
+          table = w .table;
           few = able .few;
           inside = l;
           sound = subst (λ k. SoundRow n (gatheredRow (take k (drop (i * 8) rules)) lowers uppers)) (sym part-count) (able .sound i l);
@@ -76,12 +76,12 @@ module _ {n : ℕ} {rules lowers uppers from₀ lows₀ rooms₀ counts₀ spare
           short = w .short;
         }
 
-    module _ {from′ lows′ rooms′ counts′ : List ℕ} {r : ℕ} (l : i < n)
-        (a : RowListed (rulesOf (length lowers) rules i) lowers uppers n i from lows rooms counts from′ lows′ rooms′ counts′ r) where
-      listing-next : Listing n rules lowers uppers from′ lows′ rooms′ counts′ (set spare i r) (i + 1)
+    module _ {entries′ : List ℕ} {r : ℕ} (l : i < n)
+        (a : RowListed (rulesOf (length lowers) rules i) lowers uppers n i entries entries′ r) where
+      listing-next : Listing n rules lowers uppers entries′ (set spare i r) (i + 1)
       listing-next =
           record {
-            arrays = a .arrays;
+            table = a .table;
             spares = length-set spare i r ∙ w .spares;
             inside = omega arith;
             within = a .within;
@@ -100,15 +100,15 @@ module _ {n : ℕ} {rules lowers uppers from₀ lows₀ rooms₀ counts₀ spare
                 (omega (arith, getD-set-same spare i r 0 (omega (arith, w .spares, able .few)), a .whole));
           }
 
-    pub listing-more : {from′ lows′ rooms′ counts′ : List ℕ} {r : ℕ} → i < n
-        → RowListed (take (i * 8 + length lowers - i * 8) (drop (i * 8) rules)) lowers uppers n i from lows rooms counts from′ lows′ rooms′ counts′ r
-        → Listing n rules lowers uppers from′ lows′ rooms′ counts′ (set spare i r) (i + 1)
-    listing-more {from′} {lows′} {rooms′} {counts′} {r} l a =
+    pub listing-more : {entries′ : List ℕ} {r : ℕ} → i < n
+        → RowListed (take (i * 8 + length lowers - i * 8) (drop (i * 8) rules)) lowers uppers n i entries entries′ r
+        → Listing n rules lowers uppers entries′ (set spare i r) (i + 1)
+    listing-more {entries′} {r} l a =
         listing-next l
-        (subst (λ k. RowListed (take k (drop (i * 8) rules)) lowers uppers n i from lows rooms counts from′ lows′ rooms′ counts′ r) part-count a)
+        (subst (λ k. RowListed (take k (drop (i * 8) rules)) lowers uppers n i entries entries′ r) part-count a)
 
     -- when all rows are listed
-    listing-agrees : n ≤ i → (k : ℕ) → k < n → Agree n (listedRow from lows rooms counts k) (gatheredRow (rulesOf (length lowers) rules k) lowers uppers)
+    listing-agrees : n ≤ i → (k : ℕ) → k < n → Agree n (listedRow entries k) (gatheredRow (rulesOf (length lowers) rules k) lowers uppers)
     listing-agrees h k l =
         record {
           lower = λ j g. w .lower k (omega arith) j g;
@@ -116,7 +116,7 @@ module _ {n : ℕ} {rules lowers uppers from₀ lows₀ rooms₀ counts₀ spare
               omega (arith, w .lower k (omega arith) j g, w .rise k (omega arith) j g, able .sound k l .ordered j g);
         }
 
-    pub listing-all : n ≤ i → Listed n rules lowers uppers from lows rooms counts spare
+    pub listing-all : n ≤ i → Listed n rules lowers uppers entries spare
     listing-all h =
         record {
           held =
@@ -127,13 +127,13 @@ module _ {n : ℕ} {rules lowers uppers from₀ lows₀ rooms₀ counts₀ spare
                 short = λ j l. omega (arith, w .short j l, w .inside, able .few);
                 sound = λ k l.
                     let g = listing-agrees h k l in
-                    sound-same n (gatheredRow (rulesOf (length lowers) rules k) lowers uppers) (listedRow from lows rooms counts k)
+                    sound-same n (gatheredRow (rulesOf (length lowers) rules k) lowers uppers) (listedRow entries k)
                     (record { lower = λ j q. sym (g .lower j q); upper = λ j q. sym (g .upper j q) })
                     (able .sound k l);
                 whole = λ k l.
                     omega (
                       arith,
-                      sumTo-eq n (listedRow from lows rooms counts k .lower) (gatheredRow (rulesOf (length lowers) rules k) lowers uppers .lower) (listing-agrees h k l .lower),
+                      sumTo-eq n (listedRow entries k .lower) (gatheredRow (rulesOf (length lowers) rules k) lowers uppers .lower) (listing-agrees h k l .lower),
                       w .whole k (omega arith),
                     );
               };

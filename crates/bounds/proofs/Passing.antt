@@ -17,7 +17,7 @@ use Rattle.states.specs.Laws.Writing.{Rewritten}
 use Rattle.order.specs.Laws.Arranging.{arranged-placed, sorted-holds}
 use Rattle.step.specs.Lists.{at}
 use Rattle.step.specs.Figure.{rounded, stepFigure, LARGEST}
-use Rattle.bounds.specs.Entries.{sumOf, listedRow, chainListed, Held}
+use Rattle.bounds.specs.Entries.{lows, rooms, counts, sumOf, listedRow, chainListed, Held}
 use Rattle.bounds.specs.Walk.{leftAt, sumAt, taken, Givable, Given, Walkable, Walked, Settleable, Settled}
 use Rattle.bounds.specs.Years.{Yearly, Formed}
 use Rattle.step.specs.Laws.Agreeing.{step-same-payoff}
@@ -45,40 +45,40 @@ module _ {gain : List ℕ} (falling : Bool) {sums figures : List ℕ} {i : ℕ} 
   settling-all h = record { size = w .size; each = λ k l. w .done k (omega arith) }
 
 -- the entries to the states at the places below k are given
-pub record Passing (from lows rooms counts payoff order left left′ sums : List ℕ) (k : ℕ) : Type 0 where
+pub record Passing (entries payoff order left left′ sums : List ℕ) (k : ℕ) : Type 0 where
   pub inside : k ≤ length payoff
   pub lefts : length left′ ≡ length payoff
   pub size : length sums ≡ length payoff
-  pub rest : (i : ℕ) → i < length payoff → at left′ i ≡ leftAt (listedRow from lows rooms counts i) order (at left i) k
-  pub sum : (i : ℕ) → i < length payoff → at sums i ≡ sumAt (listedRow from lows rooms counts i) (at payoff) order (at left i) k
+  pub rest : (i : ℕ) → i < length payoff → at left′ i ≡ leftAt (listedRow entries i) order (at left i) k
+  pub sum : (i : ℕ) → i < length payoff → at sums i ≡ sumAt (listedRow entries i) (at payoff) order (at left i) k
 
-module _ {from lows rooms counts payoff order left sums₀ : List ℕ} (able : Walkable from lows rooms counts payoff order left sums₀) where
-  pub passing-none : Passing from lows rooms counts payoff order left left sums₀ 0
+module _ {entries payoff order left sums₀ : List ℕ} (able : Walkable entries payoff order left sums₀) where
+  pub passing-none : Passing entries payoff order left left sums₀ 0
   unfolding leftAt sumAt
   passing-none = record { inside = omega arith; lefts = able .lefts; size = able .size; rest = λ i l. refl; sum = able .none }
 
-  fits : (i : ℕ) → i < length payoff → (k : ℕ) → k ≤ length payoff → sumAt (listedRow from lows rooms counts i) (at payoff) order (at left i) k ≤ LARGEST * ONE
-  fits i l k h = sum-fits (length payoff) (listedRow from lows rooms counts i) (at payoff) order (at left i) (able .placed) (able .held .whole i l) (able .small) k h
+  fits : (i : ℕ) → i < length payoff → (k : ℕ) → k ≤ length payoff → sumAt (listedRow entries i) (at payoff) order (at left i) k ≤ LARGEST * ONE
+  fits i l k h = sum-fits (length payoff) (listedRow entries i) (at payoff) order (at left i) (able .placed) (able .held .whole i l) (able .small) k h
 
-  module _ {left′ sums : List ℕ} {k : ℕ} (w : Passing from lows rooms counts payoff order left left′ sums k) (more : k < length payoff)
+  module _ {left′ sums : List ℕ} {k : ℕ} (w : Passing entries payoff order left left′ sums k) (more : k < length payoff)
       {j : ℕ} (here : j ≡ at order k - 1) where
     pub state-inside : j < length payoff
     state-inside = omega (arith, able .placed .within k more)
 
-    pub list-short : at counts j ≤ 32
+    pub list-short : at entries (counts + j) ≤ 32
     list-short = able .held .short j state-inside
 
-    count-is : j * 32 + at counts j - j * 32 ≡ at counts j
+    count-is : j * 32 + at entries (counts + j) - j * 32 ≡ at entries (counts + j)
     count-is = omega arith
 
     -- what row i takes is what the walk's sum has
     one-more : (i : ℕ) → i < length payoff
-        → sumAt (listedRow from lows rooms counts i) (at payoff) order (at left i) (suc k) ≡ at sums i + taken from lows rooms (j * 32) (j * 32 + at counts j) left′ i * at payoff j
+        → sumAt (listedRow entries i) (at payoff) order (at left i) (suc k) ≡ at sums i + taken entries (j * 32) (j * 32 + at entries (counts + j)) left′ i * at payoff j
     unfolding sumAt
     one-more i l =
         rw (count-is, here)
-        (let r : IntervalRow = listedRow from lows rooms counts i in
-        let m : room r (at order k - 1) ≡ sumOf from rooms ((at order k - 1) * 32) (at counts (at order k - 1)) i = omega arith in
+        (let r : IntervalRow = listedRow entries i in
+        let m : room r (at order k - 1) ≡ sumOf entries rooms ((at order k - 1) * 32) (at entries (counts + (at order k - 1))) i = omega arith in
         omega (
           arith,
           w .sum i l,
@@ -87,34 +87,35 @@ module _ {from lows rooms counts payoff order left sums₀ : List ℕ} (able : W
         ))
 
     left-more : (i : ℕ) → i < length payoff
-        → leftAt (listedRow from lows rooms counts i) order (at left i) (suc k) ≡ at left′ i - sumOf from rooms (j * 32) (j * 32 + at counts j - j * 32) i
+        → leftAt (listedRow entries i) order (at left i) (suc k) ≡ at left′ i - sumOf entries rooms (j * 32) (j * 32 + at entries (counts + j) - j * 32) i
     unfolding leftAt
     left-more i l = rw (count-is, here) (omega (arith, w .rest i l))
 
-    entry-small : (e : ℕ) → j * 32 ≤ e → e < j * 32 + at counts j → at lows e + at rooms e ≤ ONE
+    entry-small : (e : ℕ) → j * 32 ≤ e → e < j * 32 + at entries (counts + j) → at entries (lows + e) + at entries (rooms + e) ≤ ONE
     entry-small e a b =
-        let i : at from e < length payoff = able .held .within e (omega (arith, state-inside, list-short, able .held .few)) in
+        let i : at entries e < length payoff = able .held .within e (omega (arith, state-inside, list-short, able .held .few)) in
         omega (
           arith,
-          entry-in from lows (j * 32) (at counts j) e a b,
-          entry-in from rooms (j * 32) (at counts j) e a b,
-          able .held .sound (at from e) i .capped j state-inside,
+          entry-in entries lows (j * 32) (at entries (counts + j)) e a b,
+          entry-in entries rooms (j * 32) (at entries (counts + j)) e a b,
+          able .held .sound (at entries e) i .capped j state-inside,
         )
 
-    pub pass-gives : Givable from lows rooms (j * 32) (j * 32 + at counts j) (at payoff j) left′ sums
-    pass-gives =
-        record {
+    pub pass-gives : {count : ℕ} → count ≡ at entries (counts + j) → Givable entries (j * 32) (j * 32 + count) (at payoff j) left′ sums
+    pass-gives is =
+        rw is
+        (record {
           size = w .size ∙ sym (w .lefts);
           within = λ e l. omega (arith, able .held .within e l, w .lefts);
           rises = omega arith;
           ends = omega (arith, state-inside, list-short, able .held .few);
           small = entry-small;
           fits = λ i l. omega (arith, one-more i (omega (arith, w .lefts)), fits i (omega (arith, w .lefts)) (suc k) more);
-        }
+        })
 
-    pub passing-more : {left″ sums″ : List ℕ} → Given from lows rooms (j * 32) (j * 32 + at counts j) (at payoff j) left′ sums left″ sums″
-        → Passing from lows rooms counts payoff order left left″ sums″ (k + 1)
-    passing-more {left″} {sums″} g =
+    passing-next : {left″ sums″ : List ℕ} → Given entries (j * 32) (j * 32 + at entries (counts + j)) (at payoff j) left′ sums left″ sums″
+        → Passing entries payoff order left left″ sums″ (k + 1)
+    passing-next {left″} {sums″} g =
         record {
           inside = omega arith;
           lefts = g .lefts ∙ w .lefts;
@@ -123,8 +124,13 @@ module _ {from lows rooms counts payoff order left sums₀ : List ℕ} (able : W
           sum = λ i l. rw add-one (g .more i (omega (arith, w .lefts)) ∙ sym (one-more i l));
         }
 
-  pub passing-all : {left′ sums : List ℕ} {k : ℕ} → length payoff ≤ k → Passing from lows rooms counts payoff order left left′ sums k
-      → Walked from lows rooms counts payoff order left sums
+    pub passing-more : {count : ℕ} → count ≡ at entries (counts + j)
+        → {left″ sums″ : List ℕ} → Given entries (j * 32) (j * 32 + count) (at payoff j) left′ sums left″ sums″
+        → Passing entries payoff order left left″ sums″ (k + 1)
+    passing-more is g = passing-next (rw is at g)
+
+  pub passing-all : {left′ sums : List ℕ} {k : ℕ} → length payoff ≤ k → Passing entries payoff order left left′ sums k
+      → Walked entries payoff order left sums
   passing-all {k = k} h w =
       let e : k ≡ length payoff = omega (arith, w .inside) in
       let s = rw e at (w .sum) in
@@ -135,7 +141,7 @@ module _ {from lows rooms counts payoff order left sums₀ : List ℕ} (able : W
       }
 
 -- a year of n states, where figures, spare parts and sums stand at the fronts of arrays
-module _ {from lows rooms counts spare gain order before : List ℕ} (w : Yearly from lows rooms counts spare gain order before)
+module _ {entries spare gain order before : List ℕ} (w : Yearly entries spare gain order before)
     (fits : length gain ≤ length before) where
   front-count : length (take (length gain) before) ≡ length gain
   front-count = length-take-le (length gain) before fits
@@ -162,11 +168,11 @@ module _ {from lows rooms counts spare gain order before : List ℕ} (w : Yearly
     pub year-placed : Placed (length gain) order′
     year-placed = subst (λ n. Placed n order′) front-count (arranged-placed by-payoff)
 
-    pub year-walks : Walkable from lows rooms counts (take (length gain) before) order′ (take (length gain) spare) (take (length gain) zeros)
+    pub year-walks : Walkable entries (take (length gain) before) order′ (take (length gain) spare) (take (length gain) zeros)
     year-walks =
         record {
           held =
-              subst (λ n. Held n from lows rooms counts (take (length gain) spare)) (sym front-count)
+              subst (λ n. Held n entries (take (length gain) spare)) (sym front-count)
               (record {
                 few = w .held .few;
                 within = w .held .within;
@@ -182,7 +188,7 @@ module _ {from lows rooms counts spare gain order before : List ℕ} (w : Yearly
           none = λ i l. getD-take (length gain) zeros i 0 (omega (arith, front-count)) ∙ getD-replicate 32 i 0 0 (omega (arith, front-count, w .held .few));
         }
 
-    module _ {sums : List ℕ} (k : Walked from lows rooms counts (take (length gain) before) order′ (take (length gain) spare) sums) (rest : List ℕ) where
+    module _ {sums : List ℕ} (k : Walked entries (take (length gain) before) order′ (take (length gain) spare) sums) (rest : List ℕ) where
       sums-count : length sums ≡ length gain
       sums-count = k .size ∙ front-count
 
@@ -205,7 +211,7 @@ module _ {from lows rooms counts spare gain order before : List ℕ} (w : Yearly
           })
 
       pub year-formed : {figures : List ℕ} (rest′ : List ℕ) → Settled gain falling (take (length gain) (sums ++ rest)) figures
-          → Formed (chainListed (length gain) from lows rooms counts) gain before falling (figures ++ rest′)
+          → Formed (chainListed (length gain) entries) gain before falling (figures ++ rest′)
       year-formed {figures} rest′ s =
           record {
             each = λ i l.
@@ -217,13 +223,13 @@ module _ {from lows rooms counts spare gain order before : List ℕ} (w : Yearly
           }
         where
           figure : (i : ℕ) → i < length gain
-              → rounded falling (sumAt (listedRow from lows rooms counts i) (at (take (length gain) before)) order′ (at (take (length gain) spare) i) (length (take (length gain) before)))
-              ≡ stepFigure falling (length gain) (listedRow from lows rooms counts i) (at before)
+              → rounded falling (sumAt (listedRow entries i) (at (take (length gain) before)) order′ (at (take (length gain) spare) i) (length (take (length gain) before)))
+              ≡ stepFigure falling (length gain) (listedRow entries i) (at before)
           figure i l =
-              walk-figure falling (listedRow from lows rooms counts i) (take (length gain) before) order′ (at (take (length gain) spare) i)
-              (subst (λ n. SoundRow n (listedRow from lows rooms counts i)) (sym front-count) (w .held .sound i l)) by-payoff
+              walk-figure falling (listedRow entries i) (take (length gain) before) order′ (at (take (length gain) spare) i)
+              (subst (λ n. SoundRow n (listedRow entries i)) (sym front-count) (w .held .sound i l)) by-payoff
               (λ j m. small j (omega (arith, front-count)))
               (year-walks .held .whole i (omega (arith, front-count)))
-              ∙ ap (λ n. stepFigure falling n (listedRow from lows rooms counts i) (at (take (length gain) before))) front-count
-              ∙ step-same-payoff falling (length gain) (listedRow from lows rooms counts i) (w .held .sound i l) (at (take (length gain) before)) (at before)
+              ∙ ap (λ n. stepFigure falling n (listedRow entries i) (at (take (length gain) before))) front-count
+              ∙ step-same-payoff falling (length gain) (listedRow entries i) (w .held .sound i l) (at (take (length gain) before)) (at before)
               (λ j m. getD-take (length gain) before j 0 m)

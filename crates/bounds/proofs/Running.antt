@@ -38,15 +38,15 @@ roomy-less w u fewer =
     }
 
 -- from t years to fewer, and from the figures of u years to those of one more
-module _ {from lows rooms counts spare gain order payoff : List ℕ} {t : ℕ} (w : Runnable from lows rooms counts spare gain order payoff t) (u : ℕ) (fewer : u ≤ t) where
+module _ {entries spare gain order payoff : List ℕ} {t : ℕ} (w : Runnable entries spare gain order payoff t) (u : ℕ) (fewer : u ≤ t) where
   abbrev chain : SetChain
-  chain = chainListed (length gain) from lows rooms counts
+  chain = chainListed (length gain) entries
 
-  pub run-less : Runnable from lows rooms counts spare gain order payoff u
+  pub run-less : Runnable entries spare gain order payoff u
   run-less = record { held = w .held; placed = w .placed; roomy = roomy-less (w .roomy) u fewer }
 
-  module _ {falling : Bool} {figures : List ℕ} (before : Ran (chainListed (length gain) from lows rooms counts) gain payoff falling u figures) where
-    pub run-year : {order′ : List ℕ} → Placed (length gain) order′ → Yearly from lows rooms counts spare gain order′ figures
+  module _ {falling : Bool} {figures : List ℕ} (before : Ran (chainListed (length gain) entries) gain payoff falling u figures) where
+    pub run-year : {order′ : List ℕ} → Placed (length gain) order′ → Yearly entries spare gain order′ figures
     unfolding run-less roomy-less
     run-year placed =
         record {
@@ -60,8 +60,8 @@ module _ {from lows rooms counts spare gain order payoff : List ℕ} {t : ℕ} (
           rises = λ j l. le-trans (w .roomy .gains j l) (w .roomy .rises);
         }
 
-    pub run-next : {after : List ℕ} → Formed (chainListed (length gain) from lows rooms counts) gain figures falling after
-        → Ran (chainListed (length gain) from lows rooms counts) gain payoff falling (suc u) after
+    pub run-next : {after : List ℕ} → Formed (chainListed (length gain) entries) gain figures falling after
+        → Ran (chainListed (length gain) entries) gain payoff falling (suc u) after
     run-next f =
         record {
           each = λ i l.
@@ -69,6 +69,6 @@ module _ {from lows rooms counts spare gain order payoff : List ℕ} {t : ℕ} (
               ∙ years-next falling chain (w .held .sound) (at payoff) (at gain) (at figures) u i l (before .each);
         }
 
-    pub run-more : {after : List ℕ} → suc u ≡ t → Formed (chainListed (length gain) from lows rooms counts) gain figures falling after
-        → Ran (chainListed (length gain) from lows rooms counts) gain payoff falling t after
+    pub run-more : {after : List ℕ} → suc u ≡ t → Formed (chainListed (length gain) entries) gain figures falling after
+        → Ran (chainListed (length gain) entries) gain payoff falling t after
     run-more {after} next f = subst (λ k. Ran chain gain payoff falling k after) next (run-next f)

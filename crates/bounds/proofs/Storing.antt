@@ -1,6 +1,6 @@
 -- The lists of a scheme's entries: from its stored parts to its chain.
 -- Assumes nothing.
-use Prim.Native.Nat.{ℕ, _≤_, _<_}
+use Prim.Native.Nat.{ℕ, _+_, _≤_, _<_}
 use mathlib.Core.Path.{_≡_, sym, _∙_, subst}
 use mathlib.Core.List.{List}
 use native.Mathlib.Omega.{arith}
@@ -13,43 +13,19 @@ use Rattle.scheme.specs.Rows.{chainOf}
 use Rattle.scheme.specs.Laws.Sound.{accepted-sound}
 use Rattle.gathering.specs.Laws.Entries.{lower-is, upper-is}
 use Rattle.step.specs.Lists.{gatheredRow, rulesOf, Agree}
-use Rattle.bounds.specs.Entries.{listedRow, Empty, Storable, StoredParts, Listed}
+use Rattle.bounds.specs.Entries.{counts, listedRow, Empty, Storable, Listed}
 use Rattle.bounds.specs.Start.{Entered}
 use Rattle.step.specs.Laws.Agreeing.{sound-same}
 
 -- arrays of zeros hold lists with no entry
-pub empty-listed : Empty (replicate 1024 0) (replicate 1024 0) (replicate 1024 0) (replicate 32 0) (replicate 32 0)
+pub empty-listed : Empty (replicate 3104 0) (replicate 32 0)
 empty-listed =
     record {
-      arrays =
-          record {
-            froms = length-replicate {A = ℕ} 1024 0;
-            lowers = length-replicate {A = ℕ} 1024 0;
-            rises = length-replicate {A = ℕ} 1024 0;
-            counted = length-replicate {A = ℕ} 32 0;
-          };
+      table = length-replicate {A = ℕ} 3104 0;
       spares = length-replicate {A = ℕ} 32 0;
-      froms = λ e l. getD-replicate 1024 e 0 0 l;
-      none = λ j l. getD-replicate 32 j 0 0 l;
+      froms = λ e l. getD-replicate 3104 e 0 0 (omega arith);
+      none = λ j l. getD-replicate 3104 (counts + j) 0 0 (omega arith);
     }
-
--- from the stored parts to the slices that go down
-pub parts-listed : {rules lowers uppers : List ℕ} {columns classes : ℕ} {from lows rooms counts spare : List ℕ}
-    → StoredParts rules lowers uppers columns classes from lows rooms counts spare → 256 ≤ length rules → 8 ≤ length lowers
-    → Storable classes rules (take columns lowers) (take columns uppers) from lows rooms counts spare
-parts-listed {rules} {lowers} {uppers} {columns} {classes} w rulesStored lowersStored =
-    record {
-      positive = w .positive;
-      few = w .few;
-      columns = omega (arith, count, w .columnsFit);
-      stored = omega (arith, w .few);
-      sound = λ i l.
-          subst (λ k. SoundRow classes (gatheredRow (rulesOf k rules i) (take columns lowers) (take columns uppers))) (sym count) (w .sound i l);
-      empty = w .empty;
-    }
-  where
-    count : length (take columns lowers) ≡ columns
-    count = length-take-le columns lowers (omega (arith, w .columnsFit))
 
 -- from a scheme's parts to its chain
 module _ (s : Scheme) (accepted : Accepted s) where
@@ -64,33 +40,36 @@ module _ (s : Scheme) (accepted : Accepted s) where
         upper = λ j g. sym (upper-is s accepted i l j);
       }
 
-  pub scheme-lists : {from lows rooms counts spare : List ℕ} → Empty from lows rooms counts spare
-      → StoredParts (s .rules) (s .lowers) (s .uppers) (s .columns) (s .classes) from lows rooms counts spare
-  unfolding stored
-  scheme-lists empty =
-      record {
-        positive = accepted .size .someClass;
-        few = accepted .size .classes;
-        columnsFit = accepted .size .columns;
-        sound = λ i l.
-            sound-same (s .classes) (chainOf s .row i) (stored (s .columns) i) (rows-back i l) (accepted-sound s accepted i l);
-        empty = empty;
-      }
+  module _ (rulesStored : length (s .rules) ≡ 256) (lowersStored : length (s .lowers) ≡ 8) where
+    count : length (take (s .columns) (s .lowers)) ≡ s .columns
+    count = length-take-le (s .columns) (s .lowers) (omega (arith, accepted .size .columns))
 
-  pub scheme-entered : {from lows rooms counts spare : List ℕ} → length (s .lowers) ≡ 8
-      → Listed (s .classes) (s .rules) (take (s .columns) (s .lowers)) (take (s .columns) (s .uppers)) from lows rooms counts spare
-      → Entered s from lows rooms counts spare
-  unfolding stored
-  scheme-entered {from} {lows} {rooms} {counts} lowersStored w =
-      record {
-        held = w .held;
-        agrees = λ i l.
-            let g : Agree (s .classes) (listedRow from lows rooms counts i) (stored (s .columns) i) = subst (λ k. Agree (s .classes) (listedRow from lows rooms counts i) (stored k i)) count (w .agrees i l) in
-            record {
-              lower = λ j h. g .lower j h ∙ lower-is s accepted i l j;
-              upper = λ j h. g .upper j h ∙ upper-is s accepted i l j;
-            };
-      }
-    where
-      count : length (take (s .columns) (s .lowers)) ≡ s .columns
-      count = length-take-le (s .columns) (s .lowers) (omega (arith, accepted .size .columns))
+    pub scheme-lists : {entries spare : List ℕ} → Empty entries spare
+        → Storable (s .classes) (s .rules) (take (s .columns) (s .lowers)) (take (s .columns) (s .uppers)) entries spare
+    unfolding stored
+    scheme-lists empty =
+        record {
+          positive = accepted .size .someClass;
+          few = accepted .size .classes;
+          columns = omega (arith, count, accepted .size .columns);
+          stored = omega (arith, accepted .size .classes);
+          sound = λ i l.
+              subst (λ k. SoundRow (s .classes) (stored k i)) (sym count)
+              (sound-same (s .classes) (chainOf s .row i) (stored (s .columns) i) (rows-back i l) (accepted-sound s accepted i l));
+          empty = empty;
+        }
+
+    pub scheme-entered : {entries spare : List ℕ}
+        → Listed (s .classes) (s .rules) (take (s .columns) (s .lowers)) (take (s .columns) (s .uppers)) entries spare
+        → Entered s entries spare
+    unfolding stored
+    scheme-entered {entries} w =
+        record {
+          held = w .held;
+          agrees = λ i l.
+              let g : Agree (s .classes) (listedRow entries i) (stored (s .columns) i) = subst (λ k. Agree (s .classes) (listedRow entries i) (stored k i)) count (w .agrees i l) in
+              record {
+                lower = λ j h. g .lower j h ∙ lower-is s accepted i l j;
+                upper = λ j h. g .upper j h ∙ upper-is s accepted i l j;
+              };
+        }

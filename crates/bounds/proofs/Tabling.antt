@@ -27,9 +27,9 @@ use Rattle.bounds.specs.Years.{yearsFigure}
 use Rattle.bounds.specs.Start.{Entered, Ready, startFigure, ShareHeld}
 use Rattle.answers.specs.Answers.{startOf}
 use Rattle.answers.specs.Table.{placeOf, totalPlace, tableSize, tableEntry, lowTable, highTable}
-use Rattle.bounds.specs.Tracks.{Trackable, Tracked, Columnable, ColumnReady, TableReady, SharesIn, figureTable}
+use Rattle.bounds.specs.Tracks.{Trackable, Tracked, ColumnReady, TableReady, SharesIn, figureTable}
 use Rattle.answers.specs.Laws.Table.{entry-share, entry-mean, entry-total}
-use Rattle.bounds.proofs.Starting.{start-runs, start-years, start-within, scheme-starts, scheme-years}
+use Rattle.bounds.proofs.Starting.{start-runs, start-years, start-within}
 use Rattle.bounds.proofs.Forming.{zeros}
 use Rattle.bounds.proofs.Answering.{share-ready, share-figure, mean-ready, mean-figure, total-ready, total-figure}
 
@@ -37,26 +37,6 @@ use Rattle.bounds.proofs.Answering.{share-ready, share-figure, mean-rea
 tracked-same : {f g : ℕ → ℕ} {first stride years : ℕ} {before after : List ℕ} → ((u : ℕ) → f u ≡ g u)
     → Tracked f first stride years before after → Tracked g first stride years before after
 tracked-same h w = record { size = w .size; done = λ u l. w .done u l ∙ h u; other = w .other }
-
--- from arrays to the slices that go down
-module _ {from lows rooms counts spare : List ℕ} {classes start : ℕ} {gain payoff : List ℕ} {horizon first : ℕ} {out : List ℕ}
-    (w : Columnable from lows rooms counts spare classes start gain payoff horizon first out) (gainStored : 32 ≤ length gain)
-    (i : ℕ) (state : i ≡ start - 1) where
-  pub column-tracks : (order rest : List ℕ) → order ≡ numbered (take classes zeros)
-      → Trackable from lows rooms counts spare (take classes gain) (take classes (order ++ rest)) payoff i first (classes + 1) horizon out
-  column-tracks order rest is =
-      record {
-        runs = start-runs (w .starts) gainStored order rest is;
-        within = start-within (w .starts) gainStored i state;
-        apart = omega arith;
-        fits = w .fits;
-        few = w .few;
-      }
-
-  pub column-tracked : (falling : Bool) {after : List ℕ}
-      → Tracked (λ u. yearsFigure falling (chainListed (length (take classes gain)) from lows rooms counts) (at payoff) (at (take classes gain)) u i) first (classes + 1) horizon out after
-      → Tracked (λ t. yearsFigure falling (chainListed classes from lows rooms counts) (at payoff) (at gain) t (start - 1)) first (classes + 1) horizon out after
-  column-tracked falling t = tracked-same (λ u. start-years (w .starts) gainStored falling u i state) t
 
 -- a table's numbers are few
 table-few : (s : Scheme) → s .horizon ≤ 100 → s .classes ≤ 32 → tableSize s ≤ LARGEST
@@ -68,21 +48,24 @@ table-few s h c =
 pub last-fits : (s : Scheme) → Accepted s → {n : ℕ} → n ≡ tableSize s → Fits w64 ((n - 1) * 8)
 last-fits s ok e = omega (arith, table-few s (ok .horizon .within) (ok .size .classes))
 
--- from a scheme to the lists of its entries
-module _ (s : Scheme) {from lows rooms counts spare gain payoff : List ℕ} {first : ℕ} {out : List ℕ} (w : ColumnReady s gain payoff first out)
-    (e : Entered s from lows rooms counts spare) where
-  pub scheme-columns : Columnable from lows rooms counts spare (s .classes) (s .start) gain payoff (s .horizon) first out
-  scheme-columns =
+-- from a scheme's arrays to the slices that go down, and from the lists of its entries to its chain
+module _ (s : Scheme) {entries spare gain payoff : List ℕ} {first : ℕ} {out : List ℕ} (w : ColumnReady s gain payoff first out)
+    (e : Entered s entries spare) (gainStored : 32 ≤ length gain) (i : ℕ) (state : i ≡ s .start - 1) where
+  pub column-tracks : (order rest : List ℕ) → order ≡ numbered (take (s .classes) zeros)
+      → Trackable entries spare (take (s .classes) gain) (take (s .classes) (order ++ rest)) payoff i first (s .classes + 1) (s .horizon) out
+  column-tracks order rest is =
       record {
-        starts = scheme-starts s (w .ready) e;
+        runs = start-runs s (w .ready) e gainStored order rest is;
+        within = start-within s (w .ready) e gainStored i state;
+        apart = omega arith;
         fits = omega (arith, w .within, w .size);
         few = omega (arith, w .size, table-few s (w .ready .accepted .horizon .within) (w .ready .accepted .size .classes));
       }
 
-  pub scheme-column : (falling : Bool) {after : List ℕ}
-      → Tracked (λ t. yearsFigure falling (chainListed (s .classes) from lows rooms counts) (at payoff) (at gain) t (s .start - 1)) first (s .classes + 1) (s .horizon) out after
+  pub column-tracked : (falling : Bool) {after : List ℕ}
+      → Tracked (λ u. yearsFigure falling (chainListed (length (take (s .classes) gain)) entries) (at payoff) (at (take (s .classes) gain)) u i) first (s .classes + 1) (s .horizon) out after
       → Tracked (startFigure falling s gain payoff) first (s .classes + 1) (s .horizon) out after
-  scheme-column falling t = tracked-same (scheme-years s (w .ready) e falling) t
+  column-tracked falling t = tracked-same (λ u. start-years s (w .ready) e gainStored falling u i state) t
 
 -- a place tells its number in the row
 number-is : (c t j : ℕ) → j ≤ c → (t * suc c + j) % suc c ≡ j

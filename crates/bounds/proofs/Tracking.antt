@@ -20,22 +20,22 @@ use Rattle.bounds.proofs.Agreeing.{years-none}
 use Rattle.bounds.proofs.Running.{run-none, run-year, run-next}
 
 -- after u years: the vector is theirs, and the figures of year 0 to u are written in a slice that held year 0's
-pub record Tracking (from lows rooms counts gain : List ℕ) (falling : Bool) (payoff : List ℕ) (state first stride years : ℕ) (before out figures order : List ℕ) (place u : ℕ) : Type 0 where
+pub record Tracking (entries gain : List ℕ) (falling : Bool) (payoff : List ℕ) (state first stride years : ℕ) (before out figures order : List ℕ) (place u : ℕ) : Type 0 where
   pub size : length out ≡ length before
   pub inside : u ≤ years
   pub here : place ≡ first + u * stride
   pub placed : Placed (length gain) order
-  pub ran : Ran (chainListed (length gain) from lows rooms counts) gain payoff falling u figures
-  pub done : (k : ℕ) → k < u + 1 → at out (first + k * stride) ≡ yearsFigure falling (chainListed (length gain) from lows rooms counts) (at payoff) (at gain) k state
+  pub ran : Ran (chainListed (length gain) entries) gain payoff falling u figures
+  pub done : (k : ℕ) → k < u + 1 → at out (first + k * stride) ≡ yearsFigure falling (chainListed (length gain) entries) (at payoff) (at gain) k state
   pub other : (p : ℕ) → ((k : ℕ) → p ≡ first + k * stride → ⊥) → at out p ≡ at before p
 
-module _ {from lows rooms counts spare gain order₀ payoff : List ℕ} {state first stride years : ℕ} {before : List ℕ}
-    (w : Trackable from lows rooms counts spare gain order₀ payoff state first stride years before) where
+module _ {entries spare gain order₀ payoff : List ℕ} {state first stride years : ℕ} {before : List ℕ}
+    (w : Trackable entries spare gain order₀ payoff state first stride years before) where
   abbrev chain : SetChain
-  chain = chainListed (length gain) from lows rooms counts
+  chain = chainListed (length gain) entries
 
   -- with year 0's figure written the slice is as long as before
-  pub track-starts : Trackable from lows rooms counts spare gain order₀ payoff state first stride years (set before first (at payoff state))
+  pub track-starts : Trackable entries spare gain order₀ payoff state first stride years (set before first (at payoff state))
   track-starts =
       record {
         runs = w .runs;
@@ -48,7 +48,7 @@ module _ {from lows rooms counts spare gain order₀ payoff : List ℕ} {state f
   zeroth : first + 0 * stride ≡ first
   zeroth = omega arith
 
-  pub track-none : {falling : Bool} → Tracking from lows rooms counts gain falling payoff state first stride years (set before first (at payoff state)) (set before first (at payoff state)) payoff order₀ first 0
+  pub track-none : {falling : Bool} → Tracking entries gain falling payoff state first stride years (set before first (at payoff state)) (set before first (at payoff state)) payoff order₀ first 0
   track-none {falling} =
       record {
         size = refl;
@@ -66,7 +66,7 @@ module _ {from lows rooms counts spare gain order₀ payoff : List ℕ} {state f
       }
 
   pub track-all : {falling : Bool} {out figures order : List ℕ} {place u : ℕ} → years ≤ u
-      → Tracking from lows rooms counts gain falling payoff state first stride years (set before first (at payoff state)) out figures order place u
+      → Tracking entries gain falling payoff state first stride years (set before first (at payoff state)) out figures order place u
       → Tracked (λ k. yearsFigure falling chain (at payoff) (at gain) k state) first stride years before out
   track-all h i =
       record {
@@ -76,11 +76,11 @@ module _ {from lows rooms counts spare gain order₀ payoff : List ℕ} {state f
       }
 
   module _ {falling : Bool} {out figures order : List ℕ} {place u : ℕ}
-      (i : Tracking from lows rooms counts gain falling payoff state first stride years before out figures order place u) (more : u < years) where
+      (i : Tracking entries gain falling payoff state first stride years before out figures order place u) (more : u < years) where
     next : place + stride ≡ first + (u + 1) * stride
     next = omega (arith, i .here)
 
-    pub track-year : Yearly from lows rooms counts spare gain order figures
+    pub track-year : Yearly entries spare gain order figures
     track-year = run-year (w .runs) u (i .inside) (i .ran) (i .placed)
 
     -- the next place lies in the slice, which is not too long to count
@@ -88,8 +88,8 @@ module _ {from lows rooms counts spare gain order₀ payoff : List ℕ} {state f
     track-fits = (omega (arith, next, w .fits, mul-le-mul-right stride more), omega (arith, next, w .fits, w .few, mul-le-mul-right stride more))
 
     pub track-more : {order′ : List ℕ} → Placed (length gain) order′ → (after : List ℕ)
-        → Formed (chainListed (length gain) from lows rooms counts) gain figures falling after
-        → Tracking from lows rooms counts gain falling payoff state first stride years before (set out (place + stride) (at after state)) after order′ (place + stride) (u + 1)
+        → Formed (chainListed (length gain) entries) gain figures falling after
+        → Tracking entries gain falling payoff state first stride years before (set out (place + stride) (at after state)) after order′ (place + stride) (u + 1)
     track-more placed after f =
         record {
           size = length-set out (place + stride) (at after state) ∙ i .size;
@@ -112,5 +112,5 @@ module _ {from lows rooms counts spare gain order₀ payoff : List ℕ} {state f
         again : suc u ≡ u + 1
         again = omega arith
 
-        ran : Ran (chainListed (length gain) from lows rooms counts) gain payoff falling (u + 1) after
+        ran : Ran (chainListed (length gain) entries) gain payoff falling (u + 1) after
         ran = subst (λ k. Ran chain gain payoff falling k after) again (run-next (w .runs) u (i .inside) (i .ran) f)

@@ -16,16 +16,9 @@ use Rattle.bounds.specs.Years.{yearsFigure, Roomy}
 use Rattle.answers.specs.Answers.{startOf}
 
 -- the lists hold the interval rows of an accepted scheme
-pub record Entered (s : Scheme) (from lows rooms counts spare : List ℕ) : Type 0 where
-  pub held : Held (s .classes) from lows rooms counts spare
-  pub agrees : (i : ℕ) → i < s .classes → Agree (s .classes) (listedRow from lows rooms counts i) (chainOf s .row i)
-
--- what the start class's figure takes
-pub record Startable (from lows rooms counts spare : List ℕ) (classes start : ℕ) (gain payoff : List ℕ) (t : ℕ) : Type 0 where
-  pub held : Held classes from lows rooms counts spare
-  pub positive : 1 ≤ start
-  pub within : start ≤ classes
-  pub roomy : Roomy classes gain payoff t
+pub record Entered (s : Scheme) (entries spare : List ℕ) : Type 0 where
+  pub held : Held (s .classes) entries spare
+  pub agrees : (i : ℕ) → i < s .classes → Agree (s .classes) (listedRow entries i) (chainOf s .row i)
 
 -- an accepted scheme, with payoffs and gains that leave room for t years
 pub record Ready (s : Scheme) (gain payoff : List ℕ) (t : ℕ) : Type 0 where

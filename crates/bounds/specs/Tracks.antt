@@ -11,13 +11,13 @@ use Rattle.scheme.specs.Rows.{chainOf}
 use Rattle.step.specs.Lists.{at}
 use Rattle.step.specs.Figure.{LARGEST}
 use Rattle.bounds.specs.Years.{yearsFigure, Runnable}
-use Rattle.bounds.specs.Start.{Startable, Ready}
+use Rattle.bounds.specs.Start.{Ready}
 use Rattle.answers.specs.Answers.{startOf}
 use Rattle.answers.specs.Table.{placeOf, tableSize, lowTable, highTable}
 
 -- years that can be run, a state of the chain, and a slice that has the last year's place
-pub record Trackable (from lows rooms counts spare gain order payoff : List ℕ) (state first stride years : ℕ) (out : List ℕ) : Type 0 where
-  pub runs : Runnable from lows rooms counts spare gain order payoff years
+pub record Trackable (entries spare gain order payoff : List ℕ) (state first stride years : ℕ) (out : List ℕ) : Type 0 where
+  pub runs : Runnable entries spare gain order payoff years
   pub within : state < length gain
   pub apart : 1 ≤ stride
   pub fits : first + years * stride < length out
@@ -29,13 +29,7 @@ pub record Tracked (figure : ℕ → ℕ) (first stride years : ℕ) (before aft
   pub done : (u : ℕ) → u < years + 1 → at after (first + u * stride) ≡ figure u
   pub other : (p : ℕ) → ((u : ℕ) → p ≡ first + u * stride → ⊥) → at after p ≡ at before p
 
--- what a column of the start class's figures takes
-pub record Columnable (from lows rooms counts spare : List ℕ) (classes start : ℕ) (gain payoff : List ℕ) (horizon first : ℕ) (out : List ℕ) : Type 0 where
-  pub starts : Startable from lows rooms counts spare classes start gain payoff horizon
-  pub fits : first + horizon * (classes + 1) < length out
-  pub few : length out ≤ LARGEST
-
--- and from a scheme: a place in a year's row, and a slice of the table's size
+-- what a column of the start class's figures takes: a scheme that is ready, a place in a year's row, and a slice of the table's size
 pub record ColumnReady (s : Scheme) (gain payoff : List ℕ) (first : ℕ) (out : List ℕ) : Type 0 where
   pub ready : Ready s gain payoff (s .horizon)
   pub within : first ≤ s .classes

@@ -9,7 +9,7 @@ use Rattle.setchain.specs.Step.{room}
 use Rattle.order.specs.Order.{Placed}
 use Rattle.step.specs.Lists.{at}
 use Rattle.step.specs.Figure.{rounded, LARGEST}
-use Rattle.bounds.specs.Entries.{sumOf, listedRow, Held}
+use Rattle.bounds.specs.Entries.{lows, rooms, sumOf, listedRow, Held}
 
 -- the spare parts that a row has left when the states at the first k places of the order had theirs
 unfoldable pub leftAt : IntervalRow → List ℕ → ℕ → ℕ → ℕ
@@ -23,28 +23,28 @@ sumAt r f order spare (suc k) =
     sumAt r f order spare k + (r .lower (at order k - 1) + min (leftAt r order spare k) (room r (at order k - 1))) * f (at order k - 1)
 
 -- the parts that row i takes of the entries to one state
-abbrev pub taken : (from lows rooms : List ℕ) → (first end : ℕ) → List ℕ → ℕ → ℕ
-taken from lows rooms first end left i = sumOf from lows first (end - first) i + min (at left i) (sumOf from rooms first (end - first) i)
+abbrev pub taken : (entries : List ℕ) → (first end : ℕ) → List ℕ → ℕ → ℕ
+taken entries first end left i = sumOf entries lows first (end - first) i + min (at left i) (sumOf entries rooms first (end - first) i)
 
 -- what it takes to give the entries to one state: rows that all have a place, entries of at most ONE, and sums that fit
-pub record Givable (from lows rooms : List ℕ) (first end pays : ℕ) (left sums : List ℕ) : Type 0 where
+pub record Givable (entries : List ℕ) (first end pays : ℕ) (left sums : List ℕ) : Type 0 where
   pub size : length sums ≡ length left
-  pub within : (e : ℕ) → e < 1024 → at from e < length left
+  pub within : (e : ℕ) → e < 1024 → at entries e < length left
   pub rises : first ≤ end
   pub ends : end ≤ 1024
-  pub small : (e : ℕ) → first ≤ e → e < end → at lows e + at rooms e ≤ ONE
-  pub fits : (i : ℕ) → i < length left → at sums i + taken from lows rooms first end left i * pays ≤ LARGEST * ONE
+  pub small : (e : ℕ) → first ≤ e → e < end → at entries (lows + e) + at entries (rooms + e) ≤ ONE
+  pub fits : (i : ℕ) → i < length left → at sums i + taken entries first end left i * pays ≤ LARGEST * ONE
 
 -- what it leaves
-pub record Given (from lows rooms : List ℕ) (first end pays : ℕ) (left sums left′ sums′ : List ℕ) : Type 0 where
+pub record Given (entries : List ℕ) (first end pays : ℕ) (left sums left′ sums′ : List ℕ) : Type 0 where
   pub lefts : length left′ ≡ length left
   pub size : length sums′ ≡ length left
-  pub rest : (i : ℕ) → i < length left → at left′ i ≡ at left i - sumOf from rooms first (end - first) i
-  pub more : (i : ℕ) → i < length left → at sums′ i ≡ at sums i + taken from lows rooms first end left i * pays
+  pub rest : (i : ℕ) → i < length left → at left′ i ≡ at left i - sumOf entries rooms first (end - first) i
+  pub more : (i : ℕ) → i < length left → at sums′ i ≡ at sums i + taken entries first end left i * pays
 
 -- what the walk takes: lists that hold sound rows, an order, payoffs that are not too large, the rows' spare parts, and sums of 0
-pub record Walkable (from lows rooms counts payoff order left sums : List ℕ) : Type 0 where
-  pub held : Held (length payoff) from lows rooms counts left
+pub record Walkable (entries payoff order left sums : List ℕ) : Type 0 where
+  pub held : Held (length payoff) entries left
   pub placed : Placed (length payoff) order
   pub small : (j : ℕ) → j < length payoff → at payoff j ≤ LARGEST
   pub lefts : length left ≡ length payoff
@@ -52,9 +52,9 @@ pub record Walkable (from lows rooms counts payoff order left sums : List ℕ) :
   pub none : (i : ℕ) → i < length payoff → at sums i ≡ 0
 
 -- what it leaves: each row's sum, which fits
-pub record Walked (from lows rooms counts payoff order left sums : List ℕ) : Type 0 where
+pub record Walked (entries payoff order left sums : List ℕ) : Type 0 where
   pub size : length sums ≡ length payoff
-  pub each : (i : ℕ) → i < length payoff → at sums i ≡ sumAt (listedRow from lows rooms counts i) (at payoff) order (at left i) (length payoff)
+  pub each : (i : ℕ) → i < length payoff → at sums i ≡ sumAt (listedRow entries i) (at payoff) order (at left i) (length payoff)
   pub fits : (i : ℕ) → i < length payoff → at sums i ≤ LARGEST * ONE
 
 -- sums and gains that make figures

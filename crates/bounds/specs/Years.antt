@@ -34,8 +34,8 @@ pub record Roomy (n : ℕ) (gain payoff : List ℕ) (t : ℕ) : Type 0 where
   pub rises : rise ≤ LARGEST
 
 -- what one year takes: lists that hold sound rows, an order of the states, and figures and gains that are not too large
-pub record Yearly (from lows rooms counts spare gain order before : List ℕ) : Type 0 where
-  pub held : Held (length gain) from lows rooms counts spare
+pub record Yearly (entries spare gain order before : List ℕ) : Type 0 where
+  pub held : Held (length gain) entries spare
   pub placed : Placed (length gain) order
   pub small : Small (length gain) before
   pub rises : Small (length gain) gain
@@ -45,8 +45,8 @@ pub record Formed (c : SetChain) (gain before : List ℕ) (falling : Bool) (figu
   pub each : (i : ℕ) → i < c .states → at figures i ≡ yearFigure falling c (at gain) (at before) i
 
 -- what t years take
-pub record Runnable (from lows rooms counts spare gain order payoff : List ℕ) (t : ℕ) : Type 0 where
-  pub held : Held (length gain) from lows rooms counts spare
+pub record Runnable (entries spare gain order payoff : List ℕ) (t : ℕ) : Type 0 where
+  pub held : Held (length gain) entries spare
   pub placed : Placed (length gain) order
   pub roomy : Roomy (length gain) gain payoff t
 

@@ -1,34 +1,44 @@
 // The entries of all interval rows, listed by the class that they lead to: a year then passes each of them once, along the order of the payoffs.
-// The list of state j stands from place j × 32 on: of each entry the state whose row has it, its lower end, and the room from there to its upper end.
+// The list of state j stands from place j × 32 on, in one table: at e the state whose row has the entry of place e, at LOWS + e its lower end, at ROOMS + e the room from there to its upper end, and at COUNTS + j how many entries lead to state j.
 use gathering::gather;
 use gathering::spare;
 use scheme::Scheme;
+ghost use mathlib.Core.Path.{_≡_};
 ghost use lib.ListN.{take};
 ghost use Rattle.scheme.specs.Accepted.{Accepted};
-ghost use Rattle.bounds.specs.Entries.{Addable, Added, Empty, Listable, Listed, RowListed, Storable, StoredParts};
+ghost use Rattle.bounds.specs.Entries.{Addable, Added, Empty, Listable, Listed, RowListed, Storable};
 ghost use Rattle.bounds.specs.Start.{Entered};
 
+// Where the lower ends begin.
+pub const LOWS: usize = 1024;
+
+// Where the rooms begin.
+pub const ROOMS: usize = 2048;
+
+// Where the counts begin.
+pub const COUNTS: usize = 3072;
+
+// A state's number, or a count, as an index.
+pub fn index(x: u32) -> usize
+    ensures { λ r. ⌜ r ≡ x ⌝ }
+{
+    x as usize
+}
+
 // Adds the entries of state i's row to the lists of the states that they lead to.
-fn add_row(
-    lower: &[u64],
-    upper: &[u64],
-    i: usize,
-    from: &mut [u8; 1024],
-    lows: &mut [u32; 1024],
-    rooms: &mut [u32; 1024],
-    counts: &mut [usize; 32],
-)
-    requires { ⌜ Addable (now lower) (now upper) i (now from) (now lows) (now rooms) (now counts) ⌝ }
-    ensures { λ _. ⌜ Added (now (lower .entry)) (now (upper .entry)) i (now (from .entry)) (now (lows .entry)) (now (rooms .entry)) (now (counts .entry)) (now (from .exit)) (now (lows .exit)) (now (rooms .exit)) (now (counts .exit)) ⌝ }
+fn add_row(lower: &[u64], upper: &[u64], i: usize, entries: &mut [u32; 3104])
+    requires { ⌜ Addable (now lower) (now upper) i (now entries) ⌝ }
+    ensures { λ _. ⌜ Added (now (lower .entry)) (now (upper .entry)) i (now (entries .entry)) (now (entries .exit)) ⌝ }
 {
     let mut j: usize = 0;
     while j < upper.len() {
         if 0 < upper[j] {
-            let place = j * 32 + counts[j];
-            from[place] = i as u8;
-            lows[place] = lower[j] as u32;
-            rooms[place] = (upper[j] - lower[j]) as u32;
-            counts[j] += 1;
+            let count = entries[COUNTS + j];
+            let place = j * 32 + index(count);
+            entries[place] = i as u32;
+            entries[LOWS + place] = lower[j] as u32;
+            entries[ROOMS + place] = (upper[j] - lower[j]) as u32;
+            entries[COUNTS + j] = count + 1;
         }
         j += 1;
     }
@@ -41,19 +51,16 @@ fn list_row(
     uppers: &[u32],
     n: usize,
     i: usize,
-    from: &mut [u8; 1024],
-    lows: &mut [u32; 1024],
-    rooms: &mut [u32; 1024],
-    counts: &mut [usize; 32],
+    entries: &mut [u32; 3104],
 ) -> u32
-    requires { ⌜ Listable (now rules) (now lowers) (now uppers) n i (now from) (now lows) (now rooms) (now counts) ⌝ }
-    ensures { λ r. ⌜ RowListed (now (rules .entry)) (now (lowers .entry)) (now (uppers .entry)) n i (now (from .entry)) (now (lows .entry)) (now (rooms .entry)) (now (counts .entry)) (now (from .exit)) (now (lows .exit)) (now (rooms .exit)) (now (counts .exit)) r ⌝ }
+    requires { ⌜ Listable (now rules) (now lowers) (now uppers) n i (now entries) ⌝ }
+    ensures { λ r. ⌜ RowListed (now (rules .entry)) (now (lowers .entry)) (now (uppers .entry)) n i (now (entries .entry)) (now (entries .exit)) r ⌝ }
 {
     let mut lower = [0u64; 32];
     gather(rules, lowers, &mut lower[..n]);
     let mut upper = [0u64; 32];
     gather(rules, uppers, &mut upper[..n]);
-    add_row(&lower[..n], &upper[..n], i, from, lows, rooms, counts);
+    add_row(&lower[..n], &upper[..n], i, entries);
     spare(&lower[..n]) as u32
 }
 
@@ -63,90 +70,31 @@ fn list_rows(
     lowers: &[u32],
     uppers: &[u32],
     n: usize,
-    from: &mut [u8; 1024],
-    lows: &mut [u32; 1024],
-    rooms: &mut [u32; 1024],
-    counts: &mut [usize; 32],
+    entries: &mut [u32; 3104],
     spare: &mut [u32; 32],
 )
-    requires { ⌜ Storable n (now rules) (now lowers) (now uppers) (now from) (now lows) (now rooms) (now counts) (now spare) ⌝ }
-    ensures { λ _. ⌜ Listed n (now (rules .entry)) (now (lowers .entry)) (now (uppers .entry)) (now (from .exit)) (now (lows .exit)) (now (rooms .exit)) (now (counts .exit)) (now (spare .exit)) ⌝ }
+    requires { ⌜ Storable n (now rules) (now lowers) (now uppers) (now entries) (now spare) ⌝ }
+    ensures { λ _. ⌜ Listed n (now (rules .entry)) (now (lowers .entry)) (now (uppers .entry)) (now (entries .exit)) (now (spare .exit)) ⌝ }
 {
     let m = lowers.len();
     let mut i: usize = 0;
     while i < n {
         let first = i * 8;
         let end = first + m;
-        spare[i] = list_row(
-            &rules[first..end],
-            lowers,
-            uppers,
-            n,
-            i,
-            from,
-            lows,
-            rooms,
-            counts,
-        );
+        spare[i] = list_row(&rules[first..end], lowers, uppers, n, i, entries);
         i += 1;
     }
 }
 
-// The same from a scheme's stored parts.
-fn list_parts(
-    rules: [u8; 256],
-    lowers: [u32; 8],
-    uppers: [u32; 8],
-    columns: u8,
-    classes: u8,
-    from: &mut [u8; 1024],
-    lows: &mut [u32; 1024],
-    rooms: &mut [u32; 1024],
-    counts: &mut [usize; 32],
-    spare: &mut [u32; 32],
-)
-    requires { ⌜ StoredParts rules lowers uppers columns classes (now from) (now lows) (now rooms) (now counts) (now spare) ⌝ }
-    ensures { λ _. ⌜ Listed classes rules (take columns lowers) (take columns uppers) (now (from .exit)) (now (lows .exit)) (now (rooms .exit)) (now (counts .exit)) (now (spare .exit)) ⌝ }
-{
-    let m = columns as usize;
-    list_rows(
-        &rules,
-        &lowers[..m],
-        &uppers[..m],
-        classes as usize,
-        from,
-        lows,
-        rooms,
-        counts,
-        spare,
-    );
-}
-
 // Lists the entries of a scheme.
-pub fn list_scheme(
-    scheme: Scheme,
-    from: &mut [u8; 1024],
-    lows: &mut [u32; 1024],
-    rooms: &mut [u32; 1024],
-    counts: &mut [usize; 32],
-    spare: &mut [u32; 32],
-)
-    requires { ⌜ (Accepted scheme) × Empty (now from) (now lows) (now rooms) (now counts) (now spare) ⌝ }
-    ensures { λ _. ⌜ Entered scheme (now (from .exit)) (now (lows .exit)) (now (rooms .exit)) (now (counts .exit)) (now (spare .exit)) ⌝ }
+pub fn list_scheme(scheme: Scheme, entries: &mut [u32; 3104], spare: &mut [u32; 32])
+    requires { ⌜ (Accepted scheme) × Empty (now entries) (now spare) ⌝ }
+    ensures { λ _. ⌜ Entered scheme (now (entries .exit)) (now (spare .exit)) ⌝ }
 {
     let rules = scheme.rules;
     let lowers = scheme.lowers;
     let uppers = scheme.uppers;
-    list_parts(
-        rules,
-        lowers,
-        uppers,
-        scheme.columns,
-        scheme.classes,
-        from,
-        lows,
-        rooms,
-        counts,
-        spare,
-    );
+    let m = scheme.columns as usize;
+    let n = scheme.classes as usize;
+    list_rows(&rules, &lowers[..m], &uppers[..m], n, entries, spare);
 }

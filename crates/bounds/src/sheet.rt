@@ -10,16 +10,13 @@ ghost use Rattle.bounds.specs.Start.{Entered, Sheeted};
 // Writes the low and the high share of each class, from the lists of entries.
 fn write_each(
     scheme: Scheme,
-    from: &[u8; 1024],
-    lows: &[u32; 1024],
-    rooms: &[u32; 1024],
-    counts: &[usize; 32],
+    entries: &[u32; 3104],
     spare: &[u32; 32],
     year: u64,
     low: &mut [u64],
     high: &mut [u64],
 )
-    requires { ⌜ (Sheeted scheme (now low) (now high)) × Entered scheme (now from) (now lows) (now rooms) (now counts) (now spare) ⌝ }
+    requires { ⌜ (Sheeted scheme (now low) (now high)) × Entered scheme (now entries) (now spare) ⌝ }
     ensures lows { λ _. ⌜ now (low .exit) ≡ lowShares scheme year ⌝ }
     ensures highs { λ _. ⌜ now (high .exit) ≡ highShares scheme year ⌝ }
 {
@@ -27,30 +24,8 @@ fn write_each(
     let mut j: usize = 0;
     while j < low.len() {
         let payoff = share_payoff((j + 1) as u64);
-        low[j] = start_figure(
-            scheme,
-            from,
-            lows,
-            rooms,
-            counts,
-            spare,
-            gain,
-            false,
-            payoff,
-            year,
-        );
-        high[j] = start_figure(
-            scheme,
-            from,
-            lows,
-            rooms,
-            counts,
-            spare,
-            gain,
-            true,
-            payoff,
-            year,
-        );
+        low[j] = start_figure(scheme, entries, spare, gain, false, payoff, year);
+        high[j] = start_figure(scheme, entries, spare, gain, true, payoff, year);
         j += 1;
     }
 }
@@ -61,28 +36,8 @@ pub fn write_shares(scheme: Scheme, year: u64, low: &mut [u64], high: &mut [u64]
     ensures lows { λ _. ⌜ now (low .exit) ≡ lowShares scheme year ⌝ }
     ensures highs { λ _. ⌜ now (high .exit) ≡ highShares scheme year ⌝ }
 {
-    let mut from = [0u8; 1024];
-    let mut lows = [0u32; 1024];
-    let mut rooms = [0u32; 1024];
-    let mut counts = [0usize; 32];
+    let mut entries = [0u32; 3104];
     let mut spare = [0u32; 32];
-    list_scheme(
-        scheme,
-        &mut from,
-        &mut lows,
-        &mut rooms,
-        &mut counts,
-        &mut spare,
-    );
-    write_each(
-        scheme,
-        &from,
-        &lows,
-        &rooms,
-        &counts,
-        &spare,
-        year,
-        low,
-        high,
-    );
+    list_scheme(scheme, &mut entries, &mut spare);
+    write_each(scheme, &entries, &spare, year, low, high);
 }

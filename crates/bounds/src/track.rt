@@ -8,10 +8,7 @@ ghost use Rattle.bounds.specs.Tracks.{Trackable, Tracked};
 
 // Writes the state's figure of each year from 0 on, the first at `first` and each next `stride` places on.
 pub fn track(
-    from: &[u8; 1024],
-    lows: &[u32; 1024],
-    rooms: &[u32; 1024],
-    counts: &[usize; 32],
+    entries: &[u32; 3104],
     spare: &[u32; 32],
     gain: &[u64],
     falling: bool,
@@ -23,25 +20,15 @@ pub fn track(
     years: usize,
     out: &mut [u64],
 )
-    requires { ⌜ Trackable (now from) (now lows) (now rooms) (now counts) (now spare) (now gain) (now order) payoff state first stride years (now out) ⌝ }
-    ensures { λ _. ⌜ Tracked (λ u. yearsFigure falling (chainListed (length (now (gain .entry))) (now (from .entry)) (now (lows .entry)) (now (rooms .entry)) (now (counts .entry))) (at payoff) (at (now (gain .entry))) u state) first stride years (now (out .entry)) (now (out .exit)) ⌝ }
+    requires { ⌜ Trackable (now entries) (now spare) (now gain) (now order) payoff state first stride years (now out) ⌝ }
+    ensures { λ _. ⌜ Tracked (λ u. yearsFigure falling (chainListed (length (now (gain .entry))) (now (entries .entry))) (at payoff) (at (now (gain .entry))) u state) first stride years (now (out .entry)) (now (out .exit)) ⌝ }
 {
     let mut figures = payoff;
     out[first] = figures[state];
     let mut place = first;
     let mut u: usize = 0;
     while u < years {
-        advance(
-            from,
-            lows,
-            rooms,
-            counts,
-            spare,
-            gain,
-            falling,
-            order,
-            &mut figures,
-        );
+        advance(entries, spare, gain, falling, order, &mut figures);
         place += stride;
         out[place] = figures[state];
         u += 1;

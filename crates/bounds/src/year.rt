@@ -1,4 +1,8 @@
 // One year: the figures of all classes from those of the year before (document 01, "Years").
+use crate::entries::COUNTS;
+use crate::entries::LOWS;
+use crate::entries::ROOMS;
+use crate::entries::index;
 use crate::payoffs::wide;
 use order::sort;
 use states::state;
@@ -10,13 +14,6 @@ ghost use Rattle.bounds.specs.Entries.{chainListed};
 ghost use Rattle.bounds.specs.Walk.{Givable, Given, Settleable, Settled, Walkable, Walked};
 ghost use Rattle.bounds.specs.Years.{Formed, Yearly};
 
-// A state's number as an index.
-fn index(x: u8) -> usize
-    ensures { λ r. ⌜ r ≡ x ⌝ }
-{
-    x as usize
-}
-
 // The smaller of two numbers of parts.
 fn smaller(a: u32, b: u32) -> u32
     ensures { λ r. ⌜ r ≡ min a b ⌝ }
@@ -26,52 +23,39 @@ fn smaller(a: u32, b: u32) -> u32
 
 // Gives the entries that lead to one state, listed from place `first` to `end`: each row its lower parts and, as far as it has them left, its spare ones.
 fn give(
-    from: &[u8; 1024],
-    lows: &[u32; 1024],
-    rooms: &[u32; 1024],
+    entries: &[u32; 3104],
     first: usize,
     end: usize,
     pays: u64,
     left: &mut [u32],
     sums: &mut [u64],
 )
-    requires { ⌜ Givable (now from) (now lows) (now rooms) first end pays (now left) (now sums) ⌝ }
-    ensures { λ _. ⌜ Given (now (from .entry)) (now (lows .entry)) (now (rooms .entry)) first end pays (now (left .entry)) (now (sums .entry)) (now (left .exit)) (now (sums .exit)) ⌝ }
+    requires { ⌜ Givable (now entries) first end pays (now left) (now sums) ⌝ }
+    ensures { λ _. ⌜ Given (now (entries .entry)) first end pays (now (left .entry)) (now (sums .entry)) (now (left .exit)) (now (sums .exit)) ⌝ }
 {
     let mut e = first;
     while e < end {
-        let i = index(from[e]);
-        let given = smaller(rooms[e], left[i]);
+        let i = index(entries[e]);
+        let given = smaller(entries[ROOMS + e], left[i]);
         left[i] -= given;
-        sums[i] += wide(lows[e] + given) * pays;
+        sums[i] += wide(entries[LOWS + e] + given) * pays;
         e += 1;
     }
 }
 
 // Passes all entries along the order, and leaves in `sums` for each row the sum of part times payoff.
-fn walk(
-    from: &[u8; 1024],
-    lows: &[u32; 1024],
-    rooms: &[u32; 1024],
-    counts: &[usize; 32],
-    payoff: &[u64],
-    order: &[u8],
-    left: &mut [u32],
-    sums: &mut [u64],
-)
-    requires { ⌜ Walkable (now from) (now lows) (now rooms) (now counts) (now payoff) (now order) (now left) (now sums) ⌝ }
-    ensures { λ _. ⌜ Walked (now (from .entry)) (now (lows .entry)) (now (rooms .entry)) (now (counts .entry)) (now (payoff .entry)) (now (order .entry)) (now (left .entry)) (now (sums .exit)) ⌝ }
+fn walk(entries: &[u32; 3104], payoff: &[u64], order: &[u8], left: &mut [u32], sums: &mut [u64])
+    requires { ⌜ Walkable (now entries) (now payoff) (now order) (now left) (now sums) ⌝ }
+    ensures { λ _. ⌜ Walked (now (entries .entry)) (now (payoff .entry)) (now (order .entry)) (now (left .entry)) (now (sums .exit)) ⌝ }
 {
     let mut k: usize = 0;
     while k < order.len() {
         let j = state(order[k]);
         let first = j * 32;
         give(
-            from,
-            lows,
-            rooms,
+            entries,
             first,
-            first + counts[j],
+            first + index(entries[COUNTS + j]),
             payoff[j],
             left,
             sums,
@@ -95,34 +79,22 @@ fn settle(gain: &[u64], falling: bool, sums: &mut [u64])
 // The figures of a year: those of the year before are kept whole while they are formed.
 // The order stays from year to year, since payoffs that were in order mostly are so again.
 pub fn year(
-    from: &[u8; 1024],
-    lows: &[u32; 1024],
-    rooms: &[u32; 1024],
-    counts: &[usize; 32],
+    entries: &[u32; 3104],
     spare: &[u32; 32],
     gain: &[u64],
     falling: bool,
     order: &mut [u8],
     before: [u64; 32],
 ) -> [u64; 32]
-    requires { ⌜ Yearly (now from) (now lows) (now rooms) (now counts) (now spare) (now gain) (now order) before ⌝ }
-    ensures figures { λ r. ⌜ Formed (chainListed (length (now (gain .entry))) (now (from .entry)) (now (lows .entry)) (now (rooms .entry)) (now (counts .entry))) (now (gain .entry)) before falling r ⌝ }
+    requires { ⌜ Yearly (now entries) (now spare) (now gain) (now order) before ⌝ }
+    ensures figures { λ r. ⌜ Formed (chainListed (length (now (gain .entry))) (now (entries .entry))) (now (gain .entry)) before falling r ⌝ }
     ensures order { λ _. ⌜ Placed (length (now (gain .entry))) (now (order .exit)) ⌝ }
 {
     let n = gain.len();
     sort(&before[..n], falling, order);
     let mut left = *spare;
     let mut sums = [0u64; 32];
-    walk(
-        from,
-        lows,
-        rooms,
-        counts,
-        &before[..n],
-        order,
-        &mut left[..n],
-        &mut sums[..n],
-    );
+    walk(entries, &before[..n], order, &mut left[..n], &mut sums[..n]);
     settle(gain, falling, &mut sums[..n]);
     sums
 }

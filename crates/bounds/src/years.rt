@@ -7,40 +7,24 @@ ghost use Rattle.bounds.specs.Years.{Formed, Ran, Runnable, Yearly};
 
 // One year more, in place.
 pub fn advance(
-    from: &[u8; 1024],
-    lows: &[u32; 1024],
-    rooms: &[u32; 1024],
-    counts: &[usize; 32],
+    entries: &[u32; 3104],
     spare: &[u32; 32],
     gain: &[u64],
     falling: bool,
     order: &mut [u8],
     figures: &mut [u64; 32],
 )
-    requires { ⌜ Yearly (now from) (now lows) (now rooms) (now counts) (now spare) (now gain) (now order) (now figures) ⌝ }
-    ensures figures { λ _. ⌜ Formed (chainListed (length (now (gain .entry))) (now (from .entry)) (now (lows .entry)) (now (rooms .entry)) (now (counts .entry))) (now (gain .entry)) (now (figures .entry)) falling (now (figures .exit)) ⌝ }
+    requires { ⌜ Yearly (now entries) (now spare) (now gain) (now order) (now figures) ⌝ }
+    ensures figures { λ _. ⌜ Formed (chainListed (length (now (gain .entry))) (now (entries .entry))) (now (gain .entry)) (now (figures .entry)) falling (now (figures .exit)) ⌝ }
     ensures order { λ _. ⌜ Placed (length (now (gain .entry))) (now (order .exit)) ⌝ }
 {
     let before = *figures;
-    *figures = year(
-        from,
-        lows,
-        rooms,
-        counts,
-        spare,
-        gain,
-        falling,
-        order,
-        before,
-    );
+    *figures = year(entries, spare, gain, falling, order, before);
 }
 
 // The figures of t years rest on those of t - 1, down to the payoff.
 pub fn years(
-    from: &[u8; 1024],
-    lows: &[u32; 1024],
-    rooms: &[u32; 1024],
-    counts: &[usize; 32],
+    entries: &[u32; 3104],
     spare: &[u32; 32],
     gain: &[u64],
     falling: bool,
@@ -48,35 +32,14 @@ pub fn years(
     payoff: &[u64; 32],
     t: u64,
 ) -> [u64; 32]
-    requires { ⌜ Runnable (now from) (now lows) (now rooms) (now counts) (now spare) (now gain) (now order) (now payoff) t ⌝ }
-    ensures figures { λ r. ⌜ Ran (chainListed (length (now (gain .entry))) (now (from .entry)) (now (lows .entry)) (now (rooms .entry)) (now (counts .entry))) (now (gain .entry)) (now (payoff .entry)) falling t r ⌝ }
+    requires { ⌜ Runnable (now entries) (now spare) (now gain) (now order) (now payoff) t ⌝ }
+    ensures figures { λ r. ⌜ Ran (chainListed (length (now (gain .entry))) (now (entries .entry))) (now (gain .entry)) (now (payoff .entry)) falling t r ⌝ }
     ensures order { λ _. ⌜ Placed (length (now (gain .entry))) (now (order .exit)) ⌝ }
 {
     if t == 0 {
         return *payoff;
     }
-    let mut figures = years(
-        from,
-        lows,
-        rooms,
-        counts,
-        spare,
-        gain,
-        falling,
-        order,
-        payoff,
-        t - 1,
-    );
-    advance(
-        from,
-        lows,
-        rooms,
-        counts,
-        spare,
-        gain,
-        falling,
-        order,
-        &mut figures,
-    );
+    let mut figures = years(entries, spare, gain, falling, order, payoff, t - 1);
+    advance(entries, spare, gain, falling, order, &mut figures);
     figures
 }

@@ -1,30 +1,38 @@
 -- `add_row` stores one entry in the list of each state that it leads to.
 -- Assumes nothing.
-use Prim.Native.Nat.{_-_, _≤_, _<_}
+use Prim.Native.Nat.{_+_, _-_, _≤_, _<_}
+use mathlib.Core.Path.{_≡_}
 use mathlib.Core.Logic.{⊎-elim}
 use native.Mathlib.Omega.{arith}
 use lib.ListN.{length}
 use Rattle.setchain.specs.Rows.{ONE}
 use Rattle.step.specs.Lists.{at}
+use Rattle.bounds.specs.Entries.{counts}
 use Rattle.bounds.proofs.Entering.{Adding, adding-none, adding-here, adding-skip, adding-more, adding-as, adding-all}
 use Rattle.bounds.proofs.entries.add_row.Statement.{statement}
 use Rattle.bounds.proofs.entries.add_row.Tie as tie
 
 abbrev Inv-loop : tie.InvT-loop
-Inv-loop lower upper i from₀ lows₀ rooms₀ counts₀ j₀ from lows rooms counts j = Adding lower upper i from₀ lows₀ rooms₀ counts₀ from lows rooms counts j
+Inv-loop lower upper i entries₀ j₀ entries j = Adding lower upper i entries₀ entries j
 
 abbrev μ-loop : tie.MeasureT-loop
-μ-loop lower upper i from₀ lows₀ rooms₀ counts₀ j₀ from lows rooms counts j = length upper - j
+μ-loop lower upper i entries₀ j₀ entries j = length upper - j
 
 -- the list of state j has a free place, and the entry fits
 here : (c : tie.Then1 Inv-loop μ-loop)
-    → let a = c .before .before .before .before .args in
+    → let a = c .before .before .before .before .before .before .args in
     let l = c .before .before .before .loop in
-    (at (l .counts) (l .j) ≤ a .i) × (a .i < 32) × (l .j < 32) × (at (a .lower .now) (l .j) ≤ at (a .upper .now) (l .j)) × (at (a .upper .now) (l .j) ≤ ONE) × (l .j < length (a .lower .now))
-here c = adding-here (c .before .before .before .before .pre) (c .before .before .before .loop .inv) (omega arith)
+    (at (l .entries) (counts + l .j) ≤ a .i) × (a .i < 32) × (l .j < 32) × (at (a .lower .now) (l .j) ≤ at (a .upper .now) (l .j)) × (at (a .upper .now) (l .j) ≤ ONE) × (l .j < length (a .lower .now))
+here c = adding-here (c .before .before .before .before .before .before .pre) (c .before .before .before .loop .inv) (omega arith)
+
+-- and which place that is
+placed : (c : tie.After-index Inv-loop μ-loop)
+    → let l = c .before .before .before .before .before .loop in
+    (c .index .result ≡ at (l .entries) (counts + l .j)) × (c .index .result < 32) × (l .j < 32)
+placed c = (c .index .ensures, omega (arith, here (c .before .before), c .index .ensures), omega (arith, here (c .before .before)))
 
 loop-holds : tie.Need-loop-holds Inv-loop μ-loop
-loop-holds c = adding-none (c .pre)
+loop-holds c = adding-none (c .before .before .pre)
 
 mul-if1 : tie.Need-mul-if1 Inv-loop μ-loop
 mul-if1 c = omega arith
@@ -32,74 +40,89 @@ mul-if1 c = omega arith
 shared-slice-read-if1 : tie.Need-shared-slice-read-if1 Inv-loop μ-loop
 shared-slice-read-if1 c = omega arith
 
+add-count : tie.Need-add-count Inv-loop μ-loop
+add-count c = omega (arith, here c)
+
+mul-count : tie.Need-mul-count Inv-loop μ-loop
+mul-count c = omega (arith, here c)
+
+element-copy-out-count : tie.Need-element-copy-out-count Inv-loop μ-loop
+element-copy-out-count c = omega (arith, here c)
+
 mul-place : tie.Need-mul-place Inv-loop μ-loop
-mul-place c = omega arith
+mul-place c = omega (arith, here (c .before))
 
-mul-place-2 : tie.Need-mul-place-2 Inv-loop μ-loop
-mul-place-2 c = omega arith
-
-element-copy-out-place : tie.Need-element-copy-out-place Inv-loop μ-loop
-element-copy-out-place c = omega (arith, here c)
+index-requires : tie.Need-index-requires Inv-loop μ-loop
+index-requires c κs = tt
 
 add-place : tie.Need-add-place Inv-loop μ-loop
-add-place c = omega (arith, here (c .before))
+add-place c = omega (arith, here (c .before .before), placed c)
 
-cast-from : tie.Need-cast-from Inv-loop μ-loop
-cast-from c = omega (arith, here (c .before))
+cast-entries : tie.Need-cast-entries Inv-loop μ-loop
+cast-entries c = omega (arith, here (c .before .before), placed c)
 
-element-write-from : tie.Need-element-write-from Inv-loop μ-loop
-element-write-from c = omega (arith, here (c .before))
+mul-entries : tie.Need-mul-entries Inv-loop μ-loop
+mul-entries c = omega (arith, here (c .before .before), placed c)
 
-mul-lows : tie.Need-mul-lows Inv-loop μ-loop
-mul-lows c = omega (arith, here (c .before))
+element-write-entries : tie.Need-element-write-entries Inv-loop μ-loop
+element-write-entries c = omega (arith, here (c .before .before), placed c)
 
-shared-slice-read-lows : tie.Need-shared-slice-read-lows Inv-loop μ-loop
-shared-slice-read-lows c = omega (arith, here (c .before .before))
+mul-entries-2 : tie.Need-mul-entries-2 Inv-loop μ-loop
+mul-entries-2 c = omega (arith, here (c .before .before), placed c)
 
-cast-lows : tie.Need-cast-lows Inv-loop μ-loop
-cast-lows c = omega (arith, here (c .before .before))
+shared-slice-read-entries : tie.Need-shared-slice-read-entries Inv-loop μ-loop
+shared-slice-read-entries c = omega (arith, here (c .before .before .before), placed (c .before))
 
-mul-lows-2 : tie.Need-mul-lows-2 Inv-loop μ-loop
-mul-lows-2 c = omega (arith, here (c .before .before))
+cast-entries-2 : tie.Need-cast-entries-2 Inv-loop μ-loop
+cast-entries-2 c = omega (arith, here (c .before .before .before), placed (c .before))
 
-element-write-lows : tie.Need-element-write-lows Inv-loop μ-loop
-element-write-lows c = omega (arith, here (c .before .before))
+add-entries : tie.Need-add-entries Inv-loop μ-loop
+add-entries c = omega (arith, here (c .before .before .before), placed (c .before))
 
-mul-rooms : tie.Need-mul-rooms Inv-loop μ-loop
-mul-rooms c = omega (arith, here (c .before .before))
+mul-entries-3 : tie.Need-mul-entries-3 Inv-loop μ-loop
+mul-entries-3 c = omega (arith, here (c .before .before .before), placed (c .before))
 
-shared-slice-read-rooms : tie.Need-shared-slice-read-rooms Inv-loop μ-loop
-shared-slice-read-rooms c = omega (arith, here (c .before .before .before))
+element-write-entries-2 : tie.Need-element-write-entries-2 Inv-loop μ-loop
+element-write-entries-2 c = omega (arith, here (c .before .before .before), placed (c .before))
 
-mul-rooms-2 : tie.Need-mul-rooms-2 Inv-loop μ-loop
-mul-rooms-2 c = omega (arith, here (c .before .before .before))
+mul-entries-4 : tie.Need-mul-entries-4 Inv-loop μ-loop
+mul-entries-4 c = omega (arith, here (c .before .before .before), placed (c .before))
 
-shared-slice-read-rooms-2 : tie.Need-shared-slice-read-rooms-2 Inv-loop μ-loop
-shared-slice-read-rooms-2 c = omega (arith, here (c .before .before .before .before))
+shared-slice-read-entries-2 : tie.Need-shared-slice-read-entries-2 Inv-loop μ-loop
+shared-slice-read-entries-2 c = omega (arith, here (c .before .before .before .before), placed (c .before .before))
 
-sub-rooms : tie.Need-sub-rooms Inv-loop μ-loop
-sub-rooms c = omega (arith, here (c .before .before .before .before))
+mul-entries-5 : tie.Need-mul-entries-5 Inv-loop μ-loop
+mul-entries-5 c = omega (arith, here (c .before .before .before .before), placed (c .before .before))
 
-cast-rooms : tie.Need-cast-rooms Inv-loop μ-loop
-cast-rooms c = omega (arith, here (c .before .before .before .before))
+shared-slice-read-entries-3 : tie.Need-shared-slice-read-entries-3 Inv-loop μ-loop
+shared-slice-read-entries-3 c = omega (arith, here (c .before .before .before .before .before), placed (c .before .before .before))
 
-mul-rooms-3 : tie.Need-mul-rooms-3 Inv-loop μ-loop
-mul-rooms-3 c = omega (arith, here (c .before .before .before .before))
+sub-entries : tie.Need-sub-entries Inv-loop μ-loop
+sub-entries c = omega (arith, here (c .before .before .before .before .before), placed (c .before .before .before))
 
-element-write-rooms : tie.Need-element-write-rooms Inv-loop μ-loop
-element-write-rooms c = omega (arith, here (c .before .before .before .before))
+cast-entries-3 : tie.Need-cast-entries-3 Inv-loop μ-loop
+cast-entries-3 c = omega (arith, here (c .before .before .before .before .before), placed (c .before .before .before))
 
-mul-counts : tie.Need-mul-counts Inv-loop μ-loop
-mul-counts c = omega (arith, here (c .before .before .before .before))
+add-entries-2 : tie.Need-add-entries-2 Inv-loop μ-loop
+add-entries-2 c = omega (arith, here (c .before .before .before .before .before), placed (c .before .before .before))
 
-element-copy-out-counts : tie.Need-element-copy-out-counts Inv-loop μ-loop
-element-copy-out-counts c = omega (arith, here (c .before .before .before .before))
+mul-entries-6 : tie.Need-mul-entries-6 Inv-loop μ-loop
+mul-entries-6 c = omega (arith, here (c .before .before .before .before .before), placed (c .before .before .before))
 
-add-counts : tie.Need-add-counts Inv-loop μ-loop
-add-counts c = omega (arith, here (c .before .before .before .before .before))
+element-write-entries-3 : tie.Need-element-write-entries-3 Inv-loop μ-loop
+element-write-entries-3 c = omega (arith, here (c .before .before .before .before .before), placed (c .before .before .before))
 
-element-write-counts : tie.Need-element-write-counts Inv-loop μ-loop
-element-write-counts c = omega (arith, here (c .before .before .before .before .before))
+add-entries-3 : tie.Need-add-entries-3 Inv-loop μ-loop
+add-entries-3 c = omega (arith, here (c .before .before .before .before .before), placed (c .before .before .before))
+
+add-entries-4 : tie.Need-add-entries-4 Inv-loop μ-loop
+add-entries-4 c = omega (arith, here (c .before .before .before .before .before), placed (c .before .before .before))
+
+mul-entries-7 : tie.Need-mul-entries-7 Inv-loop μ-loop
+mul-entries-7 c = omega (arith, here (c .before .before .before .before .before), placed (c .before .before .before))
+
+element-write-entries-4 : tie.Need-element-write-entries-4 Inv-loop μ-loop
+element-write-entries-4 c = omega (arith, here (c .before .before .before .before .before), placed (c .before .before .before))
 
 add-j : tie.Need-add-j Inv-loop μ-loop
 add-j c = omega arith
@@ -109,11 +132,11 @@ loop-less c = omega arith
 
 loop-again : tie.Need-loop-again Inv-loop μ-loop
 loop-again c =
-    let p = c .before .before .before .before .pre in
+    let p = c .before .before .before .before .before .before .pre in
     let v = c .before .before .before .loop .inv in
     ⊎-elim
-    (λ w. adding-as (w .6) (w .7) (w .8) (w .9) (adding-more p v (omega arith)))
-    (λ w. adding-as (w .1) (w .2) (w .3) (w .4) (adding-skip p v (omega arith) (omega (arith, w .0 .left))))
+    (λ w. adding-as (w .6) (adding-more p v (omega arith) (w .2 .ensures)))
+    (λ w. adding-as (w .1) (adding-skip p v (omega arith) (omega (arith, w .0 .left))))
     (c .if1 .came)
 
 returns : tie.Need-returns Inv-loop μ-loop
@@ -128,29 +151,34 @@ add-row-spec =
     loop-holds
     mul-if1
     shared-slice-read-if1
+    add-count
+    mul-count
+    element-copy-out-count
     mul-place
-    mul-place-2
-    element-copy-out-place
+    index-requires
     add-place
-    cast-from
-    element-write-from
-    mul-lows
-    shared-slice-read-lows
-    cast-lows
-    mul-lows-2
-    element-write-lows
-    mul-rooms
-    shared-slice-read-rooms
-    mul-rooms-2
-    shared-slice-read-rooms-2
-    sub-rooms
-    cast-rooms
-    mul-rooms-3
-    element-write-rooms
-    mul-counts
-    element-copy-out-counts
-    add-counts
-    element-write-counts
+    cast-entries
+    mul-entries
+    element-write-entries
+    mul-entries-2
+    shared-slice-read-entries
+    cast-entries-2
+    add-entries
+    mul-entries-3
+    element-write-entries-2
+    mul-entries-4
+    shared-slice-read-entries-2
+    mul-entries-5
+    shared-slice-read-entries-3
+    sub-entries
+    cast-entries-3
+    add-entries-2
+    mul-entries-6
+    element-write-entries-3
+    add-entries-3
+    add-entries-4
+    mul-entries-7
+    element-write-entries-4
     add-j
     loop-less
     loop-again

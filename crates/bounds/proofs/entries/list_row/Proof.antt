@@ -54,18 +54,18 @@ slice-aggregate-add-row-2 c =
 
 add-row-requires : tie.Need-add-row-requires
 add-row-requires c κs =
-    let s = c .before .before .before .before .before .before .before .before .before .before .before .before .before .before .before in
-    row-adds _ _ (s .pre) (c .before .before .before .before .before .before .before .before .before .before .gather .ensures) (c .before .before .before .before .before .before .before .gather2 .ensures)
+    let s = c .before .before .before .before .before .before .before .before .before .before .before .before in
+    row-adds _ _ (s .pre) (c .before .before .before .before .before .before .before .gather .ensures) (c .before .before .before .before .gather2 .ensures)
 
 array-share-prefix-lower-2 : tie.Need-array-share-prefix-lower-2
 array-share-prefix-lower-2 c =
-    let s = c .before .before .before .before .before .before .before .before .before .before .before .before .before .before .before .before in
-    front-fits (s .args .n) (replicate 32 0) _ (drop (s .args .n) (replicate 32 0)) (omega arith) _ (c .before .before .before .before .before .before .before .before .before .before .before .gather .ensures)
+    let s = c .before .before .before .before .before .before .before .before .before .before .before .before .before in
+    front-fits (s .args .n) (replicate 32 0) _ (drop (s .args .n) (replicate 32 0)) (omega arith) _ (c .before .before .before .before .before .before .before .before .gather .ensures)
 
 slice-aggregate-spare : tie.Need-slice-aggregate-spare
 slice-aggregate-spare c =
-    let s = c .before .before .before .before .before .before .before .before .before .before .before .before .before .before .before .before .before in
-    front-size (s .args .n) (replicate 32 0) _ (drop (s .args .n) (replicate 32 0)) (omega arith) _ (c .before .before .before .before .before .before .before .before .before .before .before .before .gather .ensures)
+    let s = c .before .before .before .before .before .before .before .before .before .before .before .before .before .before in
+    front-size (s .args .n) (replicate 32 0) _ (drop (s .args .n) (replicate 32 0)) (omega arith) _ (c .before .before .before .before .before .before .before .before .before .gather .ensures)
 
 spare-requires : tie.Need-spare-requires
 spare-requires c κs = tt
@@ -75,8 +75,8 @@ cast-result c = omega (arith, c .spare .ensures)
 
 returns : tie.Need-returns
 returns c =
-    let s = c .before .before .before .before .before .before .before .before .before .before .before .before .before .before .before .before .before .before in
-    row-listed _ _ (s .pre) (c .before .before .before .before .before .before .before .before .before .before .before .before .before .gather .ensures) (c .before .before .before .before .before .before .before .before .before .before .gather2 .ensures) (c .before .before .add-row .ensures) (c .spare .ensures)
+    let s = c .before .before .before .before .before .before .before .before .before .before .before .before .before .before .before in
+    row-listed _ _ (s .pre) (c .before .before .before .before .before .before .before .before .before .before .gather .ensures) (c .before .before .before .before .before .before .before .gather2 .ensures) (c .before .before .add-row .ensures) (c .spare .ensures)
 
 pub list-row-spec : {M : Type 1} → statement M
 list-row-spec =

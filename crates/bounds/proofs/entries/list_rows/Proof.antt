@@ -8,11 +8,11 @@ use Rattle.bounds.proofs.entries.list_rows.Statement.{statement}
 use Rattle.bounds.proofs.entries.list_rows.Tie as tie
 
 abbrev Inv-loop : tie.InvT-loop
-Inv-loop rules lowers uppers n from₀ lows₀ rooms₀ counts₀ spare₀ m i₀ from lows rooms counts spare i =
-    Listing n rules lowers uppers from lows rooms counts spare i
+Inv-loop rules lowers uppers n entries₀ spare₀ m i₀ entries spare i =
+    Listing n rules lowers uppers entries spare i
 
 abbrev μ-loop : tie.MeasureT-loop
-μ-loop rules lowers uppers n from₀ lows₀ rooms₀ counts₀ spare₀ m i₀ from lows rooms counts spare i =
+μ-loop rules lowers uppers n entries₀ spare₀ m i₀ entries spare i =
     n - i
 
 loop-holds : tie.Need-loop-holds Inv-loop μ-loop
@@ -34,7 +34,7 @@ part-list-row-end : tie.Need-part-list-row-end Inv-loop μ-loop
 part-list-row-end c = search needs
 
 list-row-requires : tie.Need-list-row-requires Inv-loop μ-loop
-list-row-requires c κs = listing-takes (c .before .before .before .before .before .before .before .before .before .before .pre) (c .before .before .before .before .before .before .loop .i) (c .before .before .before .before .before .before .loop .inv) (omega arith)
+list-row-requires c κs = listing-takes (c .before .before .before .before .before .before .before .pre) (c .before .before .before .loop .i) (c .before .before .before .loop .inv) (omega arith)
 
 mul-spare : tie.Need-mul-spare Inv-loop μ-loop
 mul-spare c = omega arith
@@ -49,7 +49,7 @@ loop-less : tie.Need-loop-less Inv-loop μ-loop
 loop-less c = omega arith
 
 loop-again : tie.Need-loop-again Inv-loop μ-loop
-loop-again c = listing-more (c .before .before .before .before .before .before .before .before .before .before .before .pre) (c .before .before .before .before .before .before .before .loop .i) (c .before .before .before .before .before .before .before .loop .inv) (omega arith) (c .list-row .ensures)
+loop-again c = listing-more (c .before .before .before .before .before .before .before .before .pre) (c .before .before .before .before .loop .i) (c .before .before .before .before .loop .inv) (omega arith) (c .list-row .ensures)
 
 returns : tie.Need-returns Inv-loop μ-loop
 returns c = listing-all (c .before .before .before .before .before .pre) (c .before .loop .i) (c .before .loop .inv) (omega arith)

@@ -8,10 +8,10 @@ use Rattle.bounds.proofs.sheet.write_each.Statement.{statement}
 use Rattle.bounds.proofs.sheet.write_each.Tie as tie
 
 abbrev Inv-loop : tie.InvT-loop
-Inv-loop scheme from lows rooms counts spare year low₀ high₀ gain j₀ low high j = Sheeting scheme year low high j
+Inv-loop scheme entries spare year low₀ high₀ gain j₀ low high j = Sheeting scheme year low high j
 
 abbrev μ-loop : tie.MeasureT-loop
-μ-loop scheme from lows rooms counts spare year low₀ high₀ gain j₀ low high j = scheme .classes - j
+μ-loop scheme entries spare year low₀ high₀ gain j₀ low high j = scheme .classes - j
 
 loop-holds : tie.Need-loop-holds Inv-loop μ-loop
 loop-holds c = sheeting-none (c .before .before .pre .0)

@@ -6,7 +6,7 @@ use Rattle.bounds.proofs.sheet.write_shares.Statement.{statement}
 use Rattle.bounds.proofs.sheet.write_shares.Tie as tie
 
 list-scheme-requires : tie.Need-list-scheme-requires
-list-scheme-requires c κs = (c .before .before .before .before .before .before .before .pre .accepted, empty-listed)
+list-scheme-requires c κs = (c .before .before .before .before .pre .accepted, empty-listed)
 
 write-each-requires : tie.Need-write-each-requires
 write-each-requires c κs = search needs

@@ -6,7 +6,7 @@ use Rattle.bounds.proofs.start.start_bounds.Statement.{statement}
 use Rattle.bounds.proofs.start.start_bounds.Tie as tie
 
 list-scheme-requires : tie.Need-list-scheme-requires
-list-scheme-requires c κs = (c .before .before .before .before .before .pre .accepted, empty-listed)
+list-scheme-requires c κs = (c .before .before .pre .accepted, empty-listed)
 
 start-figure-requires : tie.Need-start-figure-requires
 start-figure-requires c κs = search needs

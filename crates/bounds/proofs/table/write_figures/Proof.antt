@@ -34,7 +34,7 @@ slice-write-out : tie.Need-slice-write-out
 slice-write-out c = search needs
 
 same-length : tie.Need-same-length
-same-length c = last-length (c .before .before .before .before .column .last .1 .1 .1 .1 .1 .1 .1 .1 .1 .1 .0) (c .start-figure .result) (c .before .before .before .before .column .ensures .size ∙ c .before .before .before .before .before .before .before .before .before .before .before .share-columns .ensures .size ∙ sym (c .before .before .before .before .before .before .before .before .before .before .before .before .before .before .pre .0 .size))
+same-length c = last-length (c .before .before .before .before .column .last .1 .1 .1 .1 .1 .1 .1 .0) (c .start-figure .result) (c .before .before .before .before .column .ensures .size ∙ c .before .before .before .before .before .before .before .before .before .before .before .share-columns .ensures .size ∙ sym (c .before .before .before .before .before .before .before .before .before .before .before .before .before .before .pre .0 .size))
 
 returns : tie.Need-returns
 returns c = table-made (c .before .before .before .before .before .before .before .before .before .before .before .before .before .before .args .scheme) (c .before .before .before .before .before .before .before .before .before .before .before .before .before .before .pre .0 .accepted) (c .before .before .before .before .before .before .before .widened .ensures) (c .before .before .before .before .before .before .before .before .before .before .before .share-columns .ensures) (c .before .before .before .before .column .ensures) (c .start-figure .result) (c .start-figure .ensures)

@@ -6,7 +6,7 @@ use Rattle.bounds.proofs.table.write_tables.Statement.{statement}
 use Rattle.bounds.proofs.table.write_tables.Tie as tie
 
 list-scheme-requires : tie.Need-list-scheme-requires
-list-scheme-requires c κs = (c .before .before .before .before .before .before .before .pre .0 .accepted, empty-listed)
+list-scheme-requires c κs = (c .before .before .before .before .pre .0 .accepted, empty-listed)
 
 write-figures-requires : tie.Need-write-figures-requires
 write-figures-requires c κs = search needs

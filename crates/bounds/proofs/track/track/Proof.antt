@@ -8,11 +8,11 @@ use Rattle.bounds.proofs.track.track.Statement.{statement}
 use Rattle.bounds.proofs.track.track.Tie as tie
 
 abbrev Inv-loop : tie.InvT-loop
-Inv-loop from lows rooms counts spare gain falling order₀ state first stride years out₀ figures₀ place₀ u₀ order out figures place u =
-    Tracking from lows rooms counts gain falling figures₀ state first stride years out₀ out figures order place u
+Inv-loop entries spare gain falling order₀ state first stride years out₀ figures₀ place₀ u₀ order out figures place u =
+    Tracking entries gain falling figures₀ state first stride years out₀ out figures order place u
 
 abbrev μ-loop : tie.MeasureT-loop
-μ-loop from lows rooms counts spare gain falling order₀ state first stride years out₀ figures₀ place₀ u₀ order out figures place u =
+μ-loop entries spare gain falling order₀ state first stride years out₀ figures₀ place₀ u₀ order out figures place u =
     years - u
 
 mul-out : tie.Need-mul-out Inv-loop μ-loop

@@ -7,15 +7,16 @@ use lib.ListN.{length}
 use Rattle.setchain.specs.Rows.{ONE}
 use Rattle.step.specs.Lists.{at}
 use Rattle.step.specs.Figure.{LARGEST}
+use Rattle.bounds.specs.Entries.{rooms}
 use Rattle.bounds.proofs.Giving.{Giving, giving-none, row-inside, giving-fits, giving-more, giving-all}
 use Rattle.bounds.proofs.year.give.Statement.{statement}
 use Rattle.bounds.proofs.year.give.Tie as tie
 
 abbrev Inv-loop : tie.InvT-loop
-Inv-loop from lows rooms first end pays left₀ sums₀ e₀ left sums e = Giving from lows rooms first end pays left₀ sums₀ left sums e
+Inv-loop entries first end pays left₀ sums₀ e₀ left sums e = Giving entries first end pays left₀ sums₀ left sums e
 
 abbrev μ-loop : tie.MeasureT-loop
-μ-loop from lows rooms first end pays left₀ sums₀ e₀ left sums e = end - e
+μ-loop entries first end pays left₀ sums₀ e₀ left sums e = end - e
 
 -- the entry's place, and its row's
 here : (c : tie.After-index Inv-loop μ-loop)
@@ -30,7 +31,7 @@ here c =
 given : (c : tie.After-smaller Inv-loop μ-loop)
     → let a = c .before .before .before .before .before .before .before .before .before .args in
     let l = c .before .before .before .before .before .before .loop in
-    c .smaller .result ≡ min (at (a .rooms .now) (l .e)) (at (l .left) (c .before .before .before .index .result))
+    c .smaller .result ≡ min (at (a .entries .now) (rooms + l .e)) (at (l .left) (c .before .before .before .index .result))
 given c = c .smaller .ensures
 
 -- and that the row's sum fits
@@ -43,17 +44,23 @@ fits c =
 loop-holds : tie.Need-loop-holds Inv-loop μ-loop
 loop-holds c = giving-none (c .before .before .pre)
 
+mul-index : tie.Need-mul-index Inv-loop μ-loop
+mul-index c = omega (arith, c .before .before .before .before .pre .ends)
+
 element-copy-out-index : tie.Need-element-copy-out-index Inv-loop μ-loop
 element-copy-out-index c = omega (arith, c .before .before .before .before .pre .ends)
 
 index-requires : tie.Need-index-requires Inv-loop μ-loop
 index-requires c κs = tt
 
+add-smaller : tie.Need-add-smaller Inv-loop μ-loop
+add-smaller c = omega (arith, here c)
+
 mul-smaller : tie.Need-mul-smaller Inv-loop μ-loop
 mul-smaller c = omega (arith, here c)
 
 element-copy-out-smaller : tie.Need-element-copy-out-smaller Inv-loop μ-loop
-element-copy-out-smaller c = here c .0
+element-copy-out-smaller c = omega (arith, here c)
 
 mul-smaller-2 : tie.Need-mul-smaller-2 Inv-loop μ-loop
 mul-smaller-2 c = omega (arith, here (c .before))
@@ -76,14 +83,17 @@ sub-left c = omega (arith, given (c .before))
 slice-write-left : tie.Need-slice-write-left Inv-loop μ-loop
 slice-write-left c = here (c .before .before .before .before) .1
 
+add-wide : tie.Need-add-wide Inv-loop μ-loop
+add-wide c = omega (arith, here (c .before .before .before .before))
+
 mul-wide : tie.Need-mul-wide Inv-loop μ-loop
 mul-wide c = omega (arith, here (c .before .before .before .before))
 
 element-copy-out-wide : tie.Need-element-copy-out-wide Inv-loop μ-loop
-element-copy-out-wide c = here (c .before .before .before .before) .0
+element-copy-out-wide c = omega (arith, here (c .before .before .before .before))
 
-add-wide : tie.Need-add-wide Inv-loop μ-loop
-add-wide c = omega (arith, given (c .before .before), c .before .before .before .before .before .before .before .before .before .before .before .pre .small (c .before .before .before .before .before .before .before .before .loop .e) (c .before .before .before .before .before .before .before .before .loop .inv .begun) (omega arith))
+add-wide-2 : tie.Need-add-wide-2 Inv-loop μ-loop
+add-wide-2 c = omega (arith, given (c .before .before), c .before .before .before .before .before .before .before .before .before .before .before .pre .small (c .before .before .before .before .before .before .before .before .loop .e) (c .before .before .before .before .before .before .before .before .loop .inv .begun) (omega arith))
 
 wide-requires : tie.Need-wide-requires Inv-loop μ-loop
 wide-requires c κs = tt
@@ -128,8 +138,10 @@ give-spec =
     Inv-loop
     μ-loop
     loop-holds
+    mul-index
     element-copy-out-index
     index-requires
+    add-smaller
     mul-smaller
     element-copy-out-smaller
     mul-smaller-2
@@ -139,9 +151,10 @@ give-spec =
     slice-read-left
     sub-left
     slice-write-left
+    add-wide
     mul-wide
     element-copy-out-wide
-    add-wide
+    add-wide-2
     wide-requires
     mul-sums
     mul-sums-2

@@ -1,20 +1,21 @@
 -- `walk` gives the entries to the states along the order.
 -- Assumes nothing.
-use Prim.Native.Nat.{_-_, _≤_, _<_}
+use Prim.Native.Nat.{_+_, _-_, _≤_, _<_}
 use mathlib.Core.Path.{_≡_, _∙_}
 use native.Mathlib.Omega.{arith}
 use lib.ListN.{length}
 use Rattle.step.specs.Lists.{at}
+use Rattle.bounds.specs.Entries.{counts}
 use Rattle.bounds.proofs.Passing.{Passing, passing-none, state-inside, list-short, pass-gives, passing-more, passing-all}
 use Rattle.states.specs.Laws.Numbers.{state-of}
 use Rattle.bounds.proofs.year.walk.Statement.{statement}
 use Rattle.bounds.proofs.year.walk.Tie as tie
 
 abbrev Inv-loop : tie.InvT-loop
-Inv-loop from lows rooms counts payoff order left₀ sums₀ k₀ left sums k = Passing from lows rooms counts payoff order left₀ left sums k
+Inv-loop entries payoff order left₀ sums₀ k₀ left sums k = Passing entries payoff order left₀ left sums k
 
 abbrev μ-loop : tie.MeasureT-loop
-μ-loop from lows rooms counts payoff order left₀ sums₀ k₀ left sums k = length payoff - k
+μ-loop entries payoff order left₀ sums₀ k₀ left sums k = length payoff - k
 
 -- the class at place k has a state
 named : (c : tie.After-state Inv-loop μ-loop) → c .state .result ≡ at (c .before .before .before .before .before .before .before .before .args .order .now) (c .before .before .before .loop .k) - 1
@@ -25,7 +26,7 @@ named c =
 -- and how long its list is
 here : (c : tie.After-state Inv-loop μ-loop)
     → let a = c .before .before .before .before .before .before .before .before .args in
-    (c .state .result < 32) × (c .state .result < length (a .payoff .now)) × (at (a .counts .now) (c .state .result) ≤ 32)
+    (c .state .result < 32) × (c .state .result < length (a .payoff .now)) × (at (a .entries .now) (counts + c .state .result) ≤ 32)
 here c =
     let able = c .before .before .before .before .before .before .before .before .pre in
     let w = c .before .before .before .loop .inv in
@@ -44,32 +45,38 @@ state-requires c κs = tt
 mul-first : tie.Need-mul-first Inv-loop μ-loop
 mul-first c = omega (arith, here c)
 
-mul-give : tie.Need-mul-give Inv-loop μ-loop
-mul-give c = omega (arith, here c)
+add-index : tie.Need-add-index Inv-loop μ-loop
+add-index c = omega (arith, here c)
 
-element-copy-out-give : tie.Need-element-copy-out-give Inv-loop μ-loop
-element-copy-out-give c = omega (arith, here c)
+mul-index : tie.Need-mul-index Inv-loop μ-loop
+mul-index c = omega (arith, here c)
+
+element-copy-out-index : tie.Need-element-copy-out-index Inv-loop μ-loop
+element-copy-out-index c = omega (arith, here c)
+
+index-requires : tie.Need-index-requires Inv-loop μ-loop
+index-requires c κs = tt
 
 add-give : tie.Need-add-give Inv-loop μ-loop
-add-give c = omega (arith, here (c .before))
+add-give c = omega (arith, here (c .before .before), c .index .ensures)
 
-mul-give-2 : tie.Need-mul-give-2 Inv-loop μ-loop
-mul-give-2 c = omega (arith, here (c .before))
+mul-give : tie.Need-mul-give Inv-loop μ-loop
+mul-give c = omega (arith, here (c .before .before))
 
 shared-slice-read-give : tie.Need-shared-slice-read-give Inv-loop μ-loop
-shared-slice-read-give c = omega (arith, here (c .before .before))
+shared-slice-read-give c = omega (arith, here (c .before .before .before))
 
 give-requires : tie.Need-give-requires Inv-loop μ-loop
-give-requires c κs = pass-gives (c .before .before .before .before .before .before .before .before .before .before .before .before .pre) (c .before .before .before .before .before .before .before .loop .inv) (omega (arith, c .before .before .before .before .before .before .before .before .before .before .before .before .pre .placed .size)) (named (c .before .before .before .before))
+give-requires c κs = pass-gives (c .before .before .before .before .before .before .before .before .before .before .before .before .before .pre) (c .before .before .before .before .before .before .before .before .loop .inv) (omega (arith, c .before .before .before .before .before .before .before .before .before .before .before .before .before .pre .placed .size)) (named (c .before .before .before .before .before)) (c .before .before .before .index .ensures)
 
 add-k : tie.Need-add-k Inv-loop μ-loop
 add-k c = omega arith
 
 loop-less : tie.Need-loop-less Inv-loop μ-loop
-loop-less c = omega (arith, c .before .before .before .before .before .before .before .before .before .before .before .before .before .before .before .before .before .pre .placed .size)
+loop-less c = omega (arith, c .before .before .before .before .before .before .before .before .before .before .before .before .before .before .before .before .before .before .pre .placed .size)
 
 loop-again : tie.Need-loop-again Inv-loop μ-loop
-loop-again c = passing-more (c .before .before .before .before .before .before .before .before .before .before .before .before .before .before .before .before .before .pre) (c .before .before .before .before .before .before .before .before .before .before .before .before .loop .inv) (omega (arith, c .before .before .before .before .before .before .before .before .before .before .before .before .before .before .before .before .before .pre .placed .size)) (named (c .before .before .before .before .before .before .before .before .before)) (c .before .before .before .before .give .ensures)
+loop-again c = passing-more (c .before .before .before .before .before .before .before .before .before .before .before .before .before .before .before .before .before .before .pre) (c .before .before .before .before .before .before .before .before .before .before .before .before .before .loop .inv) (omega (arith, c .before .before .before .before .before .before .before .before .before .before .before .before .before .before .before .before .before .before .pre .placed .size)) (named (c .before .before .before .before .before .before .before .before .before .before)) (c .before .before .before .before .before .before .before .before .index .ensures) (c .before .before .before .before .give .ensures)
 
 same-length : tie.Need-same-length Inv-loop μ-loop
 same-length c = omega (arith, c .before .loop .inv .lefts, c .before .before .before .before .before .before .pre .lefts)
@@ -90,10 +97,12 @@ walk-spec =
     shared-slice-read-state
     state-requires
     mul-first
-    mul-give
-    element-copy-out-give
+    add-index
+    mul-index
+    element-copy-out-index
+    index-requires
     add-give
-    mul-give-2
+    mul-give
     shared-slice-read-give
     give-requires
     add-k

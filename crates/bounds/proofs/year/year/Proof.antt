@@ -13,7 +13,7 @@ array-share-prefix-before : tie.Need-array-share-prefix-before
 array-share-prefix-before c = search needs
 
 slice-aggregate-sort : tie.Need-slice-aggregate-sort
-slice-aggregate-sort c = sym (length-take-le (length (c .before .before .before .args .gain .now)) (c .before .before .before .args .t9) (search needs))
+slice-aggregate-sort c = sym (length-take-le (length (c .before .before .before .args .gain .now)) (c .before .before .before .args .t6) (search needs))
 
 sort-requires : tie.Need-sort-requires
 sort-requires c κs = tt
@@ -22,7 +22,7 @@ array-share-prefix-before-2 : tie.Need-array-share-prefix-before-2
 array-share-prefix-before-2 c = search needs
 
 slice-aggregate-walk : tie.Need-slice-aggregate-walk
-slice-aggregate-walk c = sym (length-take-le (length (c .before .before .before .before .before .before .before .before .before .args .gain .now)) (c .before .before .before .before .before .before .before .before .before .args .t9) (search needs))
+slice-aggregate-walk c = sym (length-take-le (length (c .before .before .before .before .before .before .before .before .before .args .gain .now)) (c .before .before .before .before .before .before .before .before .before .args .t6) (search needs))
 
 array-borrow-prefix-left : tie.Need-array-borrow-prefix-left
 array-borrow-prefix-left c = c .before .before .before .before .before .before .before .before .before .before .pre .held .stored

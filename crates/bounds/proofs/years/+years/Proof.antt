@@ -13,14 +13,14 @@ use Rattle.bounds.proofs.years.advance.Reads as advance-reads
 use Rattle.bounds.proofs.years.+years.{statement}
 use Rattle.bounds.proofs.years.+years.Tie.{close}
 
-abbrev μ-years : Measures 8 years-kinds.ps ℕ
-μ-years κs a = a .1 .1 .1 .1 .1 .1 .1 .1 .1 .0
+abbrev μ-years : Measures 5 years-kinds.ps ℕ
+μ-years κs a = a .1 .1 .1 .1 .1 .1 .0
 
-abbrev years-at : ℕ → In 8 years-kinds.ps
-years-at t = and 8 years-kinds.ps (is 8 years-kinds.ps μ-years t) years.Pre
+abbrev years-at : ℕ → In 5 years-kinds.ps
+years-at t = and 5 years-kinds.ps (is 5 years-kinds.ps μ-years t) years.Pre
 
-abbrev years-below : ℕ → In 8 years-kinds.ps
-years-below t = and 8 years-kinds.ps (falls 8 years-kinds.ps _<_ μ-years t) years.Pre
+abbrev years-below : ℕ → In 5 years-kinds.ps
+years-below t = and 5 years-kinds.ps (falls 5 years-kinds.ps _<_ μ-years t) years.Pre
 
 years-returns : (t : ℕ) → years-lts.Need-returns (
   years-below t,
