@@ -230,9 +230,11 @@ module _ {lower upper : List ℕ} {i : ℕ} {entries : List ℕ} (able : Addable
     below : (k : ℕ) → k < length upper → k < 32
     below k l = omega (arith, able .few)
 
-    adding-after : Adding lower upper i entries after (j + 1)
+    pub adding-more : Adding lower upper i entries
+        (entered entries′ (j * 32 + at entries′ (counts + j)) i (at lower j) (at upper j - at lower j) j (at entries′ (counts + j) + 1))
+        (j + 1)
     unfolding place
-    adding-after =
+    adding-more =
         record {
           table = entered-size entries′ (w .table) place i (at lower j) (at upper j - at lower j) j (at entries′ (counts + j) + 1) place-inside count-inside;
           inside = omega arith;
@@ -253,10 +255,6 @@ module _ {lower upper : List ℕ} {i : ℕ} {entries : List ℕ} (able : Addable
           lowersLater = λ k h l q. other-sum lows (at lower j) k q low-stored (below k l) (omega (arith, w .shortLater k (omega arith) l, adding-here)) (inr (omega arith)) ∙ w .lowersLater k (omega arith) l q;
           risesLater = λ k h l q. other-sum rooms (at upper j - at lower j) k q room-stored (below k l) (omega (arith, w .shortLater k (omega arith) l, adding-here)) (inr (omega arith)) ∙ w .risesLater k (omega arith) l q;
         }
-
-    pub adding-more : {p : ℕ} → p ≡ at entries′ (counts + j)
-        → Adding lower upper i entries (entered entries′ (j * 32 + p) i (at lower j) (at upper j - at lower j) j (at entries′ (counts + j) + 1)) (j + 1)
-    adding-more e = rw e adding-after
 
 -- the same of a table that is equal
 pub adding-as : {lower upper : List ℕ} {i : ℕ} {entries a a′ : List ℕ} {j : ℕ} → a′ ≡ a → Adding lower upper i entries a j → Adding lower upper i entries a′ j

@@ -101,21 +101,20 @@ module _ {entries payoff order left sums₀ : List ℕ} (able : Walkable entries
           able .held .sound (at entries e) i .capped j state-inside,
         )
 
-    pub pass-gives : {count : ℕ} → count ≡ at entries (counts + j) → Givable entries (j * 32) (j * 32 + count) (at payoff j) left′ sums
-    pass-gives is =
-        rw is
-        (record {
+    pub pass-gives : Givable entries (j * 32) (j * 32 + at entries (counts + j)) (at payoff j) left′ sums
+    pass-gives =
+        record {
           size = w .size ∙ sym (w .lefts);
           within = λ e l. omega (arith, able .held .within e l, w .lefts);
           rises = omega arith;
           ends = omega (arith, state-inside, list-short, able .held .few);
           small = entry-small;
           fits = λ i l. omega (arith, one-more i (omega (arith, w .lefts)), fits i (omega (arith, w .lefts)) (suc k) more);
-        })
+        }
 
-    passing-next : {left″ sums″ : List ℕ} → Given entries (j * 32) (j * 32 + at entries (counts + j)) (at payoff j) left′ sums left″ sums″
+    pub passing-more : {left″ sums″ : List ℕ} → Given entries (j * 32) (j * 32 + at entries (counts + j)) (at payoff j) left′ sums left″ sums″
         → Passing entries payoff order left left″ sums″ (k + 1)
-    passing-next {left″} {sums″} g =
+    passing-more {left″} {sums″} g =
         record {
           inside = omega arith;
           lefts = g .lefts ∙ w .lefts;
@@ -123,11 +122,6 @@ module _ {entries payoff order left sums₀ : List ℕ} (able : Walkable entries
           rest = λ i l. rw add-one (g .rest i (omega (arith, w .lefts)) ∙ sym (left-more i l));
           sum = λ i l. rw add-one (g .more i (omega (arith, w .lefts)) ∙ sym (one-more i l));
         }
-
-    pub passing-more : {count : ℕ} → count ≡ at entries (counts + j)
-        → {left″ sums″ : List ℕ} → Given entries (j * 32) (j * 32 + count) (at payoff j) left′ sums left″ sums″
-        → Passing entries payoff order left left″ sums″ (k + 1)
-    passing-more is g = passing-next (rw is at g)
 
   pub passing-all : {left′ sums : List ℕ} {k : ℕ} → length payoff ≤ k → Passing entries payoff order left left′ sums k
       → Walked entries payoff order left sums

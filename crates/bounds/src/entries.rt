@@ -3,7 +3,6 @@
 use gathering::gather;
 use gathering::spare;
 use scheme::Scheme;
-ghost use mathlib.Core.Path.{_≡_};
 ghost use lib.ListN.{take};
 ghost use Rattle.scheme.specs.Accepted.{Accepted};
 ghost use Rattle.bounds.specs.Entries.{Addable, Added, Empty, Listable, Listed, RowListed, Storable};
@@ -18,13 +17,6 @@ pub const ROOMS: usize = 2048;
 // Where the counts begin.
 pub const COUNTS: usize = 3072;
 
-// A state's number, or a count, as an index.
-pub fn index(x: u32) -> usize
-    ensures { λ r. ⌜ r ≡ x ⌝ }
-{
-    x as usize
-}
-
 // Adds the entries of state i's row to the lists of the states that they lead to.
 fn add_row(lower: &[u64], upper: &[u64], i: usize, entries: &mut [u32; 3104])
     requires { ⌜ Addable (now lower) (now upper) i (now entries) ⌝ }
@@ -32,12 +24,14 @@ fn add_row(lower: &[u64], upper: &[u64], i: usize, entries: &mut [u32; 3104])
 {
     let mut j: usize = 0;
     while j < upper.len() {
-        if 0 < upper[j] {
+        let high = upper[j];
+        if 0 < high {
+            let low = lower[j];
             let count = entries[COUNTS + j];
-            let place = j * 32 + index(count);
+            let place = j * 32 + count as usize;
             entries[place] = i as u32;
-            entries[LOWS + place] = lower[j] as u32;
-            entries[ROOMS + place] = (upper[j] - lower[j]) as u32;
+            entries[LOWS + place] = low as u32;
+            entries[ROOMS + place] = (high - low) as u32;
             entries[COUNTS + j] = count + 1;
         }
         j += 1;

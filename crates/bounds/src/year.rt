@@ -2,8 +2,6 @@
 use crate::entries::COUNTS;
 use crate::entries::LOWS;
 use crate::entries::ROOMS;
-use crate::entries::index;
-use crate::payoffs::wide;
 use order::sort;
 use states::state;
 ghost use mathlib.Core.Path.{_≡_};
@@ -35,10 +33,11 @@ fn give(
 {
     let mut e = first;
     while e < end {
-        let i = index(entries[e]);
-        let given = smaller(entries[ROOMS + e], left[i]);
-        left[i] -= given;
-        sums[i] += wide(entries[LOWS + e] + given) * pays;
+        let i = entries[e] as usize;
+        let had = left[i];
+        let given = smaller(entries[ROOMS + e], had);
+        left[i] = had - given;
+        sums[i] += (entries[LOWS + e] + given) as u64 * pays;
         e += 1;
     }
 }
@@ -55,7 +54,7 @@ fn walk(entries: &[u32; 3104], payoff: &[u64], order: &[u8], left: &mut [u32], s
         give(
             entries,
             first,
-            first + index(entries[COUNTS + j]),
+            first + entries[COUNTS + j] as usize,
             payoff[j],
             left,
             sums,

@@ -1,7 +1,6 @@
 -- `add_row` stores one entry in the list of each state that it leads to.
 -- Assumes nothing.
 use Prim.Native.Nat.{_+_, _-_, _≤_, _<_}
-use mathlib.Core.Path.{_≡_}
 use mathlib.Core.Logic.{⊎-elim}
 use native.Mathlib.Omega.{arith}
 use lib.ListN.{length}
@@ -20,109 +19,91 @@ abbrev μ-loop : tie.MeasureT-loop
 
 -- the list of state j has a free place, and the entry fits
 here : (c : tie.Then1 Inv-loop μ-loop)
-    → let a = c .before .before .before .before .before .before .args in
+    → let a = c .before .before .before .before .args in
     let l = c .before .before .before .loop in
     (at (l .entries) (counts + l .j) ≤ a .i) × (a .i < 32) × (l .j < 32) × (at (a .lower .now) (l .j) ≤ at (a .upper .now) (l .j)) × (at (a .upper .now) (l .j) ≤ ONE) × (l .j < length (a .lower .now))
-here c = adding-here (c .before .before .before .before .before .before .pre) (c .before .before .before .loop .inv) (omega arith)
-
--- and which place that is
-placed : (c : tie.After-index Inv-loop μ-loop)
-    → let l = c .before .before .before .before .before .loop in
-    (c .index .result ≡ at (l .entries) (counts + l .j)) × (c .index .result < 32) × (l .j < 32)
-placed c = (c .index .ensures, omega (arith, here (c .before .before), c .index .ensures), omega (arith, here (c .before .before)))
+here c = adding-here (c .before .before .before .before .pre) (c .before .before .before .loop .inv) (omega arith)
 
 loop-holds : tie.Need-loop-holds Inv-loop μ-loop
-loop-holds c = adding-none (c .before .before .pre)
+loop-holds c = adding-none (c .pre)
 
-mul-if1 : tie.Need-mul-if1 Inv-loop μ-loop
-mul-if1 c = omega arith
+mul-high : tie.Need-mul-high Inv-loop μ-loop
+mul-high c = omega arith
 
-shared-slice-read-if1 : tie.Need-shared-slice-read-if1 Inv-loop μ-loop
-shared-slice-read-if1 c = omega arith
+shared-slice-read-high : tie.Need-shared-slice-read-high Inv-loop μ-loop
+shared-slice-read-high c = omega arith
+
+mul-low : tie.Need-mul-low Inv-loop μ-loop
+mul-low c = omega (arith, here c)
+
+shared-slice-read-low : tie.Need-shared-slice-read-low Inv-loop μ-loop
+shared-slice-read-low c = omega (arith, here (c .before))
 
 add-count : tie.Need-add-count Inv-loop μ-loop
-add-count c = omega (arith, here c)
+add-count c = omega (arith, here (c .before))
 
 mul-count : tie.Need-mul-count Inv-loop μ-loop
-mul-count c = omega (arith, here c)
+mul-count c = omega (arith, here (c .before))
 
 element-copy-out-count : tie.Need-element-copy-out-count Inv-loop μ-loop
-element-copy-out-count c = omega (arith, here c)
+element-copy-out-count c = omega (arith, here (c .before))
 
 mul-place : tie.Need-mul-place Inv-loop μ-loop
-mul-place c = omega (arith, here (c .before))
+mul-place c = omega (arith, here (c .before .before))
 
-index-requires : tie.Need-index-requires Inv-loop μ-loop
-index-requires c κs = tt
+cast-place : tie.Need-cast-place Inv-loop μ-loop
+cast-place c = omega (arith, here (c .before .before))
 
 add-place : tie.Need-add-place Inv-loop μ-loop
-add-place c = omega (arith, here (c .before .before), placed c)
+add-place c = omega (arith, here (c .before .before))
 
 cast-entries : tie.Need-cast-entries Inv-loop μ-loop
-cast-entries c = omega (arith, here (c .before .before), placed c)
+cast-entries c = omega (arith, here (c .before .before))
 
 mul-entries : tie.Need-mul-entries Inv-loop μ-loop
-mul-entries c = omega (arith, here (c .before .before), placed c)
+mul-entries c = omega (arith, here (c .before .before))
 
 element-write-entries : tie.Need-element-write-entries Inv-loop μ-loop
-element-write-entries c = omega (arith, here (c .before .before), placed c)
-
-mul-entries-2 : tie.Need-mul-entries-2 Inv-loop μ-loop
-mul-entries-2 c = omega (arith, here (c .before .before), placed c)
-
-shared-slice-read-entries : tie.Need-shared-slice-read-entries Inv-loop μ-loop
-shared-slice-read-entries c = omega (arith, here (c .before .before .before), placed (c .before))
+element-write-entries c = omega (arith, here (c .before .before))
 
 cast-entries-2 : tie.Need-cast-entries-2 Inv-loop μ-loop
-cast-entries-2 c = omega (arith, here (c .before .before .before), placed (c .before))
+cast-entries-2 c = omega (arith, here (c .before .before))
 
 add-entries : tie.Need-add-entries Inv-loop μ-loop
-add-entries c = omega (arith, here (c .before .before .before), placed (c .before))
+add-entries c = omega (arith, here (c .before .before))
 
-mul-entries-3 : tie.Need-mul-entries-3 Inv-loop μ-loop
-mul-entries-3 c = omega (arith, here (c .before .before .before), placed (c .before))
+mul-entries-2 : tie.Need-mul-entries-2 Inv-loop μ-loop
+mul-entries-2 c = omega (arith, here (c .before .before))
 
 element-write-entries-2 : tie.Need-element-write-entries-2 Inv-loop μ-loop
-element-write-entries-2 c = omega (arith, here (c .before .before .before), placed (c .before))
-
-mul-entries-4 : tie.Need-mul-entries-4 Inv-loop μ-loop
-mul-entries-4 c = omega (arith, here (c .before .before .before), placed (c .before))
-
-shared-slice-read-entries-2 : tie.Need-shared-slice-read-entries-2 Inv-loop μ-loop
-shared-slice-read-entries-2 c = omega (arith, here (c .before .before .before .before), placed (c .before .before))
-
-mul-entries-5 : tie.Need-mul-entries-5 Inv-loop μ-loop
-mul-entries-5 c = omega (arith, here (c .before .before .before .before), placed (c .before .before))
-
-shared-slice-read-entries-3 : tie.Need-shared-slice-read-entries-3 Inv-loop μ-loop
-shared-slice-read-entries-3 c = omega (arith, here (c .before .before .before .before .before), placed (c .before .before .before))
+element-write-entries-2 c = omega (arith, here (c .before .before))
 
 sub-entries : tie.Need-sub-entries Inv-loop μ-loop
-sub-entries c = omega (arith, here (c .before .before .before .before .before), placed (c .before .before .before))
+sub-entries c = omega (arith, here (c .before .before))
 
 cast-entries-3 : tie.Need-cast-entries-3 Inv-loop μ-loop
-cast-entries-3 c = omega (arith, here (c .before .before .before .before .before), placed (c .before .before .before))
+cast-entries-3 c = omega (arith, here (c .before .before))
 
 add-entries-2 : tie.Need-add-entries-2 Inv-loop μ-loop
-add-entries-2 c = omega (arith, here (c .before .before .before .before .before), placed (c .before .before .before))
+add-entries-2 c = omega (arith, here (c .before .before))
 
-mul-entries-6 : tie.Need-mul-entries-6 Inv-loop μ-loop
-mul-entries-6 c = omega (arith, here (c .before .before .before .before .before), placed (c .before .before .before))
+mul-entries-3 : tie.Need-mul-entries-3 Inv-loop μ-loop
+mul-entries-3 c = omega (arith, here (c .before .before))
 
 element-write-entries-3 : tie.Need-element-write-entries-3 Inv-loop μ-loop
-element-write-entries-3 c = omega (arith, here (c .before .before .before .before .before), placed (c .before .before .before))
+element-write-entries-3 c = omega (arith, here (c .before .before))
 
 add-entries-3 : tie.Need-add-entries-3 Inv-loop μ-loop
-add-entries-3 c = omega (arith, here (c .before .before .before .before .before), placed (c .before .before .before))
+add-entries-3 c = omega (arith, here (c .before .before))
 
 add-entries-4 : tie.Need-add-entries-4 Inv-loop μ-loop
-add-entries-4 c = omega (arith, here (c .before .before .before .before .before), placed (c .before .before .before))
+add-entries-4 c = omega (arith, here (c .before .before))
 
-mul-entries-7 : tie.Need-mul-entries-7 Inv-loop μ-loop
-mul-entries-7 c = omega (arith, here (c .before .before .before .before .before), placed (c .before .before .before))
+mul-entries-4 : tie.Need-mul-entries-4 Inv-loop μ-loop
+mul-entries-4 c = omega (arith, here (c .before .before))
 
 element-write-entries-4 : tie.Need-element-write-entries-4 Inv-loop μ-loop
-element-write-entries-4 c = omega (arith, here (c .before .before .before .before .before), placed (c .before .before .before))
+element-write-entries-4 c = omega (arith, here (c .before .before))
 
 add-j : tie.Need-add-j Inv-loop μ-loop
 add-j c = omega arith
@@ -132,10 +113,10 @@ loop-less c = omega arith
 
 loop-again : tie.Need-loop-again Inv-loop μ-loop
 loop-again c =
-    let p = c .before .before .before .before .before .before .pre in
+    let p = c .before .before .before .before .pre in
     let v = c .before .before .before .loop .inv in
     ⊎-elim
-    (λ w. adding-as (w .6) (adding-more p v (omega arith) (w .2 .ensures)))
+    (λ w. adding-as (w .3) (adding-more p v (omega arith)))
     (λ w. adding-as (w .1) (adding-skip p v (omega arith) (omega (arith, w .0 .left))))
     (c .if1 .came)
 
@@ -149,35 +130,31 @@ add-row-spec =
     Inv-loop
     μ-loop
     loop-holds
-    mul-if1
-    shared-slice-read-if1
+    mul-high
+    shared-slice-read-high
+    mul-low
+    shared-slice-read-low
     add-count
     mul-count
     element-copy-out-count
     mul-place
-    index-requires
+    cast-place
     add-place
     cast-entries
     mul-entries
     element-write-entries
-    mul-entries-2
-    shared-slice-read-entries
     cast-entries-2
     add-entries
-    mul-entries-3
+    mul-entries-2
     element-write-entries-2
-    mul-entries-4
-    shared-slice-read-entries-2
-    mul-entries-5
-    shared-slice-read-entries-3
     sub-entries
     cast-entries-3
     add-entries-2
-    mul-entries-6
+    mul-entries-3
     element-write-entries-3
     add-entries-3
     add-entries-4
-    mul-entries-7
+    mul-entries-4
     element-write-entries-4
     add-j
     loop-less

@@ -45,38 +45,38 @@ state-requires c κs = tt
 mul-first : tie.Need-mul-first Inv-loop μ-loop
 mul-first c = omega (arith, here c)
 
-add-index : tie.Need-add-index Inv-loop μ-loop
-add-index c = omega (arith, here c)
-
-mul-index : tie.Need-mul-index Inv-loop μ-loop
-mul-index c = omega (arith, here c)
-
-element-copy-out-index : tie.Need-element-copy-out-index Inv-loop μ-loop
-element-copy-out-index c = omega (arith, here c)
-
-index-requires : tie.Need-index-requires Inv-loop μ-loop
-index-requires c κs = tt
-
 add-give : tie.Need-add-give Inv-loop μ-loop
-add-give c = omega (arith, here (c .before .before), c .index .ensures)
+add-give c = omega (arith, here c)
 
 mul-give : tie.Need-mul-give Inv-loop μ-loop
-mul-give c = omega (arith, here (c .before .before))
+mul-give c = omega (arith, here c)
+
+element-copy-out-give : tie.Need-element-copy-out-give Inv-loop μ-loop
+element-copy-out-give c = omega (arith, here c)
+
+cast-give : tie.Need-cast-give Inv-loop μ-loop
+cast-give c = omega (arith, here (c .before))
+
+add-give-2 : tie.Need-add-give-2 Inv-loop μ-loop
+add-give-2 c = omega (arith, here (c .before))
+
+mul-give-2 : tie.Need-mul-give-2 Inv-loop μ-loop
+mul-give-2 c = omega (arith, here (c .before))
 
 shared-slice-read-give : tie.Need-shared-slice-read-give Inv-loop μ-loop
-shared-slice-read-give c = omega (arith, here (c .before .before .before))
+shared-slice-read-give c = omega (arith, here (c .before .before))
 
 give-requires : tie.Need-give-requires Inv-loop μ-loop
-give-requires c κs = pass-gives (c .before .before .before .before .before .before .before .before .before .before .before .before .before .pre) (c .before .before .before .before .before .before .before .before .loop .inv) (omega (arith, c .before .before .before .before .before .before .before .before .before .before .before .before .before .pre .placed .size)) (named (c .before .before .before .before .before)) (c .before .before .before .index .ensures)
+give-requires c κs = pass-gives (c .before .before .before .before .before .before .before .before .before .before .before .before .pre) (c .before .before .before .before .before .before .before .loop .inv) (omega (arith, c .before .before .before .before .before .before .before .before .before .before .before .before .pre .placed .size)) (named (c .before .before .before .before))
 
 add-k : tie.Need-add-k Inv-loop μ-loop
 add-k c = omega arith
 
 loop-less : tie.Need-loop-less Inv-loop μ-loop
-loop-less c = omega (arith, c .before .before .before .before .before .before .before .before .before .before .before .before .before .before .before .before .before .before .pre .placed .size)
+loop-less c = omega (arith, c .before .before .before .before .before .before .before .before .before .before .before .before .before .before .before .before .before .pre .placed .size)
 
 loop-again : tie.Need-loop-again Inv-loop μ-loop
-loop-again c = passing-more (c .before .before .before .before .before .before .before .before .before .before .before .before .before .before .before .before .before .before .pre) (c .before .before .before .before .before .before .before .before .before .before .before .before .before .loop .inv) (omega (arith, c .before .before .before .before .before .before .before .before .before .before .before .before .before .before .before .before .before .before .pre .placed .size)) (named (c .before .before .before .before .before .before .before .before .before .before)) (c .before .before .before .before .before .before .before .before .index .ensures) (c .before .before .before .before .give .ensures)
+loop-again c = passing-more (c .before .before .before .before .before .before .before .before .before .before .before .before .before .before .before .before .before .pre) (c .before .before .before .before .before .before .before .before .before .before .before .before .loop .inv) (omega (arith, c .before .before .before .before .before .before .before .before .before .before .before .before .before .before .before .before .before .pre .placed .size)) (named (c .before .before .before .before .before .before .before .before .before)) (c .before .before .before .before .give .ensures)
 
 same-length : tie.Need-same-length Inv-loop μ-loop
 same-length c = omega (arith, c .before .loop .inv .lefts, c .before .before .before .before .before .before .pre .lefts)
@@ -97,12 +97,12 @@ walk-spec =
     shared-slice-read-state
     state-requires
     mul-first
-    add-index
-    mul-index
-    element-copy-out-index
-    index-requires
     add-give
     mul-give
+    element-copy-out-give
+    cast-give
+    add-give-2
+    mul-give-2
     shared-slice-read-give
     give-requires
     add-k
