@@ -12,13 +12,14 @@ use Rattle.setchain.specs.Years.{sharePayoff, nothing}
 use Rattle.scheme.specs.declared.Scheme.{Scheme}
 use Rattle.scheme.specs.Accepted.{Accepted}
 use Rattle.scheme.specs.Cause.{orElse}
+use Rattle.scheme.specs.Tables.{tab}
 use Rattle.scheme.specs.Rows.{chainOf}
 use Rattle.scheme.specs.Laws.Cause.{declined, first-none, second-none, test-none}
 use Rattle.scheme.specs.Laws.Tab.{as-tab}
 use Rattle.scheme.specs.Laws.Tables.{or-false-left, or-false-right}
-use Rattle.states.specs.Laws.Writing.{Written, written-none, written-more}
+use Rattle.states.specs.Laws.Writing.{Written, written-more}
 use Rattle.bounds.specs.Years.{yearsFigure}
-use Rattle.bounds.specs.Start.{startFigure, ShareHeld, Sheeted}
+use Rattle.bounds.specs.Start.{startFigure, ShareHeld, Sheeted, figureShares}
 use Rattle.answers.specs.Answers.{startOf, moneyCause, sliceCause, sheetCause, sheetSlice, lowShares, highShares}
 use Rattle.answers.specs.Promises.{SheetPromise}
 use Rattle.answers.specs.Laws.Kept.{sheet-kept}
@@ -29,14 +30,6 @@ use Rattle.bounds.proofs.Answering.{money-accepted, share-figure}
 abbrev pub shareOf : Bool → Scheme → ℕ → ℕ → ℕ
 shareOf falling s year j = yearsFigure falling (chainOf s) (sharePayoff j) nothing year (startOf s)
 
--- the first j classes of both slices are written
-pub record Sheeting (s : Scheme) (year : ℕ) (low high : List ℕ) (j : ℕ) : Type 0 where
-  pub lows : Written (s .classes) (shareOf false s year) low j
-  pub highs : Written (s .classes) (shareOf true s year) high j
-
-pub sheeting-none : {s : Scheme} {year : ℕ} {low high : List ℕ} → Sheeted s low high → Sheeting s year low high 0
-sheeting-none w = record { lows = written-none (w .lows); highs = written-none (w .highs) }
-
 -- class j + 1's own figures
 share-at : (s : Scheme) → Accepted s → (falling : Bool) {payoff : List ℕ} (j year : ℕ) → ShareHeld (j + 1) payoff → {r : ℕ}
     → r ≡ startFigure falling s zeros payoff year → r ≡ shareOf falling s year j
@@ -46,45 +39,50 @@ share-at s ok falling j year held e =
     again : (j : ℕ) → j + 1 - 1 ≡ j
     again j = omega arith
 
-pub sheeting-more : (s : Scheme) (year : ℕ) (low high : List ℕ) (j : ℕ) → Accepted s → j < s .classes → {payoff : List ℕ} → ShareHeld (j + 1) payoff
-    → {a b : ℕ} → a ≡ startFigure false s zeros payoff year → b ≡ startFigure true s zeros payoff year
-    → Sheeting s year low high j → Sheeting s year (set low j a) (set high j b) (j + 1)
-sheeting-more s year low high j ok l held e g w =
-    record {
-      lows = written-more (s .classes) (shareOf false s year) low j _ l (share-at s ok false j year held e) (w .lows);
-      highs = written-more (s .classes) (shareOf true s year) high j _ l (share-at s ok true j year held g) (w .highs);
-    }
+pub sheeting-more : (s : Scheme) (falling : Bool) (year : ℕ) (out : List ℕ) (j : ℕ) → Accepted s → j < s .classes → {payoff : List ℕ} → ShareHeld (j + 1) payoff
+    → {a : ℕ} → a ≡ startFigure falling s zeros payoff year
+    → Written (s .classes) (shareOf falling s year) out j → Written (s .classes) (shareOf falling s year) (set out j a) (j + 1)
+sheeting-more s falling year out j ok l held e w =
+    written-more (s .classes) (shareOf falling s year) out j _ l (share-at s ok falling j year held e) w
 
-pub sheeting-all : {s : Scheme} {year : ℕ} {low high : List ℕ} {j : ℕ} → s .classes ≤ j → Sheeting s year low high j
-    → (low ≡ lowShares s year) × (high ≡ highShares s year)
+-- the list of a flag
+shared : (s : Scheme) (falling : Bool) (year : ℕ) {out : List ℕ} → out ≡ tab (s .classes) (shareOf falling s year) → out ≡ figureShares falling s year
 unfolding lowShares highShares
-sheeting-all {s} {year} {low} {high} h w = (
-  as-tab 0 low (s .classes) (shareOf false s year) (w .lows .size) (λ i l. w .lows .done i (omega arith)),
-  as-tab 0 high (s .classes) (shareOf true s year) (w .highs .size) (λ i l. w .highs .done i (omega arith)),
-)
+shared s false year e = e
+shared s true year e = e
+
+pub sheeting-all : (s : Scheme) (falling : Bool) (year : ℕ) (out : List ℕ) {j : ℕ} → s .classes ≤ j
+    → Written (s .classes) (shareOf falling s year) out j → out ≡ figureShares falling s year
+sheeting-all s falling year out h w =
+    shared s falling year (as-tab 0 out (s .classes) (shareOf falling s year) (w .size) (λ i l. w .done i (omega arith)))
 
 -- what a cause of 0 tells of the slices
 pub test-not : (b : Bool) → not b ≡ false → b ≡ true
 test-not true e = refl
 test-not false e = absurd (true≢false e)
 
-pub sheet-takes : (s : Scheme) (year : ℕ) (low high : List ℕ) → sheetCause s year low high ≡ 0 → Sheeted s low high
-unfolding sheetCause
-sheet-takes s year low high z =
-    record {
-      accepted = money-accepted s year (first-none (moneyCause s year) (sliceCause s low high) z);
-      lows = eqb-true (length low) (s .classes) (test-not (eqb (length low) (s .classes)) (or-false-left lowOut highOut sizes));
-      highs = eqb-true (length high) (s .classes) (test-not (eqb (length high) (s .classes)) (or-false-right lowOut highOut sizes));
-    }
-  where
-    lowOut : Bool
-    lowOut = not (eqb (length low) (s .classes))
+module _ (s : Scheme) (year : ℕ) (low high : List ℕ) (z : sheetCause s year low high ≡ 0) where
+  abbrev lowOut : Bool
+  lowOut = not (eqb (length low) (s .classes))
 
-    highOut : Bool
-    highOut = not (eqb (length high) (s .classes))
+  abbrev highOut : Bool
+  highOut = not (eqb (length high) (s .classes))
 
-    sizes : (lowOut || highOut) ≡ false
-    sizes = test-none (lowOut || highOut) 13 (omega arith) (second-none (moneyCause s year) (sliceCause s low high) z)
+  accepted : Accepted s
+  unfolding sheetCause
+  accepted = money-accepted s year (first-none (moneyCause s year) (sliceCause s low high) z)
+
+  sizes : (lowOut || highOut) ≡ false
+  unfolding sheetCause
+  sizes = test-none (lowOut || highOut) 13 (omega arith) (second-none (moneyCause s year) (sliceCause s low high) z)
+
+  pub low-sheeted : Sheeted s low
+  low-sheeted =
+      record { accepted = accepted; size = eqb-true (length low) (s .classes) (test-not (eqb (length low) (s .classes)) (or-false-left lowOut highOut sizes)) }
+
+  pub high-sheeted : Sheeted s high
+  high-sheeted =
+      record { accepted = accepted; size = eqb-true (length high) (s .classes) (test-not (eqb (length high) (s .classes)) (or-false-right lowOut highOut sizes)) }
 
 -- the code's cause is the definition's
 pub sheet-cause : (s : Scheme) (year : ℕ) (low high : List ℕ) (n : ℕ) → n ≡ orElse (moneyCause s year) (sliceCause s low high) → n ≡ sheetCause s year low high

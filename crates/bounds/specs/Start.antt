@@ -13,7 +13,7 @@ use Rattle.answers.specs.declared.Bounds.the-variants.{Answered}
 use Rattle.step.specs.Lists.{at, Agree}
 use Rattle.bounds.specs.Entries.{listedRow, Held}
 use Rattle.bounds.specs.Years.{yearsFigure, Roomy}
-use Rattle.answers.specs.Answers.{startOf}
+use Rattle.answers.specs.Answers.{startOf, lowShares, highShares}
 
 -- the lists hold the interval rows of an accepted scheme
 pub record Entered (s : Scheme) (entries spare : List ℕ) : Type 0 where
@@ -37,8 +37,12 @@ startBounds s gain payoff t = Answered (startFigure false s gain payoff t) (star
 pub record ShareHeld (class : ℕ) (payoff : List ℕ) : Type 0 where
   pub each : (i : ℕ) → i < 32 → at payoff i ≡ sharePayoff (class - 1) i
 
--- what a sheet's numbers take: an accepted scheme, and two slices of s numbers
-pub record Sheeted (s : Scheme) (low high : List ℕ) : Type 0 where
+-- what a sheet's numbers take: an accepted scheme, and a slice of s numbers
+pub record Sheeted (s : Scheme) (out : List ℕ) : Type 0 where
   pub accepted : Accepted s
-  pub lows : length low ≡ s .classes
-  pub highs : length high ≡ s .classes
+  pub size : length out ≡ s .classes
+
+-- the low shares of all classes in order, or the high ones where payoffs fall along the order
+abbrev pub figureShares : Bool → Scheme → ℕ → List ℕ
+figureShares false = lowShares
+figureShares true = highShares

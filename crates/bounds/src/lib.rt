@@ -70,7 +70,8 @@ pub fn share_sheet(scheme: Scheme, year: u64, low: &mut [u64], high: &mut [u64])
     if number != 0 {
         return number;
     }
-    sheet::write_shares(scheme, year, low, high);
+    sheet::write_shares(scheme, year, false, low);
+    sheet::write_shares(scheme, year, true, high);
     0
 }
 
@@ -86,6 +87,7 @@ pub fn figures(scheme: Scheme, low: &mut [u64], high: &mut [u64]) -> u8
     if number != 0 {
         return number;
     }
-    table::write_tables(scheme, low, high);
+    table::write_table(scheme, false, low);
+    table::write_table(scheme, true, high);
     0
 }

@@ -8,7 +8,6 @@ use scheme::Scheme;
 use states::number;
 use states::state;
 ghost use mathlib.Core.Path.{_≡_};
-ghost use mathlib.Core.Bool.{true, false};
 ghost use Prim.Native.Nat.{_+_};
 ghost use Rattle.bounds.specs.Start.{Entered, startFigure};
 ghost use Rattle.bounds.specs.Tracks.{ColumnReady, SharesIn, TableReady, Tracked, figureTable};
@@ -66,37 +65,21 @@ fn share_columns(
     }
 }
 
-// Writes the low figures, or the high ones where payoffs fall along the order: shares, means and the total.
-fn write_figures(
-    scheme: Scheme,
-    entries: &[u32; 3104],
-    spare: &[u32; 32],
-    falling: bool,
-    out: &mut [u64],
-)
-    requires { ⌜ (TableReady scheme (now out)) × Entered scheme (now entries) (now spare) ⌝ }
+// Writes the table of the low figures, or of the high ones where payoffs fall along the order: shares, means and the total.
+pub fn write_table(scheme: Scheme, falling: bool, out: &mut [u64])
+    requires { ⌜ TableReady scheme (now out) ⌝ }
     ensures { λ _. ⌜ now (out .exit) ≡ figureTable falling scheme ⌝ }
-{
-    share_columns(scheme, entries, spare, falling, out);
-    let none = [0u64; 32];
-    let stored = scheme.premiums;
-    let premiums = widened(stored);
-    let mean = scheme.classes as usize;
-    column(scheme, entries, spare, none, falling, premiums, mean, out);
-    let last = out.len() - 1;
-    let years = scheme.horizon as u64;
-    out[last] = start_figure(scheme, entries, spare, premiums, falling, none, years);
-}
-
-// Writes both tables of a scheme.
-pub fn write_tables(scheme: Scheme, low: &mut [u64], high: &mut [u64])
-    requires { ⌜ (TableReady scheme (now low)) × TableReady scheme (now high) ⌝ }
-    ensures lows { λ _. ⌜ now (low .exit) ≡ figureTable false scheme ⌝ }
-    ensures highs { λ _. ⌜ now (high .exit) ≡ figureTable true scheme ⌝ }
 {
     let mut entries = [0u32; 3104];
     let mut spare = [0u32; 32];
     list_scheme(scheme, &mut entries, &mut spare);
-    write_figures(scheme, &entries, &spare, false, low);
-    write_figures(scheme, &entries, &spare, true, high);
+    share_columns(scheme, &entries, &spare, falling, out);
+    let none = [0u64; 32];
+    let stored = scheme.premiums;
+    let premiums = widened(stored);
+    let mean = scheme.classes as usize;
+    column(scheme, &entries, &spare, none, falling, premiums, mean, out);
+    let last = out.len() - 1;
+    let years = scheme.horizon as u64;
+    out[last] = start_figure(scheme, &entries, &spare, premiums, falling, none, years);
 }

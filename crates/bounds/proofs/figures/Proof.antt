@@ -9,10 +9,19 @@ table-cause-requires : tie.Need-table-cause-requires
 table-cause-requires c κs = search needs
 
 returns : tie.Need-returns
-returns c = figures-declined (c .before .before .before .before .args .scheme) (c .before .before .before .before .args .low .now) (c .before .before .before .before .args .high .now) (table-cause (c .before .before .before .before .args .scheme) (c .before .before .before .before .args .low .now) (c .before .before .before .before .args .high .now) (c .before .table-cause .ensures)) (c .if1 .taken)
+returns c =
+    let a = c .before .before .before .before .args in
+    figures-declined (a .scheme) (a .low .now) (a .high .now) (table-cause (a .scheme) (a .low .now) (a .high .now) (c .before .table-cause .ensures)) (c .if1 .taken)
 
-write-tables-requires : tie.Need-write-tables-requires
-write-tables-requires c κs = (low-ready (c .before .before .before .before .before .before .args .scheme) (c .before .before .before .before .before .before .args .low .now) (c .before .before .before .before .before .before .args .high .now) (table-cause (c .before .before .before .before .before .before .args .scheme) (c .before .before .before .before .before .before .args .low .now) (c .before .before .before .before .before .before .args .high .now) (c .before .before .before .table-cause .ensures)) (c .before .before .if1 .left), high-ready (c .before .before .before .before .before .before .args .scheme) (c .before .before .before .before .before .before .args .low .now) (c .before .before .before .before .before .before .args .high .now) (table-cause (c .before .before .before .before .before .before .args .scheme) (c .before .before .before .before .before .before .args .low .now) (c .before .before .before .before .before .before .args .high .now) (c .before .before .before .table-cause .ensures)) (c .before .before .if1 .left))
+write-table-requires : tie.Need-write-table-requires
+write-table-requires c κs =
+    let a = c .before .before .before .before .before .args in
+    low-ready (a .scheme) (a .low .now) (a .high .now) (table-cause (a .scheme) (a .low .now) (a .high .now) (c .before .before .table-cause .ensures)) (c .before .if1 .left)
+
+write-table-requires-2 : tie.Need-write-table-requires-2
+write-table-requires-2 c κs =
+    let a = c .before .before .before .before .before .before .before .before .before .args in
+    high-ready (a .scheme) (a .low .now) (a .high .now) (table-cause (a .scheme) (a .low .now) (a .high .now) (c .before .before .before .before .before .before .table-cause .ensures)) (c .before .before .before .before .before .if1 .left)
 
 same-length : tie.Need-same-length
 same-length c = search needs
@@ -21,7 +30,9 @@ same-length-2 : tie.Need-same-length-2
 same-length-2 c = search needs
 
 returns-2 : tie.Need-returns-2
-returns-2 c = figures-written (c .before .before .before .before .before .before .before .before .before .before .before .args .scheme) (c .before .before .before .before .before .before .before .before .before .before .before .args .low .now) (c .before .before .before .before .before .before .before .before .before .before .before .args .high .now) (table-cause (c .before .before .before .before .before .before .before .before .before .before .before .args .scheme) (c .before .before .before .before .before .before .before .before .before .before .before .args .low .now) (c .before .before .before .before .before .before .before .before .before .before .before .args .high .now) (c .before .before .before .before .before .before .before .before .table-cause .ensures)) _ _ (c .before .before .before .before .before .before .before .if1 .left) (c .before .before .before .before .write-tables .ensures .0) (c .before .before .before .before .write-tables .ensures .1)
+returns-2 c =
+    let a = c .before .before .before .before .before .before .before .before .before .before .before .before .args in
+    figures-written (a .scheme) (a .low .now) (a .high .now) (table-cause (a .scheme) (a .low .now) (a .high .now) (c .before .before .before .before .before .before .before .before .before .table-cause .ensures)) _ _ (c .before .before .before .before .before .before .before .before .if1 .left) (c .before .before .before .before .before .before .write-table .ensures) (c .before .before .write-table2 .ensures)
 
 pub figures-spec : {M : Type 1} → statement M
 figures-spec =
@@ -29,7 +40,8 @@ figures-spec =
     (tie.spec
     table-cause-requires
     returns
-    write-tables-requires
+    write-table-requires
+    write-table-requires-2
     same-length
     same-length-2
     returns-2)

@@ -1,25 +1,78 @@
--- `write_shares` lists the scheme's entries and writes both slices.
+-- `write_shares` lists the scheme's entries and writes the slice class by class.
 -- Assumes nothing.
+use Prim.Native.Nat.{_-_}
+use native.Mathlib.Omega.{arith}
+use Rattle.states.specs.Laws.Writing.{Written, written-none}
 use Rattle.bounds.proofs.Storing.{empty-listed}
-use borrow.Author.Needs.{needs}
+use Rattle.bounds.proofs.Answering.{share-ready}
+use Rattle.bounds.proofs.Sheeting.{shareOf, sheeting-more, sheeting-all}
 use Rattle.bounds.proofs.sheet.write_shares.Statement.{statement}
 use Rattle.bounds.proofs.sheet.write_shares.Tie as tie
 
-list-scheme-requires : tie.Need-list-scheme-requires
-list-scheme-requires c κs = (c .before .before .before .before .pre .accepted, empty-listed)
+abbrev Inv-loop : tie.InvT-loop
+Inv-loop scheme year falling out₀ entries spare gain j₀ out j = Written (scheme .classes) (shareOf falling scheme year) out j
 
-write-each-requires : tie.Need-write-each-requires
-write-each-requires c κs = search needs
+abbrev μ-loop : tie.MeasureT-loop
+μ-loop scheme year falling out₀ entries spare gain j₀ out j = scheme .classes - j
 
-same-length : tie.Need-same-length
-same-length c = search needs
+list-scheme-requires : tie.Need-list-scheme-requires Inv-loop μ-loop
+list-scheme-requires c κs = (c .before .before .before .pre .accepted, empty-listed)
 
-same-length-2 : tie.Need-same-length-2
-same-length-2 c = search needs
+loop-holds : tie.Need-loop-holds Inv-loop μ-loop
+loop-holds c = written-none (c .before .before .before .before .pre .size)
 
-returns : tie.Need-returns
-returns c = search needs
+add-share-payoff : tie.Need-add-share-payoff Inv-loop μ-loop
+add-share-payoff c = omega arith
+
+share-payoff-requires : tie.Need-share-payoff-requires Inv-loop μ-loop
+share-payoff-requires c κs = (omega arith, omega arith)
+
+start-figure-requires : tie.Need-start-figure-requires Inv-loop μ-loop
+start-figure-requires c κs =
+    let s = c .before .before .before .before .before .before .before .before .before in
+    (share-ready (s .args .scheme) (s .pre .accepted) (c .before .before .share-payoff .ensures) (s .args .year), c .before .before .before .before .before .list-scheme .ensures)
+
+mul-out : tie.Need-mul-out Inv-loop μ-loop
+mul-out c = omega arith
+
+slice-write-out : tie.Need-slice-write-out Inv-loop μ-loop
+slice-write-out c = omega arith
+
+add-j : tie.Need-add-j Inv-loop μ-loop
+add-j c = omega arith
+
+loop-less : tie.Need-loop-less Inv-loop μ-loop
+loop-less c = omega arith
+
+loop-again : tie.Need-loop-again Inv-loop μ-loop
+loop-again c =
+    let s = c .before .before .before .before .before .before .before .before .before .before in
+    let l = c .before .before .before .before .before .loop in
+    sheeting-more (s .args .scheme) (s .args .falling) (s .args .year) (l .out) (l .j) (s .pre .accepted) (omega arith) (c .before .before .before .share-payoff .ensures) (c .start-figure .ensures) (l .inv)
+
+same-length : tie.Need-same-length Inv-loop μ-loop
+same-length c = omega arith
+
+returns : tie.Need-returns Inv-loop μ-loop
+returns c =
+    let s = c .before .before .before .before .before .before in
+    sheeting-all (s .args .scheme) (s .args .falling) (s .args .year) (c .before .loop .out) (omega arith) (c .before .loop .inv)
 
 pub write-shares-spec : {M : Type 1} → statement M
 write-shares-spec =
-    tie.close (tie.spec list-scheme-requires write-each-requires same-length same-length-2 returns)
+    tie.close
+    (tie.spec
+    Inv-loop
+    μ-loop
+    list-scheme-requires
+    loop-holds
+    add-share-payoff
+    share-payoff-requires
+    start-figure-requires
+    mul-out
+    slice-write-out
+    add-j
+    loop-less
+    loop-again
+    same-length
+    returns)
