@@ -3,7 +3,6 @@
 use gathering::gather;
 use gathering::spare;
 use scheme::Scheme;
-ghost use lib.ListN.{take};
 ghost use Rattle.scheme.specs.Accepted.{Accepted};
 ghost use Rattle.bounds.specs.Entries.{Addable, Added, Empty, Listable, Listed, RowListed, Storable};
 ghost use Rattle.bounds.specs.Start.{Entered};
