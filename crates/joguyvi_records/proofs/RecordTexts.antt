@@ -14,7 +14,7 @@ use Rattle.layout.specs.Layout.{version1}
 use Rattle.layout.specs.Bytes.{bytesOf}
 use Rattle.layout.specs.Write.{numberOf, valueOf, recordLength, writeCause, writeAnswer, writeLeaves}
 use Rattle.buffers.specs.Laws.Texting.{Texted, unfilled}
-use Rattle.joguyvi_records.specs.Records.{recordNumber}
+use Rattle.interface.specs.Records.{recordNumber}
 
 -- the test for room
 room-only : (b : Bool) (n : ℕ) → n ≡ cond b 13 0 → (n ≡ 0 → ⊥) → n ≡ 13

@@ -1,19 +1,17 @@
 // Records checked, written again and made ready, for C and for Rust: each function answers 0 or the cause's number, and fills the lent buffers only where it answers 0.
 ghost use mathlib.Core.Path.{_≡_};
-ghost use Rattle.scheme.specs.Cause.{orElse};
-ghost use Rattle.layout.specs.Read.{readCause};
 ghost use Rattle.layout.specs.Write.{writeLeaves};
 ghost use Rattle.layout.specs.Layout.{schemeIn, version1};
 ghost use Rattle.ready_schemes.specs.Answer.{readyAnswer};
 ghost use Rattle.buffers.specs.Buffers.{filledWhere};
-ghost use Rattle.joguyvi_records.specs.Records.{recordLength, recordNumber};
+ghost use Rattle.interface.specs.Records.{checkNumber, readyNumber, recordLength, rewriteNumber};
 
 mod records;
 
 // The cause for which a record is not read, or 0.
 #[no_mangle]
 pub extern "C" fn joguyvi_check(bytes: &[u8]) -> u8
-    ensures { λ r. ⌜ r ≡ readCause (now (bytes .entry)) ⌝ }
+    ensures { λ r. ⌜ r ≡ checkNumber (now (bytes .entry)) ⌝ }
 {
     record::cause(bytes)
 }
@@ -21,7 +19,7 @@ pub extern "C" fn joguyvi_check(bytes: &[u8]) -> u8
 // A record read and written again, and its length into a buffer of 1 number.
 #[no_mangle]
 pub extern "C" fn joguyvi_rewrite(bytes: &[u8], out: &mut [u8], length: &mut [u64]) -> u8
-    ensures answer { λ r. ⌜ r ≡ orElse (readCause (now (bytes .entry))) (recordNumber (schemeIn version1 (now (bytes .entry))) (now (out .entry)) (now (length .entry))) ⌝ }
+    ensures answer { λ r. ⌜ r ≡ rewriteNumber (now (bytes .entry)) (now (out .entry)) (now (length .entry)) ⌝ }
     ensures leaves { λ r. ⌜ now (out .exit) ≡ filledWhere r (writeLeaves (schemeIn version1 (now (bytes .entry))) (now (out .entry))) (now (out .entry)) ⌝ }
     ensures size { λ r. ⌜ now (length .exit) ≡ filledWhere r (recordLength (schemeIn version1 (now (bytes .entry))) (now (out .entry))) (now (length .entry)) ⌝ }
 {
@@ -36,7 +34,7 @@ pub extern "C" fn joguyvi_rewrite(bytes: &[u8], out: &mut [u8], length: &mut [u6
 // A ready scheme as a record, and its length into a buffer of 1 number.
 #[no_mangle]
 pub extern "C" fn joguyvi_ready(number: u64, base: u64, out: &mut [u8], length: &mut [u64]) -> u8
-    ensures answer { λ r. ⌜ r ≡ orElse (readyAnswer number base .number) (recordNumber (readyAnswer number base .scheme) (now (out .entry)) (now (length .entry))) ⌝ }
+    ensures answer { λ r. ⌜ r ≡ readyNumber number base (now (out .entry)) (now (length .entry)) ⌝ }
     ensures leaves { λ r. ⌜ now (out .exit) ≡ filledWhere r (writeLeaves (readyAnswer number base .scheme) (now (out .entry))) (now (out .entry)) ⌝ }
     ensures size { λ r. ⌜ now (length .exit) ≡ filledWhere r (recordLength (readyAnswer number base .scheme) (now (out .entry))) (now (length .entry)) ⌝ }
 {

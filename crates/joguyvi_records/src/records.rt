@@ -5,7 +5,7 @@ ghost use mathlib.Core.Path.{_≡_};
 ghost use Rattle.scheme.specs.Cause.{causeOf};
 ghost use Rattle.layout.specs.Write.{numberOf, valueOf, writeLeaves};
 ghost use Rattle.buffers.specs.Buffers.{filledWhere};
-ghost use Rattle.joguyvi_records.specs.Records.{recordLength, recordNumber};
+ghost use Rattle.interface.specs.Records.{recordLength, recordNumber};
 
 // The cause in an answer, or 0.
 fn number_of(answer: WriteAnswer) -> u8

@@ -20,7 +20,7 @@ use Rattle.layout.specs.RuleRow.{rowCause, ruleRow}
 use Rattle.rule_rows.specs.Laws.{row-read, row-framed, row-within}
 use Rattle.buffers.specs.Buffers.{bufferCause, filledWhere}
 use Rattle.buffers.specs.Laws.Sizes.{buffer-out, buffer-fits, thirteen}
-use Rattle.joguyvi_rows.specs.Rows.{partNumber, ruleRowNumber}
+use Rattle.interface.specs.Rows.{partNumber, ruleRowNumber}
 
 -- what is answered and left, for one buffer that is to hold x
 abbrev pub Parted : (number cause : ℕ) (x a a′ : List ℕ) → Type 0

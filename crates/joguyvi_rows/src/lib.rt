@@ -3,7 +3,7 @@ ghost use mathlib.Core.Path.{_≡_};
 ghost use Rattle.layout.specs.Layout.{schemeIn, version1};
 ghost use Rattle.layout.specs.RuleRow.{ruleRow};
 ghost use Rattle.buffers.specs.Buffers.{filledWhere};
-ghost use Rattle.joguyvi_rows.specs.Rows.{bandsNumber, lowerBands, rowIn, rowNumber, ruleRowNumber, upperBands};
+ghost use Rattle.interface.specs.Rows.{bandsNumber, lowerBands, rowIn, rowNumber, ruleRowNumber, upperBands};
 
 mod copies;
 mod row_buffers;

@@ -6,7 +6,7 @@ use scheme::or_else;
 ghost use mathlib.Core.Path.{_≡_};
 ghost use Prim.Native.Nat.{_≤_};
 ghost use Rattle.buffers.specs.Buffers.{buffersCause, filledWhere};
-ghost use Rattle.joguyvi_rows.specs.Rows.{lowerBands, partNumber, putRowNumber, upperBands};
+ghost use Rattle.interface.specs.Rows.{lowerBands, partNumber, putRowNumber, upperBands};
 
 // Puts an interval row into two buffers of 32 numbers, and answers the cause, or 0.
 pub fn put_row(answer: RowAnswer, lower: &mut [u64], upper: &mut [u64]) -> u8

@@ -15,12 +15,13 @@ use Rattle.layout.specs.Read.{readCause, readAnswer}
 use Rattle.one_year.specs.declared.StepAnswer.{StepAnswer}
 use Rattle.step.specs.Lists.{at}
 use Rattle.one_year.specs.Figure.{stepFigure}
-use Rattle.one_year.specs.StepAnswer.{stepCause, classRow, Reaches, StepAnswered}
+use Rattle.one_year.specs.StepAnswer.{stepCause, classRow, StepAnswered}
 use Rattle.layout.specs.Laws.Read.{read-cause, read-passed, read-in}
 use Rattle.buffers.specs.Buffers.{bufferCause, filledWhere}
 use Rattle.buffers.specs.Laws.Sizes.{buffer-size}
 use Rattle.buffers.specs.Laws.Pairs.{Paired}
-use Rattle.joguyvi_steps.specs.Steps.{payoffOf, stepBuffers, stepNumber, figureOf, RowKept}
+use Rattle.interface.specs.Steps.{payoffOf, stepBuffers, stepNumber, figureOf, RowKept}
+use Rattle.interface.specs.Laws.Steps.{row-kept}
 
 -- the buffers of a step with no cause have their sizes
 pub step-sizes : (payoff figure row : List ℕ) → stepBuffers payoff figure row ≡ 0 → (length figure ≡ 1) × (length row ≡ 32)
@@ -51,22 +52,13 @@ module _ (high : Bool) (s : Scheme) (payoff : List ℕ) (class : ℕ) (figure ro
       → Stepped high s n (orElse cause (stepBuffers payoff figure row)) payoff class figure row figure′ row′
   step-put {n} {figure′} {row′} told =
       let own : n ≡ 0 → answer .number ≡ 0 = λ z. first-none (answer .number) (stepBuffers payoff figure row) (sym (told .0) ∙ z) in
-      let whole : n ≡ 0 → row′ ≡ answer .row = λ z. told .1 .1 ∙ answered n (answer .row) row z in
       let shown : n ≡ 0 → figure′ ≡ answer .figure ∷ [] = λ z. told .1 .0 ∙ answered n (answer .figure ∷ []) figure z in
       let same : n ≡ 0 → answer .figure ∷ [] ≡ figureOf high s payoff class =
       λ z. ap (λ x. x ∷ []) (is .figure ∙ answered cause (stepFigure high (s .classes) (classRow s class) (at (payoffOf payoff))) 0 (sym (is .number) ∙ own z)) in (
         told .0 ∙ ap (λ x. orElse x (stepBuffers payoff figure row)) (is .number),
         (
           told .1 .0 ∙ filled-same n (answer .figure ∷ []) (figureOf high s payoff class) figure same (ℕ-discrete n 0),
-          record {
-            left = λ h. told .1 .1 ∙ declined n (answer .row) row h;
-            size = λ z. ap length (whole z) ∙ is .size;
-            beyond = λ z j l. ap (λ x. at x j) (whole z) ∙ is .beyond (own z) j l;
-            reaches = λ z.
-                subst₂ (λ x y. Reaches high (s .classes) (classRow s class) (at (payoffOf payoff)) (at x) y)
-                (sym (whole z)) (sym (ap (λ x. getD x 0 0) (shown z)))
-                (is .reaches (own z));
-          },
+          row-kept high s payoff class is own (λ z. ap (λ x. getD x 0 0) (shown z)) (told .1 .1),
         ),
       )
 

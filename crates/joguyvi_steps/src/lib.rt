@@ -4,7 +4,7 @@ ghost use mathlib.Core.Bool.{false, true};
 ghost use lib.ListN.{getD};
 ghost use Rattle.layout.specs.Layout.{schemeIn, version1};
 ghost use Rattle.buffers.specs.Buffers.{filledWhere};
-ghost use Rattle.joguyvi_steps.specs.Steps.{figureOf, RowKept, stepNumber};
+ghost use Rattle.interface.specs.Steps.{figureOf, RowKept, stepNumber};
 
 mod steps;
 

@@ -1,12 +1,12 @@
 -- Answers put into lent buffers, by cases.
 -- Assumes nothing.
 use Prim.Native.Nat.{ℕ}
-use mathlib.Core.Path.{_≡_, refl, ap, sym, _∙_, subst}
+use mathlib.Core.Path.{_≡_, refl, ap, sym, _∙_, subst, subst₂}
 use mathlib.Core.List.{List, [], _∷_}
 use native.Mathlib.Omega.{arith}
 use lib.ListN.{length, set}
 use Rattle.scheme.specs.Cause.{orElse}
-use Rattle.scheme.specs.Laws.Cause.{first-cause, second-cause, declined, answered, first-none}
+use Rattle.scheme.specs.Laws.Cause.{first-cause, second-cause, declined, answered}
 use Rattle.scheme.specs.declared.Scheme.{Scheme}
 use Rattle.layout.specs.declared.ReadAnswer.{ReadAnswer}
 use Rattle.layout.specs.Layout.{schemeIn, version1}
@@ -17,8 +17,9 @@ use Rattle.answers.specs.Answers.{numberOf, lowOf, highOf, sheetCause, lowShare
 use Rattle.answers.specs.Promises.{SheetPromise}
 use Rattle.buffers.specs.Buffers.{bufferCause, filledWhere}
 use Rattle.buffers.specs.Laws.Sizes.{buffer-out, buffer-fits, thirteen}
-use Rattle.joguyvi_years.specs.Shares.{sharesNumber}
-use Rattle.joguyvi_years.specs.Figures.{putNumber, putLeaves, boundsNumber, boundsLeaves, BufferKeeps}
+use Rattle.interface.specs.Shares.{sharesNumber}
+use Rattle.interface.specs.Figures.{putNumber, putLeaves, boundsNumber, boundsLeaves, BufferKeeps}
+use Rattle.interface.specs.Laws.Bounds.{bounds-kept}
 
 -- two numbers written into a buffer of 2
 two : (out : List ℕ) (a b : ℕ) → length out ≡ 2 → set (set out 0 a) 1 b ≡ a ∷ b ∷ []
@@ -60,27 +61,31 @@ module _ (answer : Scheme → Bounds) (keeps : Scheme → ℕ → ℕ → Type 0
   Told n after =
       (n ≡ boundsNumber bytes inRecord out) × ((after ≡ boundsLeaves bytes inRecord out) × BufferKeeps (keeps (schemeIn version1 bytes)) n after)
 
-  -- a record with a cause
+  -- what is kept by low and high is kept by the buffer (crate interface, `Laws.Bounds`)
+  told : {n : ℕ} {after : List ℕ} → n ≡ boundsNumber bytes inRecord out → after ≡ boundsLeaves bytes inRecord out → Told n after
+  told number leaves = (
+    number,
+    (
+      leaves,
+      subst₂ (λ n after. BufferKeeps (keeps (schemeIn version1 bytes)) n after)
+          (sym number) (sym leaves)
+          (bounds-kept (keeps (schemeIn version1 bytes)) bytes inRecord out (kept (schemeIn version1 bytes))),
+    ),
+  )
+
+  -- a record with a cause, and without
   pub bounds-stopped : (a .number ≡ 0 → ⊥) → Told (a .number) out
   bounds-stopped some =
       let h : readCause bytes ≡ 0 → ⊥ = λ z. some (read-cause bytes is ∙ z) in
-      (read-cause bytes is ∙ sym (first-cause (readCause bytes) (putNumber inRecord out) h), (sym (declined (readCause bytes) (putLeaves inRecord out) out h), λ z. absurd (some z)))
+      told (read-cause bytes is ∙ sym (first-cause (readCause bytes) (putNumber inRecord out) h)) (sym (declined (readCause bytes) (putLeaves inRecord out) out h))
 
-  -- a record without: what is kept by low and high is kept by the buffer
   pub bounds-passed : {b : Bounds} {n : ℕ} {after : List ℕ} → a .number ≡ 0 → b ≡ answer (a .scheme) → (n ≡ putNumber b out) × (after ≡ putLeaves b out) → Told n after
-  unfolding putNumber putLeaves
-  bounds-passed {b} {n} {after} none e p =
+  bounds-passed {b} none e p =
       let read = read-passed bytes is none in
       let same : b ≡ inRecord = e ∙ ap answer (read-in bytes is none) in
-      let number : n ≡ putNumber inRecord out = p .0 ∙ ap (λ x. putNumber x out) same in
-      let leaves : after ≡ putLeaves inRecord out = p .1 ∙ ap (λ x. putLeaves x out) same in
-      let filled : n ≡ 0 → after ≡ lowOf inRecord ∷ highOf inRecord ∷ [] = λ z. leaves ∙ answered (putNumber inRecord out) (lowOf inRecord ∷ highOf inRecord ∷ []) out (sym number ∙ z) in (
-        number ∙ sym (second-cause (readCause bytes) (putNumber inRecord out) read),
-        (
-          leaves ∙ sym (answered (readCause bytes) (putLeaves inRecord out) out read),
-          λ z. rw (filled z) (kept (schemeIn version1 bytes) (first-none (numberOf inRecord) (bufferCause 2 out) (sym number ∙ z))),
-        ),
-      )
+      told
+      (p .0 ∙ ap (λ x. putNumber x out) same ∙ sym (second-cause (readCause bytes) (putNumber inRecord out) read))
+      (p .1 ∙ ap (λ x. putLeaves x out) same ∙ sym (answered (readCause bytes) (putLeaves inRecord out) out read))
 
 -- the share sheet of a record: what is answered, what is left, and what is promised
 abbrev pub SharesTold : Scheme → (number cause year : ℕ) (low high low′ high′ : List ℕ) → Type 0

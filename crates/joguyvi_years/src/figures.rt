@@ -2,7 +2,7 @@
 use bounds::Bounds;
 ghost use mathlib.Core.Path.{_≡_};
 ghost use Rattle.answers.specs.Answers.{highOf, lowOf, numberOf};
-ghost use Rattle.joguyvi_years.specs.Figures.{putLeaves, putNumber};
+ghost use Rattle.interface.specs.Figures.{putLeaves, putNumber};
 
 // The cause in an answer, or 0.
 fn number_of(b: Bounds) -> u8

@@ -5,9 +5,9 @@ ghost use Rattle.answers.specs.Answers.{highShares, lowShares, meanAnswer, shar
 ghost use Rattle.answers.specs.Promises.{SheetPromise};
 ghost use Rattle.sheet_lines.specs.Answer.{sheetLeaves};
 ghost use Rattle.buffers.specs.Buffers.{filledWhere};
-ghost use Rattle.joguyvi_years.specs.Figures.{boundsLeaves, boundsNumber, BufferKeeps, MeanKept, ShareKept, TotalKept};
-ghost use Rattle.joguyvi_years.specs.Shares.{sharesNumber};
-ghost use Rattle.joguyvi_years.specs.Texts.{sheetLength, sheetNumber};
+ghost use Rattle.interface.specs.Figures.{boundsLeaves, boundsNumber, BufferKeeps, MeanKept, ShareKept, TotalKept};
+ghost use Rattle.interface.specs.Shares.{sharesNumber};
+ghost use Rattle.interface.specs.Texts.{sheetLength, sheetNumber};
 
 mod figures;
 mod texts;

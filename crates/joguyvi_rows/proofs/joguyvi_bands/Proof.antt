@@ -7,7 +7,7 @@ use Rattle.scheme.specs.Laws.Judged.{accepted-cause}
 use Rattle.layout.specs.Layout.{columnsIn, schemeIn, version1}
 use Rattle.layout.specs.Read.{frameCause}
 use Rattle.buffers.specs.Buffers.{buffersCause}
-use Rattle.joguyvi_rows.specs.Rows.{lowerBands, upperBands}
+use Rattle.interface.specs.Rows.{lowerBands, upperBands}
 use Rattle.layout.specs.Laws.Read.{read-cause, read-passed, read-in}
 use Rattle.buffers.specs.Laws.Pairs.{pair-stopped, pair-passed}
 use Rattle.joguyvi_rows.proofs.Same.{bands-same}

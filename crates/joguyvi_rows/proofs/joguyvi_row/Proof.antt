@@ -2,7 +2,7 @@
 -- Assumes nothing.
 use mathlib.Core.Path.{ap, _∙_}
 use Rattle.rows.specs.Rows.{rowAnswer}
-use Rattle.joguyvi_rows.specs.Rows.{rowIn, putRowNumber}
+use Rattle.interface.specs.Rows.{rowIn, putRowNumber}
 use Rattle.layout.specs.Laws.Read.{read-cause, read-passed, read-in}
 use Rattle.buffers.specs.Laws.Pairs.{pair-stopped, pair-passed}
 use Rattle.joguyvi_rows.proofs.Same.{row-same}

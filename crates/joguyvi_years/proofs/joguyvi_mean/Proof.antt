@@ -2,7 +2,7 @@
 -- Assumes nothing.
 use Rattle.answers.specs.Answers.{meanAnswer}
 use Rattle.answers.specs.Laws.Kept.{mean-kept}
-use Rattle.joguyvi_years.specs.Figures.{MeanKept}
+use Rattle.interface.specs.Figures.{MeanKept}
 use Rattle.joguyvi_years.proofs.Putting.{bounds-stopped, bounds-passed}
 use borrow.Author.Needs.{needs}
 use Rattle.joguyvi_years.proofs.joguyvi_mean.Statement.{statement}

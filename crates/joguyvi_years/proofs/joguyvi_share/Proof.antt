@@ -2,7 +2,7 @@
 -- Assumes nothing.
 use Rattle.answers.specs.Answers.{shareAnswer}
 use Rattle.answers.specs.Laws.Kept.{share-kept}
-use Rattle.joguyvi_years.specs.Figures.{ShareKept}
+use Rattle.interface.specs.Figures.{ShareKept}
 use Rattle.joguyvi_years.proofs.Putting.{bounds-stopped, bounds-passed}
 use borrow.Author.Needs.{needs}
 use Rattle.joguyvi_years.proofs.joguyvi_share.Statement.{statement}

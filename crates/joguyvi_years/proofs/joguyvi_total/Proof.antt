@@ -2,7 +2,7 @@
 -- Assumes nothing.
 use Rattle.answers.specs.Answers.{totalAnswer}
 use Rattle.answers.specs.Laws.Kept.{total-kept}
-use Rattle.joguyvi_years.specs.Figures.{TotalKept}
+use Rattle.interface.specs.Figures.{TotalKept}
 use Rattle.joguyvi_years.proofs.Putting.{bounds-stopped, bounds-passed}
 use borrow.Author.Needs.{needs}
 use Rattle.joguyvi_years.proofs.joguyvi_total.Statement.{statement}

@@ -9,7 +9,7 @@ use Rattle.scheme.specs.Tables.{tab}
 use Rattle.scheme.specs.Cause.{orElse}
 use Rattle.layout.specs.Layout.{version1, schemeIn}
 use Rattle.layout.specs.Read.{readCause}
-use Rattle.step.specs.Lists.{at}
+use Rattle.states.specs.States.{at}
 use Rattle.one_year.specs.Figure.{stepFigure}
 use Rattle.one_year.specs.StepAnswer.{stepCause, classRow, Reaches}
 use Rattle.buffers.specs.Buffers.{bufferCause}
