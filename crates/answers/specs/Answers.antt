@@ -9,8 +9,8 @@ use Rattle.scheme.specs.declared.Scheme.{Scheme}
 use Rattle.scheme.specs.Tables.{tab}
 use Rattle.scheme.specs.Access.{premiumAt}
 use Rattle.scheme.specs.Rows.{chainOf}
-use Rattle.queries.specs.Causes as causes
-pub use Rattle.queries.specs.Causes.{shareCause, moneyCause}
+use Rattle.answers.specs.Causes as causes
+pub use Rattle.answers.specs.Causes.{shareCause, moneyCause}
 use Rattle.answers.specs.declared.Bounds.{Bounds}
 use Rattle.answers.specs.declared.Bounds.the-variants.{Answered, Refused}
 

@@ -10,8 +10,8 @@ use Rattle.scheme.specs.declared.Scheme.{Scheme}
 use Rattle.scheme.specs.Tables.{tab}
 use Rattle.scheme.specs.Access.{premiumAt}
 use Rattle.scheme.specs.Rows.{chainOf}
-use Rattle.queries.specs.Causes as causes
-pub use Rattle.queries.specs.Causes.{totalPlace, tableSize}
+use Rattle.answers.specs.Causes as causes
+pub use Rattle.answers.specs.Causes.{totalPlace, tableSize}
 use Rattle.answers.specs.Answers.{startOf}
 
 -- the place of year t's figure j: the share of state j, or the mean where j is s

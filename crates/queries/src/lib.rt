@@ -6,7 +6,7 @@ ghost use Prim.Native.Nat.{_+_, _*_};
 ghost use mathlib.Core.Bool.{cond};
 ghost use lib.Dec.{ltb};
 ghost use Rattle.scheme.specs.Cause.{outside};
-ghost use Rattle.queries.specs.Causes.{moneyCause, shareCause, sheetCause, slicesCause, tableCause};
+ghost use Rattle.answers.specs.Causes.{moneyCause, shareCause, sheetCause, slicesCause, tableCause};
 
 // Cause 11: a class that is not one of 1 to s.
 fn class_cause(classes: u8, class: u64) -> u8

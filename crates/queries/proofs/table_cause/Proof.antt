@@ -4,7 +4,7 @@ use mathlib.Core.Path.{_≡_, ap, ap₂, _∙_}
 use native.Mathlib.Omega.{arith}
 use Rattle.scheme.specs.declared.Scheme.{Scheme}
 use Rattle.scheme.specs.Cause.{orElse}
-use Rattle.queries.specs.Causes.{slicesCause, tableSize}
+use Rattle.answers.specs.Causes.{slicesCause, tableSize}
 use borrow.Author.Needs.{needs}
 use Rattle.queries.proofs.table_cause.Statement.{statement}
 use Rattle.queries.proofs.table_cause.Tie as tie

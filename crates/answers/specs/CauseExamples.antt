@@ -4,7 +4,7 @@ use Rattle.setchain.specs.Sums.{sumTo}
 use Rattle.scheme.specs.Tables.{anyBelow}
 use Rattle.scheme.specs.Cause.{sizeOut, startOut, horizonOut, ruleOut, bandOut, sumOut, premiumOut, causeWhere}
 use Rattle.scheme.specs.Examples.{schemeA, single}
-use Rattle.queries.specs.Causes.{shareCause, moneyCause, sheetCause, tableSize, tableCause}
+use Rattle.answers.specs.Causes.{shareCause, moneyCause, sheetCause, tableSize, tableCause}
 
 -- a class above s, a year above the horizon, and both
 pub record ShareCauses : Type 0 where
@@ -15,10 +15,11 @@ pub record ShareCauses : Type 0 where
   pub none : shareCause schemeA 2 2 ≡ 0
   pub scheme : shareCause (single 2 0 1000000000 0) 3 101 ≡ 7
 
--- a slice one too long or too short: of s numbers for a sheet, and of 3 × 3 + 1 for the table
+-- a year above the horizon, also of a scheme that is not accepted; a slice one too long or too short: of s numbers for a sheet, and of 3 × 3 + 1 for the table
 pub record SliceCauses : Type 0 where
   pub money : moneyCause schemeA 3 ≡ 12
   pub moneyNone : moneyCause schemeA 2 ≡ 0
+  pub moneyScheme : moneyCause (single 2 0 1000000000 0) 101 ≡ 7
   pub sheet : sheetCause schemeA 2 2 3 ≡ 13
   pub sheetYear : sheetCause schemeA 3 2 3 ≡ 12
   pub sheetNone : sheetCause schemeA 2 2 2 ≡ 0
@@ -33,4 +34,4 @@ share-causes = record { class = refl; noClass = refl; year = refl; both = refl; 
 pub slice-causes : SliceCauses
 unfolding causeWhere sizeOut startOut horizonOut ruleOut bandOut sumOut premiumOut anyBelow sumTo
 slice-causes =
-    record { money = refl; moneyNone = refl; sheet = refl; sheetYear = refl; sheetNone = refl; size = refl; table = refl; tableNone = refl }
+    record { money = refl; moneyNone = refl; moneyScheme = refl; sheet = refl; sheetYear = refl; sheetNone = refl; size = refl; table = refl; tableNone = refl }
