@@ -14,7 +14,7 @@ use Rattle.scheme.specs.Access.{lowerAt, upperAt}
 use Rattle.scheme.specs.Laws.Tab.{tab-eq}
 use Rattle.layout.specs.declared.Band.{Band}
 use Rattle.layout.specs.declared.Band.the-variants.{Ends, NoMore}
-use Rattle.numbers.specs.Numbers.{beAt}
+use Rattle.big_endian.specs.Numbers.{beAt}
 use Rattle.layout.specs.Layout.{version1, lengthOf, schemeIn, classesIn, columnsIn}
 use Rattle.layout.specs.Frame.{Framed}
 use Rattle.layout.specs.Read.{frameCause, readCause}

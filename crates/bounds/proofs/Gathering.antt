@@ -9,7 +9,7 @@ use lib.ListN.{length, take, drop}
 use Rattle.setchain.specs.Sums.{sumTo, onlyIf}
 use Rattle.setchain.specs.Laws.Sums.{sumTo-eq}
 use Rattle.scheme.specs.Tables.{tab}
-use Rattle.gathering.specs.Gathered.{gathered, spareOf}
+use Rattle.scheme.specs.Gathered.{gathered, spareOf}
 use Rattle.scheme.specs.Laws.Tab.{length-tab, getD-tab}
 use Rattle.step.specs.Lists.{at}
 use Rattle.bounds.specs.Entries.{lows, rooms, counts, sumOf, Addable, Added, Listable, RowListed}

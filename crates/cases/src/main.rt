@@ -1,6 +1,5 @@
 // Prints document 01's examples that programs check, and every refusal number at least once; the gate compares the lines.
 use scheme::Scheme;
-use writing::WriteAnswer;
 
 // A word and a number.
 fn line(word: &[u8], x: u64) {
@@ -16,21 +15,6 @@ fn wide(x: u8) -> u64 {
 
 fn wider(x: u32) -> u64 {
     x as u64
-}
-
-// A word and what writing a record answered.
-fn wrote(word: &[u8], w: WriteAnswer) {
-    console::bytes(word);
-    match w {
-        WriteAnswer::Written(length) => {
-            console::number(length as u64);
-        }
-        WriteAnswer::Declined(number) => {
-            console::bytes(b" REFUSED");
-            console::number(number as u64);
-        }
-    }
-    console::end();
 }
 
 // A scheme of one class and two columns whose lowers sum to ONE.
@@ -105,6 +89,10 @@ fn refused_queries(s: Scheme) {
     );
     line(b"SHARE IN YEAR 101", wide(queries::share_cause(s, 1, 101)));
     line(b"TOTAL IN YEAR 101", wide(queries::money_cause(s, 101)));
+    line(
+        b"SHARE SHEET INTO 1 AND 2",
+        wide(queries::sheet_cause(s, 100, 1, 2)),
+    );
 }
 
 // The first ready scheme: where claims lead, and premiums.
@@ -202,9 +190,10 @@ fn changed(word: &[u8], at: usize, x: u8) {
     line(word, first(&b, 45));
 }
 
-// Damaged records, by number.
+// Example A's record, and damaged ones, by number.
 fn damaged() {
     let a = example();
+    line(b"EXAMPLE A", first(&a, 45));
     line(b"NO BYTE", first(&a, 0));
     line(b"6 BYTES", first(&a, 6));
     line(b"44 BYTES", first(&a, 44));
@@ -215,47 +204,6 @@ fn damaged() {
     line(b"456 BYTES", first(&long, 456));
 }
 
-// A part of bytes as numbers.
-fn shown(word: &[u8], part: &[u8]) {
-    console::bytes(word);
-    let mut i: usize = 0;
-    while i < part.len() {
-        console::number(wide(part[i]));
-        i += 1;
-    }
-    console::end();
-}
-
-// The rule row of a class.
-fn rules(word: &[u8], bytes: &[u8], class: u64) {
-    shown(word, rule_rows::rule_row(bytes, class));
-}
-
-// Example A written into too few bytes and into more than enough.
-fn written(s: Scheme) {
-    let mut short = [170u8; 44];
-    wrote(b"WRITE INTO 44", writing::write(s, &mut short));
-    shown(b"LEFT", &short);
-    let mut out = [170u8; 50];
-    wrote(b"WRITE INTO 50", writing::write(s, &mut out));
-    shown(b"RECORD AND WHAT IS PAST IT", &out);
-}
-
-// Example A's rule rows.
-fn rules_a(bytes: &[u8]) {
-    rules(b"RULES OF CLASS 1", bytes, 1);
-    rules(b"RULES OF CLASS 2", bytes, 2);
-    rules(b"RULES OF CLASS 3", bytes, 3);
-}
-
-// Example A: read, written, and its rule rows.
-fn example_a(bytes: &[u8]) {
-    let answer = record::read(bytes);
-    line(b"READ", wide(answer.number));
-    written(answer.scheme);
-    rules_a(bytes);
-}
-
 fn main() {
     edges();
     refused_schemes();
@@ -263,6 +211,4 @@ fn main() {
     ready_one();
     ready_edges();
     damaged();
-    let a = example();
-    example_a(&a);
 }

@@ -90,13 +90,20 @@ fn answer(b: Bounds) {
     }
 }
 
-// The rule row of a class: its length and checksum.
+// The bytes of a part as numbers, and the end of the line.
+fn shown(part: &[u8]) {
+    let mut i: usize = 0;
+    while i < part.len() {
+        console::number(wide(part[i]));
+        i += 1;
+    }
+    console::end();
+}
+
+// The rule row of a class.
 fn rules(bytes: &[u8], class: u64) {
     word(b"RULES", class);
-    let part = rule_rows::rule_row(bytes, class);
-    console::number(part.len() as u64);
-    console::number(checksum(part));
-    console::end();
+    shown(rule_rows::rule_row(bytes, class));
 }
 
 // The band of a column, if there is one.

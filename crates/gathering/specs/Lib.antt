@@ -1,4 +1,2 @@
--- Read in this order: the entries that cells make, then worked cases.
-pub mod Gathered
-pub mod Examples
+-- The laws of what cells make and leave (crate scheme, Gathered).
 pub mod Laws

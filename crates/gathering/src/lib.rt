@@ -4,7 +4,7 @@ ghost use Prim.Native.Nat.{min, _+_, _-_, _≤_};
 ghost use lib.ListN.{length, replicate};
 ghost use Rattle.setchain.specs.Rows.{ONE};
 ghost use Rattle.scheme.specs.Tables.{tab};
-ghost use Rattle.gathering.specs.Gathered.{gathered, raised, spareOf, Capped};
+ghost use Rattle.scheme.specs.Gathered.{gathered, raised, spareOf, Capped};
 
 // b more than a, at most ONE
 fn add_capped(a: u64, b: u32) -> u64

@@ -11,8 +11,8 @@ use lib.ListN.{length, take, drop, length-drop}
 use lib.Seq.{sets, length-take-le, take-length, drop-length}
 use Rattle.scheme.specs.Cause.{outside}
 use Rattle.scheme.specs.Laws.Cause.{first-cause, second-cause, declined, answered}
-use Rattle.numbers.specs.Numbers.{partPut}
-use Rattle.numbers.specs.Laws.{part-held}
+use Rattle.big_endian.specs.Numbers.{partPut}
+use Rattle.big_endian.specs.Laws.{part-held}
 use Rattle.record.specs.Laws.Lists.{sets-front}
 use Rattle.layout.specs.Layout.{version1, rowPlace, classesIn, columnsIn}
 use Rattle.layout.specs.Read.{readCause}

@@ -4,7 +4,7 @@ use mathlib.Core.List.{List, [], _∷_, _++_}
 use Rattle.scheme.specs.declared.Scheme.{Scheme}
 use Rattle.scheme.specs.Tables.{tab}
 use Rattle.scheme.specs.Access.{ruleAt, lowerAt, upperAt, premiumAt}
-use Rattle.numbers.specs.Numbers.{beBytes}
+use Rattle.big_endian.specs.Numbers.{beBytes}
 use Rattle.layout.specs.Joined.{joined}
 use Rattle.layout.specs.Layout.{Layout, lengthOf}
 

@@ -8,7 +8,7 @@ use Rattle.scheme.specs.Tables.{tab, anyBelow}
 use Rattle.scheme.specs.Cause.{sizeOut, startOut, horizonOut, ruleOut, bandOut, sumOut, premiumOut, causeWhere}
 use Rattle.scheme.specs.Stored.{upTo, schemeOf, noScheme}
 use Rattle.scheme.specs.Examples.{schemeA, single}
-use Rattle.numbers.specs.Numbers.{beBytes}
+use Rattle.big_endian.specs.Numbers.{beBytes}
 use Rattle.layout.specs.declared.Band.the-variants.{Ends, NoMore}
 use Rattle.layout.specs.declared.WriteAnswer.the-variants.{Written, Declined}
 use Rattle.layout.specs.Numbers.{beAt}

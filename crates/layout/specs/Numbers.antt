@@ -1,2 +1,2 @@
 -- Numbers in bytes, as crate numbers defines them.
-unfoldable pub use Rattle.numbers.specs.Numbers.{beAt}
+unfoldable pub use Rattle.big_endian.specs.Numbers.{beAt}

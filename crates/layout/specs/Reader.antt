@@ -6,7 +6,7 @@ use lib.Dec.{eqb, ltb}
 use Rattle.scheme.specs.Tables.{tab}
 use Rattle.layout.specs.declared.Band.{Band}
 use Rattle.layout.specs.declared.Band.the-variants.{Ends, NoMore}
-use Rattle.numbers.specs.Numbers.{beAt}
+use Rattle.big_endian.specs.Numbers.{beAt}
 use Rattle.layout.specs.Layout.{version1, bandPlace, classesIn, columnsIn}
 use Rattle.layout.specs.Read.{readCause}
 

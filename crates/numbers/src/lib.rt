@@ -2,7 +2,7 @@
 ghost use mathlib.Core.Path.{_≡_};
 ghost use Prim.Native.Nat.{_+_, _<_};
 ghost use lib.Dec.{leb};
-ghost use Rattle.numbers.specs.Numbers.{numberAt};
+ghost use Rattle.big_endian.specs.Numbers.{numberAt};
 
 // Whether a length holds `width` bytes from place `at` on.
 pub fn holds(length: usize, at: usize, width: usize) -> bool

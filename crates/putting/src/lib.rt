@@ -2,7 +2,7 @@
 use numbers::holds;
 ghost use mathlib.Core.Path.{_≡_};
 ghost use Prim.Native.Nat.{_%_};
-ghost use Rattle.numbers.specs.Numbers.{numberPut, partPut};
+ghost use Rattle.big_endian.specs.Numbers.{numberPut, partPut};
 
 // the low byte of a number
 fn low(x: u32) -> u8

@@ -9,7 +9,7 @@ use Rattle.scheme.specs.declared.Scheme.{Scheme}
 use Rattle.scheme.specs.Tables.{tab}
 use Rattle.scheme.specs.Cause.{causeOf, orElse, classCause}
 use Rattle.scheme.specs.Rows.{chainOf}
-use Rattle.gathering.specs.Gathered.{gathered}
+use Rattle.scheme.specs.Gathered.{gathered}
 use Rattle.rows.specs.declared.RowAnswer.{RowAnswer}
 
 -- the entries of 32 classes that some rules make with their bands' ends: 0 beyond s

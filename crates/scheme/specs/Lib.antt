@@ -1,10 +1,12 @@
--- Read in this order: tables, the scheme's parts, what acceptance asks, the first cause, the code's stages, interval rows, what a made scheme holds, worked cases.
+-- Read in this order: tables, the scheme's parts, what acceptance asks, the first cause, the code's stages, interval rows, what the cells of one class come to, what a made scheme holds, worked cases.
 pub mod Tables
 pub mod Access
 pub mod Accepted
 pub mod Cause
 pub mod Stages
 pub mod Rows
+pub mod Gathered
 pub mod Stored
 pub mod Examples
+pub mod GatheredExamples
 pub mod Laws

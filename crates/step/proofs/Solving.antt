@@ -13,7 +13,7 @@ use Rattle.setchain.specs.Rows.{IntervalRow, SoundRow}
 use Rattle.setchain.specs.Laws.Sums.{sumTo-eq}
 use Rattle.setchain.specs.Laws.Step.{low-figure-only, high-figure-only}
 use Rattle.scheme.specs.Tables.{tab}
-use Rattle.gathering.specs.Gathered.{gathered}
+use Rattle.scheme.specs.Gathered.{gathered}
 use Rattle.scheme.specs.Laws.Tab.{length-tab, getD-tab}
 use Rattle.order.specs.Order.{NotAfter, Arranged, Placed, numbered, sorted}
 use Rattle.order.specs.Laws.Arranging.{numbered-placed, sorted-holds}

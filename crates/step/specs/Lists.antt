@@ -4,7 +4,7 @@ use mathlib.Core.Path.{_≡_}
 use mathlib.Core.List.{List}
 use lib.ListN.{take, drop}
 use Rattle.setchain.specs.Rows.{IntervalRow}
-use Rattle.gathering.specs.Gathered.{gathered}
+use Rattle.scheme.specs.Gathered.{gathered}
 pub use Rattle.order.specs.Order.{at}
 
 -- the interval row that two lists hold

@@ -13,7 +13,7 @@ use Rattle.scheme.specs.Access.{ruleAt, lowerAt, upperAt, premiumAt}
 use Rattle.scheme.specs.Cause.{causeOf}
 use Rattle.scheme.specs.Accepted.{Accepted}
 use Rattle.scheme.specs.Laws.Judged.{accepted-cause, cause-accepted}
-use Rattle.numbers.specs.Numbers.{beAt, beBytes}
+use Rattle.big_endian.specs.Numbers.{beAt, beBytes}
 use Rattle.scheme.specs.Stored.{schemeOf, cleared}
 use Rattle.layout.specs.Layout.{version1, lengthOf, rowPlace, bandPlace, premiumPlace, classesIn, columnsIn, schemeIn}
 use Rattle.layout.specs.Bytes.{headerBytes, headerOf, rulesOf, bandsOf, premiumsOf, bytesOf}
@@ -21,7 +21,7 @@ use Rattle.layout.specs.Read.{frameCause, readCause, readAnswer}
 use Rattle.layout.specs.Write.{recordLength, writeLeaves}
 use Rattle.layout.specs.Frame.{Framed}
 use Rattle.writing.specs.Laws.Lists.{tab-part}
-use Rattle.numbers.specs.Laws.{put-read}
+use Rattle.big_endian.specs.Laws.{put-read}
 use Rattle.layout.specs.Laws.Frame.{framed}
 use Rattle.layout.specs.Laws.Read.{read-framed, scheme-next, answer-scheme}
 use Rattle.writing.specs.Laws.Bytes.{length-header, length-bytes}

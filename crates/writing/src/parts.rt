@@ -6,7 +6,7 @@ ghost use lib.ListN.{length, getD, drop};
 ghost use lib.Seq.{sets};
 ghost use Rattle.scheme.specs.Tables.{tab};
 ghost use Rattle.scheme.specs.Accepted.{SizeFits};
-ghost use Rattle.numbers.specs.Numbers.{beBytes};
+ghost use Rattle.big_endian.specs.Numbers.{beBytes};
 ghost use Rattle.layout.specs.Joined.{joined};
 ghost use Rattle.layout.specs.Layout.{version1};
 ghost use Rattle.layout.specs.Bytes.{headerBytes, bandBytes, bytesOf};

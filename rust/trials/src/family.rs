@@ -155,8 +155,11 @@ pub fn report_record(out: &mut String, number: u64, record: &[u8]) {
 
 fn report_rules(out: &mut String, record: &[u8], classes: &[u64]) {
     for &class in classes {
-        let row = plain::rule_row(record, class);
-        put!(out, "RULES {class} {} {}\n", row.len(), bytes_sum(row));
+        put!(out, "RULES {class}");
+        for rule in plain::rule_row(record, class) {
+            put!(out, " {rule}");
+        }
+        out.push('\n');
     }
 }
 

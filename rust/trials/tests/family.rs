@@ -20,6 +20,6 @@ fn report_is_fixed() {
     assert!(report.ends_with('\n'));
     assert_eq!(
         (report.len(), bytes_sum(report.as_bytes())),
-        (67432, 238610837)
+        (66820, 1264654250)
     );
 }

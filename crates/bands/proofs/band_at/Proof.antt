@@ -7,7 +7,7 @@ use lib.ListN.{length}
 use borrow.Author.Tests.{not-true, not-false}
 use Rattle.layout.specs.Reader.{stored}
 use Rattle.layout.specs.Laws.Read.{read-framed}
-use Rattle.numbers.specs.Laws.{read-held}
+use Rattle.big_endian.specs.Laws.{read-held}
 use Rattle.bands.specs.Laws.{stored-read, band-within, answer-none, answer-ends}
 use borrow.Author.Needs.{needs}
 use Rattle.bands.proofs.band_at.Statement.{statement}

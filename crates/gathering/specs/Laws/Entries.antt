@@ -19,7 +19,7 @@ use Rattle.scheme.specs.Access.{ruleAt, lowerAt, upperAt}
 use Rattle.scheme.specs.Accepted.{Accepted}
 use Rattle.scheme.specs.Rows.{cellsOf, chainOf}
 use Rattle.scheme.specs.Laws.Sound.{accepted-cells}
-use Rattle.gathering.specs.Gathered.{gathered}
+use Rattle.scheme.specs.Gathered.{gathered}
 
 -- a rule is class j + 1 exactly where its target is state j
 same-test : (rule j : ℕ) → 1 ≤ rule → eqb rule (suc j) ≡ eqb (rule - 1) j

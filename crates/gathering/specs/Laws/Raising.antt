@@ -12,7 +12,7 @@ use Rattle.setchain.specs.Sums.{sumTo, onlyIf}
 use Rattle.setchain.specs.Rows.{ONE}
 use Rattle.setchain.specs.Laws.Sums.{onlyIf-true, onlyIf-false, total-more}
 use Rattle.scheme.specs.Tables.{tab}
-use Rattle.gathering.specs.Gathered.{gathered, Capped, raised}
+use Rattle.scheme.specs.Gathered.{gathered, Capped, raised}
 use Rattle.scheme.specs.Laws.Tab.{length-tab, getD-tab, as-tab, tab-eq}
 
 -- a rule that leads to none of the entries leaves them

@@ -4,7 +4,7 @@ use mathlib.Core.Path.{sym, _∙_}
 use native.Mathlib.Omega.{arith}
 use lib.ListN.{length}
 use borrow.Author.Tests.{leb-true, not-true, not-false}
-use Rattle.numbers.specs.Laws.{read-held, read-none, beAt-2}
+use Rattle.big_endian.specs.Laws.{read-held, read-none, beAt-2}
 use borrow.Author.Needs.{needs}
 use Rattle.numbers.proofs.be2.Statement.{statement}
 use Rattle.numbers.proofs.be2.Tie as tie

@@ -3,7 +3,7 @@ use Prim.Native.Nat.{_+_}
 use mathlib.Core.Path.{sym}
 use native.Mathlib.Omega.{arith}
 use borrow.Author.Tests.{lt-leb}
-use Rattle.numbers.specs.Laws.{held-within}
+use Rattle.big_endian.specs.Laws.{held-within}
 use Rattle.numbers.proofs.holds.Statement.{statement}
 use Rattle.numbers.proofs.holds.Tie as tie
 

@@ -5,7 +5,7 @@ use native.Mathlib.Omega.{arith}
 use lib.ListN.{length, take, drop}
 use lib.Seq.{sets, length-sets}
 use borrow.Author.Tests.{leb-true, not-true, not-false}
-use Rattle.numbers.specs.Laws.{copy-more, part-held, part-none, part-no-room}
+use Rattle.big_endian.specs.Laws.{copy-more, part-held, part-none, part-no-room}
 use borrow.Author.Needs.{needs}
 use Rattle.putting.proofs.copy.Statement.{statement}
 use Rattle.putting.proofs.copy.Tie as tie

@@ -4,7 +4,7 @@ use mathlib.Core.Path.{sym, _∙_}
 use native.Mathlib.Omega.{arith}
 use lib.ListN.{length, length-set}
 use borrow.Author.Tests.{leb-true, not-true, not-false}
-use Rattle.numbers.specs.Laws.{put-held, put-none, put-4}
+use Rattle.big_endian.specs.Laws.{put-held, put-none, put-4}
 use borrow.Author.Needs.{needs}
 use Rattle.putting.proofs.put4.Statement.{statement}
 use Rattle.putting.proofs.put4.Tie as tie

@@ -7,7 +7,7 @@ use native.Mathlib.Nat.{le-refl, add-zero, zero-add}
 use lib.ListN.{length, getD, take, drop, set, length-set, length-drop}
 use lib.Seq.{sets, sets-eq, getD-drop, getD-take, length-take-le, getD-set-other, getD-set-same}
 use Rattle.layout.specs.Joined.{joined}
-pub use Rattle.numbers.specs.Laws.{sets-append, sets-more}
+pub use Rattle.big_endian.specs.Laws.{sets-append, sets-more}
 
 -- a part of a list: its length and its entries
 pub part-length : (n p : ℕ) (l : List ℕ) → p + n ≤ length l → length (take n (drop p l)) ≡ n

@@ -10,14 +10,14 @@ use Rattle.scheme.specs.declared.Scheme.{Scheme}
 use Rattle.scheme.specs.Tables.{tab}
 use Rattle.scheme.specs.Access.{ruleAt, lowerAt, upperAt, premiumAt}
 use Rattle.scheme.specs.Laws.Tab.{length-tab, getD-tab, tab-eq}
-use Rattle.numbers.specs.Numbers.{beAt, beBytes}
+use Rattle.big_endian.specs.Numbers.{beAt, beBytes}
 use Rattle.layout.specs.Joined.{joined}
 use Rattle.scheme.specs.Stored.{schemeOf}
 use Rattle.layout.specs.Layout.{Layout, lengthOf, rowPlace, bandPlace, premiumPlace, schemeFrom}
 use Rattle.layout.specs.Bytes.{bandBytes, rulesOf, bandsOf, premiumsOf}
 use Rattle.writing.specs.Laws.Lists.{tab-part, joined-parts, getD-joined}
 use Rattle.record.specs.Laws.Lists.{joined-eq}
-use Rattle.numbers.specs.Laws.{put-read, read-put, beAt-eq, length-beBytes}
+use Rattle.big_endian.specs.Laws.{put-read, read-put, beAt-eq, length-beBytes}
 use Rattle.writing.specs.Laws.Numbers.{length-band}
 use Rattle.record.specs.Laws.Made.{rule-made, lower-made, upper-made, premium-made}
 use Rattle.writing.specs.Laws.Bytes.{length-rules, length-bands}

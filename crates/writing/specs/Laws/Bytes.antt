@@ -7,7 +7,7 @@ use lib.ListN.{length, getD, drop, length-append}
 use lib.Seq.{sets}
 use Rattle.scheme.specs.declared.Scheme.{Scheme}
 use Rattle.scheme.specs.Access.{ruleAt, lowerAt, upperAt, premiumAt}
-use Rattle.numbers.specs.Numbers.{beBytes}
+use Rattle.big_endian.specs.Numbers.{beBytes}
 use Rattle.layout.specs.Joined.{joined}
 use Rattle.layout.specs.Write.{recordLength}
 use Rattle.scheme.specs.Tables.{tab}
@@ -16,7 +16,7 @@ use Rattle.layout.specs.Bytes.{bandBytes, headerBytes, headerOf, rulesOf, bands
 use Rattle.scheme.specs.Laws.Tab.{length-tab}
 use Rattle.writing.specs.Laws.Lists.{length-joined, sets-4}
 use Rattle.record.specs.Laws.Lists.{sets-front}
-use Rattle.numbers.specs.Laws.{length-beBytes}
+use Rattle.big_endian.specs.Laws.{length-beBytes}
 use Rattle.writing.specs.Laws.Numbers.{length-band}
 
 module _ (y : Layout) (s : Scheme) where

@@ -10,7 +10,7 @@ use lib.ListN.{length, getD, take, drop, length-append, List·getD-append}
 use lib.Seq.{sets, getD-append-add, take-add, drop-drop}
 use Rattle.scheme.specs.Tables.{tab}
 use Rattle.scheme.specs.Laws.Tab.{as-tab}
-use Rattle.numbers.specs.Laws.{sets-append}
+use Rattle.big_endian.specs.Laws.{sets-append}
 use Rattle.layout.specs.Joined.{joined}
 use Rattle.record.specs.Laws.Lists.{part-length, part-at}
 

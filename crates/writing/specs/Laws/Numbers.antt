@@ -5,9 +5,9 @@ use mathlib.Core.List.{List}
 use native.Mathlib.Omega.{arith}
 use lib.ListN.{length, set, length-append}
 use lib.Seq.{sets, length-sets}
-use Rattle.numbers.specs.Numbers.{beBytes, numberPut}
+use Rattle.big_endian.specs.Numbers.{beBytes, numberPut}
 use Rattle.layout.specs.Bytes.{bandBytes, headerBytes}
-use Rattle.numbers.specs.Laws.{sets-append, length-beBytes, put-held}
+use Rattle.big_endian.specs.Laws.{sets-append, length-beBytes, put-held}
 
 pub length-band : (lower upper : ℕ) → length (bandBytes lower upper) ≡ 8
 length-band lower upper = omega (arith, length-append (beBytes 4 lower) (beBytes 4 upper), length-beBytes 4 lower, length-beBytes 4 upper)

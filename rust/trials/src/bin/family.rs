@@ -10,14 +10,14 @@
 //!
 //! ```text
 //! RECORD number length ANSWER      of reading; OK alone
-//! RULES class length sum           the rule row; class 0, 1
+//! RULES class rule ...             the rule row; class 0, 1
 //! BANDS lower upper ...            all bands in order
 //! ```
 //!
 //! and, where it is accepted:
 //!
 //! ```text
-//! RULES class length sum           class start, s, s + 1
+//! RULES class rule ...             class start, s, s + 1
 //! WRITE room ANSWER sum            room = length, length + 5, length - 1;
 //!                                  OK length; then in any case the checksum
 //!                                  of the room, filled with AA beforehand

@@ -5,7 +5,7 @@ use native.Mathlib.Omega.{arith}
 use Rattle.scheme.specs.Tables.{tab}
 use Rattle.layout.specs.Numbers.{beAt}
 use Rattle.scheme.specs.Stored.{upTo}
-use Rattle.numbers.specs.Laws.{read-held}
+use Rattle.big_endian.specs.Laws.{read-held}
 use Rattle.record.specs.Laws.Stored.{fill-none, fill-more}
 use borrow.Author.Needs.{needs}
 use Rattle.record.proofs.reading.ends.Statement.{statement}

@@ -3,8 +3,8 @@ use mathlib.Core.Path.{_≡_, _∙_}
 use native.Mathlib.Omega.{arith}
 use lib.ListN.{length, set, length-set}
 use lib.Seq.{sets, length-sets}
-use Rattle.numbers.specs.Numbers.{beBytes}
-use Rattle.numbers.specs.Laws.{put-held}
+use Rattle.big_endian.specs.Numbers.{beBytes}
+use Rattle.big_endian.specs.Laws.{put-held}
 use Rattle.writing.specs.Laws.Numbers.{put-header}
 use borrow.Author.Needs.{needs}
 use Rattle.writing.proofs.parts.header.Statement.{statement}

@@ -4,10 +4,10 @@ use mathlib.Core.Path.{_≡_, _∙_}
 use native.Mathlib.Omega.{arith}
 use lib.ListN.{length, getD}
 use lib.Seq.{sets, length-sets}
-use Rattle.numbers.specs.Numbers.{beBytes}
+use Rattle.big_endian.specs.Numbers.{beBytes}
 use Rattle.layout.specs.Joined.{joined}
 use Rattle.writing.specs.Laws.Lists.{join-none, join-more}
-use Rattle.numbers.specs.Laws.{length-beBytes, put-held}
+use Rattle.big_endian.specs.Laws.{length-beBytes, put-held}
 use borrow.Author.Needs.{needs}
 use Rattle.writing.proofs.parts.premiums.Statement.{statement}
 use Rattle.writing.proofs.parts.premiums.Tie as tie

@@ -8,7 +8,7 @@ use lib.Seq.{sets, length-sets}
 use Rattle.scheme.specs.Tables.{tab}
 use Rattle.layout.specs.Joined.{joined}
 use Rattle.scheme.specs.Laws.Tab.{length-tab}
-use Rattle.numbers.specs.Laws.{part-held}
+use Rattle.big_endian.specs.Laws.{part-held}
 use Rattle.writing.specs.Laws.Lists.{tab-part, join-none, join-more}
 use borrow.Author.Needs.{needs}
 use Rattle.writing.proofs.parts.rules.Statement.{statement}

@@ -1,7 +1,7 @@
 -- Numbers read and put, computed; the values are those of document 01's example A.
 use mathlib.Core.Path.{_≡_, refl}
 use mathlib.Core.List.{[], _∷_}
-use Rattle.numbers.specs.Numbers.{beAt, beBytes, numberAt, numberPut, partPut}
+use Rattle.big_endian.specs.Numbers.{beAt, beBytes, numberAt, numberPut, partPut}
 
 -- 800000000 in 4 bytes and 45 in 2, at places that hold them and one past
 pub number-read : (numberAt 4 (9 ∷ 47 ∷ 175 ∷ 8 ∷ 0 ∷ []) 1 ≡ 800000000) × (numberAt 2 (1 ∷ 0 ∷ 45 ∷ []) 1 ≡ 45) × (numberAt 2 (1 ∷ 0 ∷ 45 ∷ []) 2 ≡ 0)

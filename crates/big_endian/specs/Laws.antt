@@ -11,7 +11,7 @@ use lib.Dec.{leb}
 use lib.ListN.{length, getD, take, drop, set, length-append, length-drop, List·getD-append}
 use lib.Seq.{sets, getD-at, getD-drop, take-suc, length-take-le}
 use borrow.Author.Tests.{le-leb, lt-leb}
-use Rattle.numbers.specs.Numbers.{beAt, beBytes, holds, numberAt, numberPut, partPut}
+use Rattle.big_endian.specs.Numbers.{beAt, beBytes, holds, numberAt, numberPut, partPut}
 
 -- a number's bytes are as many as its width
 pub length-beBytes : (w x : ℕ) → length (beBytes w x) ≡ w

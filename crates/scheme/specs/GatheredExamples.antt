@@ -3,7 +3,7 @@ use mathlib.Core.Path.{_≡_, refl}
 use mathlib.Core.List.{[], _∷_}
 use Rattle.setchain.specs.Sums.{sumTo, onlyIf}
 use Rattle.setchain.specs.Rows.{ONE}
-use Rattle.gathering.specs.Gathered.{gathered, spareOf}
+use Rattle.scheme.specs.Gathered.{gathered, spareOf}
 
 -- two cells that lead to class 1, and one with no band
 pub record GatheredTwice : Type 0 where

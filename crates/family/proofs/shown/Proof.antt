@@ -1,18 +1,15 @@
--- `shown` is safe and ends.
+-- `shown` is safe and ends: the place moves on.
 use Prim.Native.Nat.{_≤_, _-_}
 use lib.ListN.{length}
 use borrow.Author.Needs.{needs}
-use Rattle.cases.proofs.shown.Statement.{statement}
-use Rattle.cases.proofs.shown.Tie as tie
+use Rattle.family.proofs.shown.Statement.{statement}
+use Rattle.family.proofs.shown.Tie as tie
 
 abbrev Inv-loop : tie.InvT-loop
-Inv-loop word part i₀ i = i ≤ length part
+Inv-loop part i₀ i = i ≤ length part
 
 abbrev μ-loop : tie.MeasureT-loop
-μ-loop word part i₀ i = length part - i
-
-bytes-requires : tie.Need-bytes-requires Inv-loop μ-loop
-bytes-requires c κs = tt
+μ-loop part i₀ i = length part - i
 
 loop-holds : tie.Need-loop-holds Inv-loop μ-loop
 loop-holds c = search needs
@@ -47,7 +44,6 @@ shown-spec =
     (tie.spec
     Inv-loop
     μ-loop
-    bytes-requires
     loop-holds
     shared-slice-read-wide
     wide-requires
