@@ -14,6 +14,6 @@ unfolding numberPut beBytes
 number-put = (refl, refl, refl)
 
 -- two bytes copied, and none where one of the slices does not hold them
-pub part-put : (partPut 2 (7 ∷ 8 ∷ 9 ∷ []) 1 (0 ∷ 1 ∷ 2 ∷ []) 0 ≡ 8 ∷ 9 ∷ 2 ∷ []) × (partPut 2 (7 ∷ 8 ∷ 9 ∷ []) 2 (0 ∷ 1 ∷ 2 ∷ []) 0 ≡ 0 ∷ 1 ∷ 2 ∷ []) × (partPut 2 (7 ∷ 8 ∷ 9 ∷ []) 1 (0 ∷ 1 ∷ 2 ∷ []) 2 ≡ 0 ∷ 1 ∷ 2 ∷ [])
+pub part-put : (partPut 2 (7 ∷ 8 ∷ 9 ∷ []) 1 (0 ∷ 1 ∷ 2 ∷ []) 0 ≡ 8 ∷ 9 ∷ 2 ∷ []) × (partPut 2 (7 ∷ 8 ∷ 9 ∷ []) 2 (0 ∷ 1 ∷ 2 ∷ []) 0 ≡ 0 ∷ 1 ∷ 2 ∷ []) × (partPut 2 (7 ∷ 8 ∷ 9 ∷ []) 1 (0 ∷ 1 ∷ 2 ∷ []) 2 ≡ 0 ∷ 1 ∷ 2 ∷ []) × (partPut 2 (7 ∷ 8 ∷ 9 ∷ []) 1 (0 ∷ []) 0 ≡ 0 ∷ [])
 unfolding partPut
-part-put = (refl, refl, refl)
+part-put = (refl, refl, refl, refl)
