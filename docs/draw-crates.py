@@ -3,8 +3,9 @@
 import pathlib
 
 OUTSIDE = {"io", "libc", "console"}  # the kit's own libraries, and the programs' input and output
+ROOT = pathlib.Path(__file__).resolve().parent.parent
 CHECKS = {"cases", "family", "sheets"}
-WIDTH, HEIGHT, GAP, STEP = 108, 34, 22, 78
+WIDTH, HEIGHT, GAP, STEP = 122, 34, 16, 78
 
 
 def read(path):
@@ -29,6 +30,11 @@ def levels(crates):
     return level
 
 
+def has_code(name):
+    """Whether a function stands in the crate; else it holds definitions alone."""
+    return any("fn " in path.read_text() for path in (ROOT / "crates" / name / "src").glob("*.rt"))
+
+
 def draw(crates):
     level = levels(crates)
     rows = [[n for n in crates if level[n] == k] for k in range(max(level.values()) + 1)]
@@ -48,11 +54,11 @@ def draw(crates):
             a, b = place[d]
             out.append(f'<line x1="{x + WIDTH / 2}" y1="{y + HEIGHT}" x2="{a + WIDTH / 2}" y2="{b}" stroke="#8a94a6"/>')
     for name, (x, y) in place.items():
-        fill = "#eef1f5" if name in CHECKS else "#cfe3f7"
+        fill = "#eef1f5" if name in CHECKS else "#cfe3f7" if has_code(name) else "#d8efd3"
         out.append(f'<rect x="{x}" y="{y}" width="{WIDTH}" height="{HEIGHT}" rx="6" fill="{fill}" stroke="#51607a"/>')
         out.append(f'<text x="{x + WIDTH / 2}" y="{y + 22}" text-anchor="middle">{name}</text>')
     out.append("</svg>")
     return "\n".join(out)
 
 
-print(draw(read(pathlib.Path(__file__).resolve().parent.parent / "crates.txt")))
+print(draw(read(ROOT / "crates.txt")))

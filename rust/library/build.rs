@@ -25,11 +25,15 @@ fn main() {
         }
         println!("cargo:rustc-link-lib=static={name}");
     }
-    let folder = folder.canonicalize().expect("a folder with archives has a path");
+    let folder = folder
+        .canonicalize()
+        .expect("a folder with archives has a path");
     println!("cargo:rustc-link-search=native={}", folder.display());
 }
 
 fn missing(name: &str) -> ! {
-    eprintln!("The proved archive target/staticlib/lib{name}.a is not there: run `./archives` first.");
+    eprintln!(
+        "The proved archive target/staticlib/lib{name}.a is not there: run `./archives` first."
+    );
     exit(1);
 }

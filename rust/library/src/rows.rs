@@ -122,7 +122,14 @@ pub fn low_step(
     figure: &mut [u64],
     row: &mut [u64],
 ) -> Result<(), u8> {
-    step(archive::joguyvi_low_step, record, payoff, class, figure, row)
+    step(
+        archive::joguyvi_low_step,
+        record,
+        payoff,
+        class,
+        figure,
+        row,
+    )
 }
 
 /// The high figure of a class, as `low_step` for the low one.
@@ -133,7 +140,14 @@ pub fn high_step(
     figure: &mut [u64],
     row: &mut [u64],
 ) -> Result<(), u8> {
-    step(archive::joguyvi_high_step, record, payoff, class, figure, row)
+    step(
+        archive::joguyvi_high_step,
+        record,
+        payoff,
+        class,
+        figure,
+        row,
+    )
 }
 
 /// The rule row of a class into a slice of m bytes.
