@@ -9,7 +9,7 @@ use Rattle.scheme.specs.declared.Scheme.{Scheme}
 use Rattle.scheme.specs.Tables.{tab}
 use Rattle.scheme.specs.Access.{premiumAt}
 use Rattle.scheme.specs.Rows.{chainOf}
-use Rattle.answers.specs.Causes as causes
+use Rattle.answers.specs.Causes.{slicesCause, sheetLengthsCause}
 pub use Rattle.answers.specs.Causes.{shareCause, moneyCause}
 use Rattle.answers.specs.declared.Bounds.{Bounds}
 use Rattle.answers.specs.declared.Bounds.the-variants.{Answered, Refused}
@@ -60,11 +60,11 @@ totalAnswer s year =
 
 -- cause 13: a sheet slice not of s numbers
 abbrev pub sliceCause : Scheme → List ℕ → List ℕ → ℕ
-sliceCause s low high = causes.slicesCause (s .classes) (length low) (length high)
+sliceCause s low high = slicesCause (s .classes) (length low) (length high)
 
 -- the cause of a share sheet into two slices: 3, 5 to 10, 12, then 13
 unfoldable pub sheetCause : Scheme → ℕ → List ℕ → List ℕ → ℕ
-sheetCause s year low high = causes.sheetCause s year (length low) (length high)
+sheetCause s year low high = sheetLengthsCause s year (length low) (length high)
 
 -- the slice `before` after a share sheet with cause `number`: "filled on success", and left as it was where the call is declined
 abbrev pub sheetSlice : ℕ → List ℕ → List ℕ → List ℕ

@@ -4,7 +4,7 @@ use Rattle.setchain.specs.Sums.{sumTo}
 use Rattle.scheme.specs.Tables.{anyBelow}
 use Rattle.scheme.specs.Cause.{sizeOut, startOut, horizonOut, ruleOut, bandOut, sumOut, premiumOut, causeWhere}
 use Rattle.scheme.specs.Examples.{schemeA, single}
-use Rattle.answers.specs.Causes.{shareCause, moneyCause, sheetCause, tableSize, tableCause}
+use Rattle.answers.specs.Causes.{shareCause, moneyCause, sheetLengthsCause, tableSize, tableLengthsCause}
 
 -- a class above s, a year above the horizon, and both
 pub record ShareCauses : Type 0 where
@@ -20,12 +20,12 @@ pub record SliceCauses : Type 0 where
   pub money : moneyCause schemeA 3 ≡ 12
   pub moneyNone : moneyCause schemeA 2 ≡ 0
   pub moneyScheme : moneyCause (single 2 0 1000000000 0) 101 ≡ 7
-  pub sheet : sheetCause schemeA 2 2 3 ≡ 13
-  pub sheetYear : sheetCause schemeA 3 2 3 ≡ 12
-  pub sheetNone : sheetCause schemeA 2 2 2 ≡ 0
+  pub sheet : sheetLengthsCause schemeA 2 2 3 ≡ 13
+  pub sheetYear : sheetLengthsCause schemeA 3 2 3 ≡ 12
+  pub sheetNone : sheetLengthsCause schemeA 2 2 2 ≡ 0
   pub size : tableSize schemeA ≡ 10
-  pub table : tableCause schemeA 9 10 ≡ 13
-  pub tableNone : tableCause schemeA 10 10 ≡ 0
+  pub table : tableLengthsCause schemeA 9 10 ≡ 13
+  pub tableNone : tableLengthsCause schemeA 10 10 ≡ 0
 
 pub share-causes : ShareCauses
 unfolding causeWhere sizeOut startOut horizonOut ruleOut bandOut sumOut premiumOut anyBelow sumTo

@@ -18,8 +18,8 @@ abbrev pub slicesCause : (size low high : ℕ) → ℕ
 slicesCause size low high = cond (not (eqb low size) || not (eqb high size)) 13 0
 
 -- of a share sheet into slices of two lengths: causes 3, 5 to 10, 12, then 13
-abbrev pub sheetCause : Scheme → (year low high : ℕ) → ℕ
-sheetCause s year low high = orElse (moneyCause s year) (slicesCause (s .classes) low high)
+abbrev pub sheetLengthsCause : Scheme → (year low high : ℕ) → ℕ
+sheetLengthsCause s year low high = orElse (moneyCause s year) (slicesCause (s .classes) low high)
 
 -- the place of the total in the table of all figures, after the shares and the mean of every year
 abbrev pub totalPlace : Scheme → ℕ
@@ -30,5 +30,5 @@ abbrev pub tableSize : Scheme → ℕ
 tableSize s = totalPlace s + 1
 
 -- of the table into slices of two lengths: causes 3, 5 to 10, then 13
-abbrev pub tableCause : Scheme → (low high : ℕ) → ℕ
-tableCause s low high = orElse (causeOf s) (slicesCause (tableSize s) low high)
+abbrev pub tableLengthsCause : Scheme → (low high : ℕ) → ℕ
+tableLengthsCause s low high = orElse (causeOf s) (slicesCause (tableSize s) low high)

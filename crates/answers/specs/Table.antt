@@ -10,7 +10,7 @@ use Rattle.scheme.specs.declared.Scheme.{Scheme}
 use Rattle.scheme.specs.Tables.{tab}
 use Rattle.scheme.specs.Access.{premiumAt}
 use Rattle.scheme.specs.Rows.{chainOf}
-use Rattle.answers.specs.Causes as causes
+use Rattle.answers.specs.Causes.{tableLengthsCause}
 pub use Rattle.answers.specs.Causes.{totalPlace, tableSize}
 use Rattle.answers.specs.Answers.{startOf}
 
@@ -45,4 +45,4 @@ highTable s =
 
 -- causes 3 and 5 to 10, then 13: a slice that is not of the table's size
 unfoldable pub tableCause : Scheme → List ℕ → List ℕ → ℕ
-tableCause s low high = causes.tableCause s (length low) (length high)
+tableCause s low high = tableLengthsCause s (length low) (length high)

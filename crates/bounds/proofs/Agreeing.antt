@@ -7,7 +7,7 @@ use native.Mathlib.Omega.{arith}
 use Rattle.setchain.specs.Rows.{SetChain, SoundChain}
 use Rattle.setchain.specs.Years.{lowYears, highYears}
 use Rattle.step.specs.Lists.{Agree}
-use Rattle.step.specs.Figure.{stepFigure}
+use Rattle.one_year.specs.Figure.{stepFigure}
 use Rattle.step.specs.Laws.Agreeing.{step-same-row, step-same-payoff, step-at-most}
 use Rattle.bounds.specs.Years.{yearFigure, yearsFigure}
 

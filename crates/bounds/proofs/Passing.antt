@@ -16,7 +16,8 @@ use Rattle.order.specs.Order.{Placed, Arranged, sorted}
 use Rattle.states.specs.Laws.Writing.{Rewritten}
 use Rattle.order.specs.Laws.Arranging.{arranged-placed, sorted-holds}
 use Rattle.step.specs.Lists.{at}
-use Rattle.step.specs.Figure.{rounded, stepFigure, LARGEST}
+use Rattle.one_year.specs.Figure.{stepFigure}
+use Rattle.step.specs.Figure.{rounded, LARGEST}
 use Rattle.bounds.specs.Entries.{lows, rooms, counts, sumOf, listedRow, chainListed, Held}
 use Rattle.bounds.specs.Walk.{leftAt, sumAt, taken, Givable, Given, Walkable, Walked, Settleable, Settled}
 use Rattle.bounds.specs.Years.{Yearly, Formed}

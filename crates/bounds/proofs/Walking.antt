@@ -23,7 +23,8 @@ use Rattle.order.specs.Laws.Arranging.{arranged-placed}
 use Rattle.step.specs.Lists.{at, rowIn, Agree}
 use Rattle.step.specs.Fill.{Filled, Pourable}
 use Rattle.step.specs.Step.{Steppable}
-use Rattle.step.specs.Figure.{rounded, stepFigure, LARGEST}
+use Rattle.one_year.specs.Figure.{stepFigure}
+use Rattle.step.specs.Figure.{rounded, LARGEST}
 use Rattle.bounds.specs.Walk.{leftAt, sumAt}
 use Rattle.step.specs.Laws.Agreeing.{sound-same, step-same-row}
 use Rattle.step.specs.Laws.Filling.{Filling, filling-none, filling-more, filling-last}

@@ -8,7 +8,8 @@ use Rattle.setchain.specs.Rows.{SetChain}
 use Rattle.setchain.specs.Years.{lowYears, highYears}
 use Rattle.order.specs.Order.{Placed}
 use Rattle.step.specs.Lists.{at}
-use Rattle.step.specs.Figure.{stepFigure, LARGEST}
+use Rattle.one_year.specs.Figure.{stepFigure}
+use Rattle.step.specs.Figure.{LARGEST}
 use Rattle.bounds.specs.Entries.{Held}
 
 -- what one year makes of the figures f of the year before: the gain and the step's figure, low where payoffs rise and high where they fall

@@ -12,7 +12,7 @@ use Rattle.scheme.specs.Cause.{sizeOut, startOut, horizonOut, ruleOut, bandOut,
 use Rattle.scheme.specs.Stored.{upTo, schemeOf}
 use Rattle.scheme.specs.Examples.{padded}
 use Rattle.scheme.specs.Laws.Cause.{answered, second-cause}
-use Rattle.layout.specs.Numbers.{beAt}
+use Rattle.big_endian.specs.Numbers.{beAt}
 use Rattle.layout.specs.Layout.{version1, schemeIn}
 use Rattle.layout.specs.Read.{frameCause, readCause}
 use Rattle.layout.specs.Examples.{exampleA, read-a}

@@ -19,7 +19,6 @@ use Rattle.buffers.specs.Buffers.{bufferCause, filledWhere}
 use Rattle.buffers.specs.Laws.Sizes.{buffer-out, buffer-fits, thirteen}
 use Rattle.interface.specs.Shares.{sharesNumber}
 use Rattle.interface.specs.Figures.{putNumber, putLeaves, boundsNumber, boundsLeaves, BufferKeeps}
-use Rattle.interface.specs.Laws.Bounds.{bounds-kept}
 
 -- two numbers written into a buffer of 2
 two : (out : List ℕ) (a b : ℕ) → length out ≡ 2 → set (set out 0 a) 1 b ≡ a ∷ b ∷ []
@@ -50,28 +49,18 @@ module _ (b : Bounds) (out : List ℕ) where
       let f : orElse (numberOf b) (bufferCause 2 out) ≡ 0 = second-cause (numberOf b) (bufferCause 2 out) (sym e ∙ none) ∙ buffer-fits 2 out fits in
       (sym f, rw (l, h) (two out (lowOf b) (highOf b) fits ∙ sym (answered _ _ _ f)))
 
--- low and high of a record: an answer by the scheme, and what low and high keep
-module _ (answer : Scheme → Bounds) (keeps : Scheme → ℕ → ℕ → Type 0)
-    (kept : (s : Scheme) → numberOf (answer s) ≡ 0 → keeps s (lowOf (answer s)) (highOf (answer s)))
-    (bytes out : List ℕ) {a : ReadAnswer} (is : a ≡ readAnswer bytes) where
+-- low and high of a record: an answer by the scheme, and what is promised of it (crate interface, `Laws.Bounds`)
+module _ (answer : Scheme → Bounds) (keeps : ℕ → ℕ → Type 0) (bytes out : List ℕ)
+    (promised : BufferKeeps keeps (boundsNumber bytes (answer (schemeIn version1 bytes)) out) (boundsLeaves bytes (answer (schemeIn version1 bytes)) out))
+    {a : ReadAnswer} (is : a ≡ readAnswer bytes) where
   abbrev inRecord : Bounds
   inRecord = answer (schemeIn version1 bytes)
 
   abbrev Told : ℕ → List ℕ → Type 0
-  Told n after =
-      (n ≡ boundsNumber bytes inRecord out) × ((after ≡ boundsLeaves bytes inRecord out) × BufferKeeps (keeps (schemeIn version1 bytes)) n after)
+  Told n after = (n ≡ boundsNumber bytes inRecord out) × ((after ≡ boundsLeaves bytes inRecord out) × BufferKeeps keeps n after)
 
-  -- what is kept by low and high is kept by the buffer (crate interface, `Laws.Bounds`)
   told : {n : ℕ} {after : List ℕ} → n ≡ boundsNumber bytes inRecord out → after ≡ boundsLeaves bytes inRecord out → Told n after
-  told number leaves = (
-    number,
-    (
-      leaves,
-      subst₂ (λ n after. BufferKeeps (keeps (schemeIn version1 bytes)) n after)
-          (sym number) (sym leaves)
-          (bounds-kept (keeps (schemeIn version1 bytes)) bytes inRecord out (kept (schemeIn version1 bytes))),
-    ),
-  )
+  told number leaves = (number, (leaves, subst₂ (λ n after. BufferKeeps keeps n after) (sym number) (sym leaves) promised))
 
   -- a record with a cause, and without
   pub bounds-stopped : (a .number ≡ 0 → ⊥) → Told (a .number) out

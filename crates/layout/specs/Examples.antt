@@ -11,7 +11,7 @@ use Rattle.scheme.specs.Examples.{schemeA, single}
 use Rattle.big_endian.specs.Numbers.{beBytes}
 use Rattle.layout.specs.declared.Band.the-variants.{Ends, NoMore}
 use Rattle.layout.specs.declared.WriteAnswer.the-variants.{Written, Declined}
-use Rattle.layout.specs.Numbers.{beAt}
+use Rattle.big_endian.specs.Numbers.{beAt}
 use Rattle.layout.specs.Joined.{joined}
 use Rattle.layout.specs.Layout.{version1, lengthOf, schemeIn}
 use Rattle.layout.specs.Read.{frameCause, readCause, readAnswer}

@@ -3,7 +3,7 @@ use Prim.Native.Nat.{ℕ, _≤_}
 use mathlib.Core.Path.{_≡_}
 use mathlib.Core.List.{List}
 use lib.ListN.{length, getD}
-use Rattle.layout.specs.Numbers.{beAt}
+use Rattle.big_endian.specs.Numbers.{beAt}
 use Rattle.layout.specs.Layout.{version1, lengthOf, classesIn, columnsIn}
 
 pub record Framed (bytes : List ℕ) : Type 0 where

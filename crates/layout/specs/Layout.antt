@@ -3,7 +3,7 @@ use Prim.Native.Nat.{ℕ, _+_, _*_}
 use mathlib.Core.List.{List}
 use lib.ListN.{getD}
 use Rattle.scheme.specs.declared.Scheme.{Scheme}
-use Rattle.layout.specs.Numbers.{beAt}
+use Rattle.big_endian.specs.Numbers.{beAt}
 use Rattle.scheme.specs.Stored.{schemeOf}
 
 -- what the layouts of the versions differ in

@@ -1,6 +1,5 @@
--- Read in this order: numbers and lists, the record's layout, what reading answers, the rule row of a class, the band reader, a scheme's record and what writing it answers, worked cases.
+-- Read in this order: lists joined, the record's layout, what reading answers, the rule row of a class, the band reader, a scheme's record and what writing it answers, worked cases.
 -- Laws has the causes of a record's bytes and the answer of a reading, by cases.
-pub mod Numbers
 pub mod Joined
 pub mod Layout
 pub mod Read

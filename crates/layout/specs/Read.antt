@@ -6,7 +6,7 @@ use lib.Dec.{eqb, ltb}
 use lib.ListN.{length, getD}
 use Rattle.scheme.specs.Cause.{outside, causeOf, orElse}
 use Rattle.layout.specs.declared.ReadAnswer.{ReadAnswer}
-use Rattle.layout.specs.Numbers.{beAt}
+use Rattle.big_endian.specs.Numbers.{beAt}
 use Rattle.scheme.specs.Stored.{noScheme}
 use Rattle.layout.specs.Layout.{version1, lengthOf, classesIn, columnsIn, schemeIn}
 

@@ -6,7 +6,7 @@ use mathlib.Core.List.{List, [], _∷_}
 use native.Mathlib.Omega.{arith}
 use Rattle.setchain.specs.Sums.{sumTo, onlyIf}
 use Rattle.setchain.specs.Rows.{ONE}
-use Rattle.setchain.specs.Step.{roomBefore, fillRow, Parts, lowStep, highStep}
+use Rattle.setchain.specs.Step.{roomBefore, fillRow, lowStep, highStep}
 use Rattle.scheme.specs.Tables.{tab, anyBelow}
 use Rattle.scheme.specs.Cause.{sizeOut, startOut, horizonOut, ruleOut, bandOut, sumOut, premiumOut, causeWhere}
 use Rattle.scheme.specs.Examples.{schemeA}

@@ -6,7 +6,7 @@ ghost use Prim.Native.Nat.{_+_, _*_};
 ghost use mathlib.Core.Bool.{cond};
 ghost use lib.Dec.{ltb};
 ghost use Rattle.scheme.specs.Cause.{outside};
-ghost use Rattle.answers.specs.Causes.{moneyCause, shareCause, sheetCause, slicesCause, tableCause};
+ghost use Rattle.answers.specs.Causes.{moneyCause, shareCause, sheetLengthsCause, slicesCause, tableLengthsCause};
 
 // Cause 11: a class that is not one of 1 to s.
 fn class_cause(classes: u8, class: u64) -> u8
@@ -63,7 +63,7 @@ pub fn share_cause(scheme: Scheme, class: u64, year: u64) -> u8
 
 // The first cause of a call for a share sheet with slices of two lengths, or 0.
 pub fn sheet_cause(scheme: Scheme, year: u64, low: usize, high: usize) -> u8
-    ensures { λ r. ⌜ r ≡ sheetCause scheme year low high ⌝ }
+    ensures { λ r. ⌜ r ≡ sheetLengthsCause scheme year low high ⌝ }
 {
     let money = money_cause(scheme, year);
     let slices = slice_cause(scheme.classes as usize, low, high);
@@ -81,7 +81,7 @@ fn table_size(classes: u8, horizon: u8) -> usize
 
 // The first cause of a call for all figures with slices of two lengths, or 0.
 pub fn table_cause(scheme: Scheme, low: usize, high: usize) -> u8
-    ensures { λ r. ⌜ r ≡ tableCause scheme low high ⌝ }
+    ensures { λ r. ⌜ r ≡ tableLengthsCause scheme low high ⌝ }
 {
     let own = acceptance::cause(scheme);
     let size = table_size(scheme.classes, scheme.horizon);

@@ -4,7 +4,7 @@ ghost use Prim.Native.Nat.{_+_, _*_, _<_, _≤_};
 ghost use lib.ListN.{length, getD};
 ghost use Rattle.scheme.specs.Tables.{tab};
 ghost use Rattle.scheme.specs.Cause.{outside};
-ghost use Rattle.layout.specs.Numbers.{beAt};
+ghost use Rattle.big_endian.specs.Numbers.{beAt};
 ghost use Rattle.scheme.specs.Stored.{upTo, rulesUpTo};
 ghost use Rattle.layout.specs.Layout.{version1, schemeIn};
 ghost use Rattle.layout.specs.Read.{versionCause, fieldCause, sizeCause, lengthCause, frameCause};

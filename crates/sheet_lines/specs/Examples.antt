@@ -8,7 +8,7 @@ use Rattle.scheme.specs.Examples.{schemeA}
 use Rattle.scheme.specs.Tables.{tab, anyBelow}
 use Rattle.scheme.specs.Cause.{sizeOut, startOut, horizonOut, ruleOut, bandOut, sumOut, premiumOut, causeWhere}
 use Rattle.layout.specs.Joined.{joined}
-use Rattle.layout.specs.Numbers.{beAt}
+use Rattle.big_endian.specs.Numbers.{beAt}
 use Rattle.scheme.specs.Stored.{upTo, schemeOf}
 use Rattle.layout.specs.Read.{frameCause}
 use Rattle.layout.specs.Examples.{exampleA}

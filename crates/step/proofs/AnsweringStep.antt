@@ -18,8 +18,8 @@ use Rattle.gathering.specs.Laws.Entries.{lower-is, upper-is}
 use Rattle.scheme.specs.Laws.Tables.{any-false}
 use Rattle.one_year.specs.declared.StepAnswer.{StepAnswer}
 use Rattle.step.specs.Lists.{at, Agree}
-use Rattle.step.specs.Figure.{stepFigure}
-use Rattle.step.specs.StepAnswer.{payoffOut, stepCause, classRow, Reaches, StepAnswered}
+use Rattle.one_year.specs.Figure.{stepFigure}
+use Rattle.one_year.specs.StepAnswer.{payoffOut, stepCause, classRow, Reaches, StepAnswered}
 use Rattle.step.specs.Solve.{rowFromParts, Answerable, Made}
 use Rattle.step.specs.Laws.Agreeing.{same-back, sound-same}
 use Rattle.step.proofs.Solving.{reaches-same, reached-figure}

@@ -18,9 +18,10 @@ use Rattle.scheme.specs.Laws.Tab.{length-tab, getD-tab}
 use Rattle.order.specs.Order.{NotAfter, Arranged, Placed, numbered, sorted}
 use Rattle.order.specs.Laws.Arranging.{numbered-placed, sorted-holds}
 use Rattle.step.specs.Lists.{at, rowIn, gatheredRow, Agree}
-use Rattle.step.specs.Figure.{rounded, stepFigure}
+use Rattle.one_year.specs.Figure.{stepFigure}
+use Rattle.step.specs.Figure.{rounded}
 use Rattle.step.specs.Step.{Steppable, Stepped}
-use Rattle.step.specs.StepAnswer.{Reaches}
+use Rattle.one_year.specs.StepAnswer.{Reaches}
 use Rattle.step.specs.Laws.Agreeing.{same-back, parts-same, sound-same}
 use Rattle.step.specs.Solve.{rowFromParts, Solvable, Solved, Answerable, Made}
 

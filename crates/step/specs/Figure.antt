@@ -6,7 +6,6 @@ use lib.ListN.{length}
 use Rattle.setchain.specs.Sums.{sumTo, dot}
 use Rattle.setchain.specs.Rows.{ONE}
 pub use Rattle.direction.specs.Direction.{rounded}
-pub use Rattle.one_year.specs.Figure.{stepFigure}
 use Rattle.step.specs.Lists.{at}
 
 -- the largest payoff for which every sum of part times payoff fits 64 bits

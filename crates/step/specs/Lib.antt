@@ -1,8 +1,7 @@
--- Read in this order, after crates `order` and `one_year`: lists as rows and payoffs, the fill along an order, the figure, the whole step, its answer, the step from a scheme's parts.
+-- Read in this order, after crates `order` and `one_year`: lists as rows and payoffs, the fill along an order, the figure, the whole step, the step from a scheme's parts.
 pub mod Lists
 pub mod Fill
 pub mod Figure
 pub mod Step
-pub mod StepAnswer
 pub mod Solve
 pub mod Laws

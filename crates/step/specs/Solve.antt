@@ -8,7 +8,7 @@ use Rattle.setchain.specs.Rows.{IntervalRow, SoundRow}
 use Rattle.one_year.specs.declared.StepAnswer.{StepAnswer}
 use Rattle.step.specs.Lists.{at, gatheredRow}
 use Rattle.step.specs.Figure.{LARGEST}
-use Rattle.step.specs.StepAnswer.{Reaches}
+use Rattle.one_year.specs.StepAnswer.{Reaches}
 
 -- the interval row of a class from a scheme's parts
 abbrev pub rowFromParts : List ℕ → List ℕ → List ℕ → ℕ → ℕ → IntervalRow

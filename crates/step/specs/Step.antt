@@ -9,7 +9,8 @@ use Rattle.setchain.specs.Rows.{SoundRow}
 use Rattle.setchain.specs.Step.{Parts}
 use Rattle.order.specs.Order.{Arranged, NotAfter}
 use Rattle.step.specs.Lists.{at, rowIn}
-use Rattle.step.specs.Figure.{rounded, stepFigure, LARGEST}
+use Rattle.one_year.specs.Figure.{stepFigure}
+use Rattle.step.specs.Figure.{rounded, LARGEST}
 
 -- lists of one length, a sound row, payoffs that are not too large, and an order of the classes by payoff
 pub record Steppable (lower upper payoff order : List ℕ) (falling : Bool) (row : List ℕ) : Type 0 where

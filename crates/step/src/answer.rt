@@ -13,7 +13,7 @@ ghost use Rattle.order.specs.Order.{Arranged};
 ghost use Rattle.scheme.specs.Tables.{anyBelow};
 ghost use Rattle.step.specs.Lists.{at};
 ghost use Rattle.step.specs.Solve.{Answerable, Made, Solvable, Solved};
-ghost use Rattle.step.specs.StepAnswer.{StepAnswered, stepCause};
+ghost use Rattle.one_year.specs.StepAnswer.{StepAnswered, stepCause};
 
 // Whether some class's payoff is above 1,000,000,000.
 fn payoff_out(payoff: &[u64; 32], classes: u8) -> bool

@@ -3,7 +3,7 @@ pub use one_year::MOST_PAYOFF;
 pub use one_year::StepAnswer;
 use scheme::Scheme;
 ghost use mathlib.Core.Bool.{true, false};
-ghost use Rattle.step.specs.StepAnswer.{StepAnswered};
+ghost use Rattle.one_year.specs.StepAnswer.{StepAnswered};
 
 mod answer;
 mod figure;

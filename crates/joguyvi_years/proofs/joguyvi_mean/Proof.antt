@@ -1,8 +1,9 @@
 -- `joguyvi_mean` meets its contract: the cause of reading, or the answer put into the buffer, with its promise.
 -- Assumes nothing.
 use Rattle.answers.specs.Answers.{meanAnswer}
-use Rattle.answers.specs.Laws.Kept.{mean-kept}
+use Rattle.layout.specs.Layout.{schemeIn, version1}
 use Rattle.interface.specs.Figures.{MeanKept}
+use Rattle.interface.specs.Laws.Bounds.{mean-promised}
 use Rattle.joguyvi_years.proofs.Putting.{bounds-stopped, bounds-passed}
 use borrow.Author.Needs.{needs}
 use Rattle.joguyvi_years.proofs.joguyvi_mean.Statement.{statement}
@@ -14,7 +15,7 @@ read-requires c κs = search needs
 returns : tie.Need-returns
 returns c =
     let start = c .before .before .before .before in
-    bounds-stopped (λ s. meanAnswer s (start .args .year)) (λ s. MeanKept s (start .args .year)) (λ s. mean-kept s (start .args .year)) (start .args .bytes .now) (start .args .out .now) (c .before .read .ensures) (c .if1 .taken)
+    bounds-stopped (λ s. meanAnswer s (start .args .year)) (MeanKept (schemeIn version1 (start .args .bytes .now)) (start .args .year)) (start .args .bytes .now) (start .args .out .now) (mean-promised (start .args .bytes .now) (start .args .year) (start .args .out .now)) (c .before .read .ensures) (c .if1 .taken)
 
 mean-requires : tie.Need-mean-requires
 mean-requires c κs = search needs
@@ -28,7 +29,7 @@ same-length c = search needs
 returns-2 : tie.Need-returns-2
 returns-2 c =
     let start = c .before .before .before .before .before .before .before .before .before in
-    bounds-passed (λ s. meanAnswer s (start .args .year)) (λ s. MeanKept s (start .args .year)) (λ s. mean-kept s (start .args .year)) (start .args .bytes .now) (start .args .out .now) (c .before .before .before .before .before .before .read .ensures) (c .before .before .before .before .before .if1 .left) (c .before .before .before .mean .ensures .0) (c .before .before .put-bounds .ensures)
+    bounds-passed (λ s. meanAnswer s (start .args .year)) (MeanKept (schemeIn version1 (start .args .bytes .now)) (start .args .year)) (start .args .bytes .now) (start .args .out .now) (mean-promised (start .args .bytes .now) (start .args .year) (start .args .out .now)) (c .before .before .before .before .before .before .read .ensures) (c .before .before .before .before .before .if1 .left) (c .before .before .before .mean .ensures .0) (c .before .before .put-bounds .ensures)
 
 pub joguyvi-mean-spec : {M : Type 1} → statement M
 joguyvi-mean-spec =

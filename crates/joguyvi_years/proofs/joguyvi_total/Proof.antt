@@ -1,8 +1,9 @@
 -- `joguyvi_total` meets its contract: the cause of reading, or the answer put into the buffer, with its promise.
 -- Assumes nothing.
 use Rattle.answers.specs.Answers.{totalAnswer}
-use Rattle.answers.specs.Laws.Kept.{total-kept}
+use Rattle.layout.specs.Layout.{schemeIn, version1}
 use Rattle.interface.specs.Figures.{TotalKept}
+use Rattle.interface.specs.Laws.Bounds.{total-promised}
 use Rattle.joguyvi_years.proofs.Putting.{bounds-stopped, bounds-passed}
 use borrow.Author.Needs.{needs}
 use Rattle.joguyvi_years.proofs.joguyvi_total.Statement.{statement}
@@ -14,7 +15,7 @@ read-requires c κs = search needs
 returns : tie.Need-returns
 returns c =
     let start = c .before .before .before .before in
-    bounds-stopped (λ s. totalAnswer s (start .args .year)) (λ s. TotalKept s (start .args .year)) (λ s. total-kept s (start .args .year)) (start .args .bytes .now) (start .args .out .now) (c .before .read .ensures) (c .if1 .taken)
+    bounds-stopped (λ s. totalAnswer s (start .args .year)) (TotalKept (schemeIn version1 (start .args .bytes .now)) (start .args .year)) (start .args .bytes .now) (start .args .out .now) (total-promised (start .args .bytes .now) (start .args .year) (start .args .out .now)) (c .before .read .ensures) (c .if1 .taken)
 
 total-requires : tie.Need-total-requires
 total-requires c κs = search needs
@@ -28,7 +29,7 @@ same-length c = search needs
 returns-2 : tie.Need-returns-2
 returns-2 c =
     let start = c .before .before .before .before .before .before .before .before .before in
-    bounds-passed (λ s. totalAnswer s (start .args .year)) (λ s. TotalKept s (start .args .year)) (λ s. total-kept s (start .args .year)) (start .args .bytes .now) (start .args .out .now) (c .before .before .before .before .before .before .read .ensures) (c .before .before .before .before .before .if1 .left) (c .before .before .before .total .ensures .0) (c .before .before .put-bounds .ensures)
+    bounds-passed (λ s. totalAnswer s (start .args .year)) (TotalKept (schemeIn version1 (start .args .bytes .now)) (start .args .year)) (start .args .bytes .now) (start .args .out .now) (total-promised (start .args .bytes .now) (start .args .year) (start .args .out .now)) (c .before .before .before .before .before .before .read .ensures) (c .before .before .before .before .before .if1 .left) (c .before .before .before .total .ensures .0) (c .before .before .put-bounds .ensures)
 
 pub joguyvi-total-spec : {M : Type 1} → statement M
 joguyvi-total-spec =

@@ -10,7 +10,7 @@ use borrow.Author.Tests.{ltb-false, eqb-true, not-false, eq-eqb, ne-eqb, le-ltb}
 use Rattle.scheme.specs.Cause.{outside, orElse}
 use Rattle.scheme.specs.Laws.Cause.{outside-false, inside-outside, first-cause, second-cause, first-none, second-none, test-none}
 use Rattle.scheme.specs.Laws.Tables.{or-false-left, or-false-right}
-use Rattle.layout.specs.Numbers.{beAt}
+use Rattle.big_endian.specs.Numbers.{beAt}
 use Rattle.layout.specs.Layout.{version1, lengthOf, classesIn, columnsIn}
 use Rattle.layout.specs.Read.{versionCause, fieldCause, sizeCause, lengthCause, frameCause}
 use Rattle.layout.specs.Frame.{Framed}

@@ -15,7 +15,7 @@ use Rattle.scheme.specs.declared.Scheme.{Scheme}
 use Rattle.scheme.specs.Accepted.{Accepted}
 use Rattle.scheme.specs.Cause.{outside, sizeOut, startOut, horizonOut, ruleOut, bandOut, sumOut, premiumOut, causeWhere, causeOf, orElse}
 use Rattle.scheme.specs.Laws.Judged.{accepted-cause}
-use Rattle.layout.specs.Numbers.{beAt}
+use Rattle.big_endian.specs.Numbers.{beAt}
 use Rattle.layout.specs.Layout.{version1, lengthOf, classesIn, columnsIn, schemeIn}
 use Rattle.layout.specs.Read.{versionCause, fieldCause, sizeCause, lengthCause, frameCause, readCause}
 use Rattle.sheet_lines.specs.Sheet.{classLines, yearPremium, yearLines, sheetOf, refusedLine, sheetText}

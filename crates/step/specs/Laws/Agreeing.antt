@@ -9,7 +9,7 @@ use Rattle.setchain.specs.Step.{Parts, lowStep, highStep}
 use Rattle.setchain.specs.Laws.Sums.{sumTo-eq}
 use Rattle.setchain.specs.Laws.Step.{low-figure, high-figure, low-figure-only, high-figure-only, low-step-same, high-step-same, low-step-at-most, high-step-at-most}
 use Rattle.step.specs.Lists.{Agree}
-use Rattle.step.specs.Figure.{stepFigure}
+use Rattle.one_year.specs.Figure.{stepFigure}
 
 -- rows that agree, from the other side
 pub same-back : {n : ℕ} {r r′ : IntervalRow} → Agree n r r′ → Agree n r′ r
