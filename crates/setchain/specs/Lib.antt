@@ -12,3 +12,4 @@ pub mod Promise
 pub mod Laws
 pub mod Theorems
 pub mod Examples
+pub mod PromiseExamples

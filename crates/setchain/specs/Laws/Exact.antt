@@ -14,7 +14,7 @@ use Rattle.setchain.specs.Years.{nothing, sharePayoff}
 use Rattle.setchain.specs.Picks.{Matrix, InsideEach, none, also, entryOf, product, exactMean, exactTotal}
 use Rattle.setchain.specs.Promise.{shareInParts}
 use Rattle.setchain.specs.Laws.Sums.{eqb-flip, sumTo-eq, sumTo-point}
-use Rattle.setchain.specs.Laws.Fractions.{Proper, _≈_, proper-sum, same-trans, mul-same, add-same, zero-add, sum-same, sum-first, weigh-right, weigh-sum, sum-weighed}
+use Rattle.setchain.specs.Laws.Fractions.{Proper, proper-row, _≈_, proper-sum, same-trans, mul-same, add-same, zero-add, sum-same, sum-first, weigh-right, weigh-sum, sum-weighed}
 use Rattle.setchain.specs.Laws.Value.{weigh, value}
 
 onlyIf-times : (b : Bool) (x y : ℕ) → onlyIf b x * y ≡ onlyIf b (x * y)
@@ -32,7 +32,7 @@ module _ (c : SetChain) where
   proper-product [] none i j l = le-refl 1
   proper-product (p ∷ ps) (also h rest) i j l =
       proper-sum n (λ k. entryOf (p i) k ⊗ product n ps k j)
-      (λ k m. mul-pos (h i l .positive) (proper-product ps rest k j m))
+      (λ k m. mul-pos (proper-row (h i l)) (proper-product ps rest k j m))
 
   -- share: the product's entry in parts
   pub share-value : (ps : List Matrix) → InsideEach c ps → (i j : ℕ) → i < n
@@ -44,8 +44,8 @@ module _ (c : SetChain) where
       (shareInParts n j (p ∷ ps) i)
       (weigh n (p i) (shareInParts n j ps))
       (value n (sharePayoff j) nothing (p ∷ ps) i)
-      (proper-sum n (λ k. entryOf (p i) k ⊗ shareInParts n j ps k) (λ k m. mul-pos (h i l .positive) (mul-pos (proper-product ps rest k j m) (le-refl 1))))
-      (weigh-right n (entryOf (p i)) (λ k. product n ps k j) (whole ONE) (le-refl 1) (λ k m. h i l .positive) (λ k m. proper-product ps rest k j m))
+      (proper-sum n (λ k. entryOf (p i) k ⊗ shareInParts n j ps k) (λ k m. mul-pos (proper-row (h i l)) (mul-pos (proper-product ps rest k j m) (le-refl 1))))
+      (weigh-right n (entryOf (p i)) (λ k. product n ps k j) (whole ONE) (le-refl 1) (λ k m. proper-row (h i l)) (λ k m. proper-product ps rest k j m))
       (subst (λ s. weigh n (p i) (shareInParts n j ps) ≈ s)
       (sym (zero-add (weigh n (p i) (value n (sharePayoff j) nothing ps))))
       (sum-same n (λ k. entryOf (p i) k ⊗ shareInParts n j ps k) (λ k. entryOf (p i) k ⊗ value n (sharePayoff j) nothing ps k)
@@ -84,10 +84,10 @@ module _ (c : SetChain) where
         (sumFractions n (λ j. sumFractions n (λ k. entryOf (p i) k ⊗ (product n ps k j ⊗ whole (premium j)))))
         (weigh n (p i) (mean ps))
         (proper-sum n (λ j. sumFractions n (λ k. entryOf (p i) k ⊗ (product n ps k j ⊗ whole (premium j))))
-        (λ j g. proper-sum n (λ k. entryOf (p i) k ⊗ (product n ps k j ⊗ whole (premium j))) (λ k m. mul-pos (h i l .positive) (proper k j m g))))
+        (λ j g. proper-sum n (λ k. entryOf (p i) k ⊗ (product n ps k j ⊗ whole (premium j))) (λ k m. mul-pos (proper-row (h i l)) (proper k j m g))))
         (sum-same n (λ j. product n (p ∷ ps) i j ⊗ whole (premium j)) (λ j. sumFractions n (λ k. entryOf (p i) k ⊗ (product n ps k j ⊗ whole (premium j))))
-        (λ j g. weigh-right n (entryOf (p i)) (λ k. product n ps k j) (whole (premium j)) (le-refl 1) (λ k m. h i l .positive) (λ k m. proper-product ps rest k j m)))
-        (weigh-sum n n (entryOf (p i)) (λ k j. product n ps k j ⊗ whole (premium j)) (λ k m. h i l .positive) proper)
+        (λ j g. weigh-right n (entryOf (p i)) (λ k. product n ps k j) (whole (premium j)) (le-refl 1) (λ k m. proper-row (h i l)) (λ k m. proper-product ps rest k j m)))
+        (weigh-sum n n (entryOf (p i)) (λ k j. product n ps k j ⊗ whole (premium j)) (λ k m. proper-row (h i l)) proper)
       where
         proper : (k j : ℕ) → k < n → j < n → Proper (product n ps k j ⊗ whole (premium j))
         proper k j m g = mul-pos (proper-product ps rest k j m) (le-refl 1)
@@ -101,7 +101,7 @@ module _ (c : SetChain) where
         (mean (p ∷ ps) i)
         (weigh n (p i) (mean ps))
         (value n premium nothing (p ∷ ps) i)
-        (proper-sum n (λ k. entryOf (p i) k ⊗ mean ps k) (λ k m. mul-pos (h i l .positive) (proper-exact-mean ps rest k m)))
+        (proper-sum n (λ k. entryOf (p i) k ⊗ mean ps k) (λ k m. mul-pos (proper-row (h i l)) (proper-exact-mean ps rest k m)))
         (mean-more p ps (also h rest) i l)
         (subst (λ s. weigh n (p i) (mean ps) ≈ s)
         (sym (zero-add (weigh n (p i) (value n premium nothing ps))))
@@ -139,10 +139,10 @@ module _ (c : SetChain) where
         (sumFractions (length ps) (λ u. weigh n (p i) (mean (take u ps))))
         (weigh n (p i) (total ps))
         (proper-sum (length ps) (λ u. weigh n (p i) (mean (take u ps)))
-        (λ u g. proper-sum n (λ k. entryOf (p i) k ⊗ mean (take u ps) k) (λ k m. mul-pos (h i l .positive) (proper k u m g))))
+        (λ u g. proper-sum n (λ k. entryOf (p i) k ⊗ mean (take u ps) k) (λ k m. mul-pos (proper-row (h i l)) (proper k u m g))))
         (sum-same (length ps) (λ u. mean (p ∷ take u ps) i) (λ u. weigh n (p i) (mean (take u ps)))
         (λ u g. mean-more p (take u ps) (also h (inside-take u ps rest)) i l))
-        (weigh-sum n (length ps) (entryOf (p i)) (λ k u. mean (take u ps) k) (λ k m. h i l .positive) proper)))
+        (weigh-sum n (length ps) (entryOf (p i)) (λ k u. mean (take u ps) k) (λ k m. proper-row (h i l)) proper)))
       where
         proper : (k u : ℕ) → k < n → u < length ps → Proper (mean (take u ps) k)
         proper k u m g = proper-exact-mean (take u ps) (inside-take u ps rest) k m
@@ -156,7 +156,7 @@ module _ (c : SetChain) where
         (total (p ∷ ps) i)
         (whole (premium i) ⊕ weigh n (p i) (total ps))
         (value n nothing premium (p ∷ ps) i)
-        (mul-pos (le-refl 1) (proper-sum n (λ k. entryOf (p i) k ⊗ total ps k) (λ k m. mul-pos (h i l .positive) (proper-exact-total ps rest k m))))
+        (mul-pos (le-refl 1) (proper-sum n (λ k. entryOf (p i) k ⊗ total ps k) (λ k m. mul-pos (proper-row (h i l)) (proper-exact-total ps rest k m))))
         (total-more p ps (also h rest) i l)
         (add-same (whole (premium i)) (whole (premium i))
         (weigh n (p i) (total ps)) (weigh n (p i) (value n nothing premium ps))

@@ -1,10 +1,11 @@
 -- Laws of fractions. Addition and multiplication are commutative and associative literally, as pairs; the rest holds multiplied out.
-use Prim.Native.Nat.{ℕ, zero, suc, _*_, _<_}
+use Prim.Native.Nat.{ℕ, zero, suc, _*_, _≤_, _<_}
 use mathlib.Core.Path.{_≡_, refl, ap, sym, _∙_, fun-ext, subst, subst₂}
 use native.Mathlib.Omega.{arith}
 use native.Mathlib.Nat.{le-refl, mul-le-mul-right, mul-pos, le-of-mul-le-mul-right, eq-of-mul-eq-mul-right}
 use Rattle.setchain.specs.Sums.{sumTo, dot}
 use Rattle.setchain.specs.Fractions.{Fraction, whole, _⊕_, _⊗_, _≼_, sumFractions}
+use Rattle.setchain.specs.Rows.{IntervalRow, Row, Inside}
 use Rattle.setchain.specs.Laws.Sums.{below-pred}
 
 infix 40 _≈_
@@ -42,6 +43,10 @@ pub proper-sum : (n : ℕ) (f : ℕ → Fraction) → ((k : ℕ) → k < n → P
 unfolding sumFractions
 proper-sum zero f h = le-refl 1
 proper-sum (suc n) f h = mul-pos (proper-sum n f (below-pred _ n h)) (h n (le-refl (suc n)))
+
+-- the entries of a row that lies inside are proper fractions
+pub proper-row : {n : ℕ} {r : IntervalRow} {q : Row} → Inside n r q → 1 ≤ q .over
+proper-row h = omega (arith, h .positive)
 
 pub same-trans : (x y z : Fraction) → Proper y → x ≈ y → y ≈ z → x ≈ z
 same-trans x y z p e g =

@@ -12,7 +12,7 @@ use Rattle.setchain.specs.Step.{lowRow, highRow, lowStep, highStep}
 use Rattle.setchain.specs.Years.{lowYears, highYears}
 use Rattle.setchain.specs.Picks.{Matrix, InsideEach, none, also, PicksFor, entryOf}
 use Rattle.setchain.specs.Laws.Sums.{sumTo-eq, sumTo-le, sumTo-add, sumTo-scale}
-use Rattle.setchain.specs.Laws.Fractions.{Proper, proper-sum, at-most-trans, mul-at-most, sum-at-most, sum-weighed}
+use Rattle.setchain.specs.Laws.Fractions.{Proper, proper-row, proper-sum, at-most-trans, mul-at-most, sum-at-most, sum-weighed}
 use Rattle.setchain.specs.Laws.Step.{low-parts, high-parts, low-step-least, low-step-near, high-step-greatest, high-step-near}
 
 -- the mean of v by the entries of a row
@@ -108,7 +108,7 @@ module _ (c : SetChain) (sound : SoundChain c) (payoff gain : ℕ → ℕ) where
   pub proper-value : (ps : List Matrix) → InsideEach c ps → (i : ℕ) → i < n → Proper (worth ps i)
   unfolding value
   proper-value [] none i l = le-refl 1
-  proper-value (p ∷ ps) (also h rest) i l = mul-pos (le-refl 1) (proper-mean n (p i) payoff (worth ps) (h i l .positive) (proper-value ps rest))
+  proper-value (p ∷ ps) (also h rest) i l = mul-pos (le-refl 1) (proper-mean n (p i) payoff (worth ps) (proper-row (h i l)) (proper-value ps rest))
 
   -- containment, by induction on the picks
   pub value-least : (ps : List Matrix) → InsideEach c ps → (i : ℕ) → i < n
@@ -117,7 +117,7 @@ module _ (c : SetChain) (sound : SoundChain c) (payoff gain : ℕ → ℕ) where
   value-least [] none i l = le-refl (payoff i * 1)
   value-least (p ∷ ps) (also h rest) i l =
       gain-least (gain i) (lowStep n (c .row i) (low (length ps))) (weigh n (p i) (worth ps))
-      (mean-least n (p i) (low (length ps)) (worth ps) (h i l .positive) (proper-value ps rest)
+      (mean-least n (p i) (low (length ps)) (worth ps) (proper-row (h i l)) (proper-value ps rest)
       (value-least ps rest)
       (lowStep n (c .row i) (low (length ps)))
       (low-step-least n (c .row i) (sound i l) (low (length ps)) (p i) (h i l)))
@@ -128,7 +128,7 @@ module _ (c : SetChain) (sound : SoundChain c) (payoff gain : ℕ → ℕ) where
   value-most [] none i l = le-refl (payoff i * 1)
   value-most (p ∷ ps) (also h rest) i l =
       gain-most (gain i) (highStep n (c .row i) (high (length ps))) (weigh n (p i) (worth ps))
-      (mean-most n (p i) (high (length ps)) (worth ps) (h i l .positive) (proper-value ps rest)
+      (mean-most n (p i) (high (length ps)) (worth ps) (proper-row (h i l)) (proper-value ps rest)
       (value-most ps rest)
       (highStep n (c .row i) (high (length ps)))
       (high-step-greatest n (c .row i) (sound i l) (high (length ps)) (p i) (h i l)))

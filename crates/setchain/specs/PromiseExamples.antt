@@ -1,0 +1,234 @@
+-- What the promises allow and what they forbid, on small numbers and on Example A's interval rows (document 01, "Years").
+use Prim.Native.Nat.{ℕ, zero, suc, _+_, _*_, _≤_, _<_}
+use mathlib.Core.Path.{_≡_, refl}
+use mathlib.Core.List.{List, [], _∷_}
+use native.Mathlib.Omega.{arith}
+use native.Mathlib.Nat.{mul-le-mul-right}
+use Rattle.setchain.specs.Sums.{sumTo, onlyIf}
+use Rattle.setchain.specs.Fractions.{Fraction, whole, sumFractions}
+use Rattle.setchain.specs.Rows.{ONE, IntervalRow, Row, Inside, SoundRow, SoundChain}
+use Rattle.setchain.specs.Picks.{Matrix, InsideEach, none, also, PicksFor, product, exactShare, exactMean, exactTotal}
+use Rattle.setchain.specs.Promise.{shareInParts, Between, Near}
+use Rattle.setchain.specs.Step.{roomBefore, fillRow, lowStep, highStep}
+use Rattle.setchain.specs.Years.{lowYears, highYears, lowShare, highShare, lowMean, highMean}
+use Rattle.setchain.specs.Laws.Fractions.{Proper}
+use Rattle.setchain.specs.Theorems.{share-promise, mean-promise, exact-proper}
+use Rattle.setchain.specs.Examples.{from, chainA, premiumA}
+
+-- a numerator over a denominator
+abbrev pub fraction : ℕ → ℕ → Fraction
+fraction a b = record { num = a; den = b }
+
+-- "no further than t from it": 12 and 8 are near 10 for t = 2, and 13, 7 and what lies just past 12 and 8 are not
+pub record NearExamples : Type 0 where
+  pub above : Near 2 10 (whole 12)
+  pub below : Near 2 10 (whole 8)
+  pub tooHigh : Near 2 10 (whole 13) → ⊥
+  pub tooLow : Near 2 10 (whole 7) → ⊥
+  pub justTooHigh : Near 2 10 (fraction 1201 100) → ⊥
+  pub justTooLow : Near 2 10 (fraction 799 100) → ⊥
+
+pub near-examples : NearExamples
+near-examples =
+    record {
+      above = record { under = omega arith; over = omega arith };
+      below = record { under = omega arith; over = omega arith };
+      tooHigh = λ h. omega (arith, h .under);
+      tooLow = λ h. omega (arith, h .over);
+      justTooHigh = λ h. omega (arith, h .under);
+      justTooLow = λ h. omega (arith, h .over);
+    }
+
+-- "low ≤ exact … ≤ high": both ends count as between, and nothing outside does
+pub record BetweenExamples : Type 0 where
+  pub low : Between 8 12 (whole 8)
+  pub high : Between 8 12 (fraction 24 2)
+  pub tooLow : Between 8 12 (fraction 799 100) → ⊥
+  pub tooHigh : Between 8 12 (fraction 1201 100) → ⊥
+
+pub between-examples : BetweenExamples
+between-examples =
+    record {
+      low = record { least = omega arith; most = omega arith };
+      high = record { least = omega arith; most = omega arith };
+      tooLow = λ h. omega (arith, h .least);
+      tooHigh = λ h. omega (arith, h .most);
+    }
+
+-- two whole numbers over M
+abbrev pair : ℕ → ℕ → ℕ → Row
+pair m first second = record { over = m; entry = from (first ∷ second ∷ []) }
+
+-- class 1 in year 1 and 2: over 1, and over 20, where both entries are at an end of their intervals; class 2: over 5 and over 7
+abbrev firstYear : Matrix
+firstYear i = elim i [ zero ↦ pair 1 1 0 | suc k ↦ pair 5 4 1 ]
+
+abbrev secondYear : Matrix
+secondYear i = elim i [ zero ↦ pair 20 19 1 | suc k ↦ pair 7 6 1 ]
+
+abbrev pub picksA : List Matrix
+picksA = firstYear ∷ secondYear ∷ []
+
+-- a year in which class 2 has a row outside: two thirds is less than its lower entry to class 1
+abbrev outsideYear : Matrix
+outsideYear i = elim i [ zero ↦ pair 1 1 0 | suc k ↦ pair 3 2 1 ]
+
+-- a fact at both of two states is one at each state below 2
+both : (P : ℕ → Type 0) → P 0 → P 1 → (i : ℕ) → i < 2 → P i
+both P p q zero l = p
+both P p q (suc zero) l = q
+both P p q (suc (suc i)) l = absurd (omega arith)
+
+-- a row over two states, entry by entry
+module _ (r : IntervalRow) (m a b : ℕ) where
+  inside-two : 1 ≤ m → a + b ≡ m → r .lower 0 * m ≤ a * ONE → a * ONE ≤ r .upper 0 * m → r .lower 1 * m ≤ b * ONE → b * ONE ≤ r .upper 1 * m
+      → Inside 2 r (pair m a b)
+  unfolding sumTo
+  inside-two positive sums above₀ below₀ above₁ below₁ =
+      record {
+        positive = positive;
+        sums = omega arith;
+        above = both (λ j. r .lower j * m ≤ from (a ∷ b ∷ []) j * ONE) above₀ above₁;
+        below = both (λ j. from (a ∷ b ∷ []) j * ONE ≤ r .upper j * m) below₀ below₁;
+      }
+
+-- what lies inside: rows over 1, 5, 20 and 7, also where an entry is at an end; and what does not: a row that does not sum to M, entries below a lower and above an upper end, and no row over 0
+pub record InsideExamples : Type 0 where
+  pub overOne : Inside 2 (chainA .row 0) (pair 1 1 0)
+  pub overFive : Inside 2 (chainA .row 1) (pair 5 4 1)
+  pub overTwenty : Inside 2 (chainA .row 0) (pair 20 19 1)
+  pub overSeven : Inside 2 (chainA .row 1) (pair 7 6 1)
+  pub shortSum : Inside 2 (chainA .row 0) (pair 20 19 0) → ⊥
+  pub tooLow : Inside 2 (chainA .row 1) (pair 3 2 1) → ⊥
+  pub tooHigh : Inside 2 (chainA .row 1) (pair 1 1 0) → ⊥
+  pub overNone : Inside 2 (chainA .row 0) (pair 0 0 0) → ⊥
+
+pub inside-examples : InsideExamples
+unfolding sumTo
+inside-examples =
+    record {
+      overOne = inside-two (chainA .row 0) 1 1 0 (omega arith) refl (omega arith) (omega arith) (omega arith) (omega arith);
+      overFive = inside-two (chainA .row 1) 5 4 1 (omega arith) refl (omega arith) (omega arith) (omega arith) (omega arith);
+      overTwenty = inside-two (chainA .row 0) 20 19 1 (omega arith) refl (omega arith) (omega arith) (omega arith) (omega arith);
+      overSeven = inside-two (chainA .row 1) 7 6 1 (omega arith) refl (omega arith) (omega arith) (omega arith) (omega arith);
+      shortSum = λ h. omega (arith, h .sums);
+      tooLow = λ h. omega (arith, h .above 0 (omega arith));
+      tooHigh = λ h. omega (arith, h .below 0 (omega arith));
+      overNone = λ h. omega (arith, h .positive);
+    }
+
+-- the year that has the row outside is no pick
+no-outside : {ps : List Matrix} → InsideEach chainA (outsideYear ∷ ps) → ⊥
+no-outside (also inside rest) = inside-examples .tooLow (inside 1 (omega arith))
+
+-- "Picks for t years are a list of t matrices": two matrices are picks for 2 years alone, none for 0 years, and every row of every year has to lie inside
+pub record PicksExamples : Type 0 where
+  pub two : PicksFor chainA 2 picksA
+  pub notOne : PicksFor chainA 1 picksA → ⊥
+  pub notThree : PicksFor chainA 3 picksA → ⊥
+  pub empty : PicksFor chainA 0 []
+  pub outsideFirst : PicksFor chainA 2 (outsideYear ∷ secondYear ∷ []) → ⊥
+  pub outsideLast : PicksFor chainA 2 (firstYear ∷ outsideYear ∷ []) → ⊥
+
+pub picks-examples : PicksExamples
+picks-examples =
+    record {
+      two = record {
+        years = refl;
+        inside =
+            also (both (λ i. Inside 2 (chainA .row i) (firstYear i)) (inside-examples .overOne) (inside-examples .overFive))
+            (also (both (λ i. Inside 2 (chainA .row i) (secondYear i)) (inside-examples .overTwenty) (inside-examples .overSeven)) none);
+      };
+      notOne = λ h. omega (arith, h .years);
+      notThree = λ h. omega (arith, h .years);
+      empty = record { years = refl; inside = none };
+      outsideFirst = λ h. no-outside (h .inside);
+      outsideLast = λ h. no-last (h .inside);
+    }
+  where
+    no-last : InsideEach chainA (firstYear ∷ outsideYear ∷ []) → ⊥
+    no-last (also inside rest) = no-outside rest
+
+-- the value of a fraction whose denominator is not 0
+pub record Value (x : Fraction) (num den : ℕ) : Type 0 where
+  pub proper : 0 < x .den
+  pub same : x .num * den ≡ num * x .den
+
+-- the exact figures that these picks bring from class 2: four fifths and one fifth after a year, then 163 and 12 of 175; the mean 72,400 / 7 cents, and the total 15,000 + 11,000 cents
+pub record ExactA : Type 0 where
+  pub share1 : Value (exactShare 2 0 picksA 1) 163 175
+  pub share2 : Value (exactShare 2 1 picksA 1) 12 175
+  pub yearOne : Value (exactShare 2 0 (firstYear ∷ []) 1) 4 5
+  pub yearNone : Value (exactShare 2 1 [] 1) 1 1
+  pub yearNoneElsewhere : Value (exactShare 2 0 [] 1) 0 1
+  pub parts : Value (shareInParts 2 0 (firstYear ∷ []) 1) 800000000 1
+  pub mean : Value (exactMean 2 premiumA picksA 1) 72400 7
+  pub total : Value (exactTotal 2 premiumA picksA 1) 26000 1
+
+pub exact-a : ExactA
+unfolding exactTotal exactMean product sumFractions onlyIf
+exact-a =
+    record {
+      share1 = record { proper = omega arith; same = refl };
+      share2 = record { proper = omega arith; same = refl };
+      yearOne = record { proper = omega arith; same = refl };
+      yearNone = record { proper = omega arith; same = refl };
+      yearNoneElsewhere = record { proper = omega arith; same = refl };
+      parts = record { proper = omega arith; same = refl };
+      mean = record { proper = omega arith; same = refl };
+      total = record { proper = omega arith; same = refl };
+    }
+
+-- a figure from low to high is not near a bound that lies more than t below low, or more than t above high
+module _ {t bound low high : ℕ} {x : Fraction} (proper : Proper x) (between : Between low high x) (near : Near t bound x) where
+  pub far-below : bound + t < low → ⊥
+  far-below far = omega (arith, between .least, near .under, mul-le-mul-right (x .den) far)
+
+  pub far-above : high + t < bound → ⊥
+  far-above far = omega (arith, between .most, near .over, mul-le-mul-right (x .den) far)
+
+sound-a : SoundChain chainA
+unfolding sumTo
+sound-a = both (λ i. SoundRow 2 (chainA .row i)) first second
+  where
+    first : SoundRow 2 (chainA .row 0)
+    first =
+        record {
+          ordered = both (λ j. chainA .row 0 .lower j ≤ chainA .row 0 .upper j) (omega arith) (omega arith);
+          capped = both (λ j. chainA .row 0 .upper j ≤ ONE) (omega arith) (omega arith);
+          lowers = omega arith;
+          uppers = omega arith;
+        }
+
+    second : SoundRow 2 (chainA .row 1)
+    second =
+        record {
+          ordered = both (λ j. chainA .row 1 .lower j ≤ chainA .row 1 .upper j) (omega arith) (omega arith);
+          capped = both (λ j. chainA .row 1 .upper j ≤ ONE) (omega arith) (omega arith);
+          lowers = omega arith;
+          uppers = omega arith;
+        }
+
+-- the figures of year 1 from class 2
+year-one : (lowShare chainA 0 1 1 ≡ 800000000) × (highShare chainA 0 1 1 ≡ 900000000) × (lowMean chainA premiumA 1 1 ≡ 10500) × (highMean chainA premiumA 1 1 ≡ 11000)
+unfolding lowYears highYears lowStep highStep fillRow roomBefore sumTo onlyIf
+year-one = (refl, refl, refl, refl)
+
+-- "always 0 and ONE for a share" is shut out by closeness: no picks for a year bring the share of class 1 within 1 of 0, or of ONE; and none bring the mean within 1 cent of the lowest premium, or of the highest
+pub record WorthlessA (ps : List Matrix) : Type 0 where
+  pub zero : Near 1 0 (shareInParts 2 0 ps 1) → ⊥
+  pub one : Near 1 ONE (shareInParts 2 0 ps 1) → ⊥
+  pub lowest : Near 1 10000 (exactMean 2 premiumA ps 1) → ⊥
+  pub highest : Near 1 15000 (exactMean 2 premiumA ps 1) → ⊥
+
+pub worthless-a : (ps : List Matrix) → PicksFor chainA 1 ps → WorthlessA ps
+worthless-a ps picks =
+    let proper = exact-proper chainA sound-a premiumA 0 1 ps picks 1 (omega arith) in
+    let share = share-promise chainA sound-a 0 1 .contains ps picks 1 (omega arith) in
+    let mean = mean-promise chainA sound-a premiumA 1 .contains ps picks 1 (omega arith) in
+    record {
+      zero = λ near. far-below (proper .0) share near (omega (arith, year-one .0));
+      one = λ near. far-above (proper .0) share near (omega (arith, year-one .1));
+      lowest = λ near. far-below (proper .1) mean near (omega (arith, year-one .2));
+      highest = λ near. far-above (proper .1) mean near (omega (arith, year-one .3));
+    }
