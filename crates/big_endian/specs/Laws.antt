@@ -3,15 +3,23 @@ use Prim.Native.Nat.{ℕ, zero, suc, _+_, _*_, _/_, _%_, _-_, _^_, _≤_, _<_}
 use mathlib.Core.Path.{_≡_, refl, ap, sym}
 use mathlib.Core.Bool.{Bool, true, false, cond, _&&_}
 use mathlib.Core.List.{List, [], _∷_, _++_}
-use native.Mathlib.Decide.{decLe}
+use native.Mathlib.Decide.{decLe, decLt}
 use native.Mathlib.Omega.{arith}
 use native.Mathlib.Nat.{add-zero}
 use native.Mathlib.Numerals.{add-one, add-two, add-three}
 use lib.Dec.{leb}
-use lib.ListN.{length, getD, take, drop, set, length-append, length-drop, List·getD-append}
-use lib.Seq.{sets, getD-at, getD-drop, take-suc, length-take-le}
+use lib.ListN.{length, getD, take, drop, set, length-append, length-take, length-drop, List·getD-append, List·getD-eq-default}
+use lib.Seq.{sets, getD-at, getD-take, getD-drop, take-suc, length-take-le}
 use borrow.Author.Tests.{le-leb, lt-leb}
-use Rattle.big_endian.specs.Numbers.{beAt, beBytes, holds, numberAt, numberPut, partPut}
+use Rattle.big_endian.specs.Numbers.{Bytes, beAt, beBytes, holds, numberAt, numberPut, partPut}
+
+-- the first bytes of bytes are bytes
+pub bytes-take : (n : ℕ) (l : List ℕ) → Bytes l → Bytes (take n l)
+bytes-take n l small k = by (decLt k n)
+  where
+    by : Dec (k < n) → getD (take n l) k 0 < 256
+    by (yes h) = omega (arith, getD-take n l k 0 h, small k)
+    by (no h) = omega (arith, List·getD-eq-default (take n l) 0 {n = k} (omega (arith, length-take n l)))
 
 -- a number's bytes are as many as its width
 pub length-beBytes : (w x : ℕ) → length (beBytes w x) ≡ w
@@ -42,7 +50,7 @@ read-put (suc w) x h =
     omega (arith, rest, last, read-put w (x / 256) (omega arith))
 
 -- put after read: the bytes that were read
-pub put-read : (w : ℕ) (l : List ℕ) (p : ℕ) → p + w ≤ length l → ((k : ℕ) → getD l k 0 < 256) → beBytes w (beAt w l p) ≡ take w (drop p l)
+pub put-read : (w : ℕ) (l : List ℕ) (p : ℕ) → p + w ≤ length l → Bytes l → beBytes w (beAt w l p) ≡ take w (drop p l)
 unfolding beAt beBytes
 put-read zero l p h small = refl
 put-read (suc w) l p h small =
@@ -54,7 +62,7 @@ put-read (suc w) l p h small =
     (sym (take-suc (drop p l) w 0 (rw (length-drop p l) (omega arith))))
 
 -- a number read from bytes fits its width
-pub beAt-fits : (w : ℕ) (l : List ℕ) (p : ℕ) → ((k : ℕ) → getD l k 0 < 256) → beAt w l p < 256 ^ w
+pub beAt-fits : (w : ℕ) (l : List ℕ) (p : ℕ) → Bytes l → beAt w l p < 256 ^ w
 unfolding beAt
 beAt-fits zero l p small = omega arith
 beAt-fits (suc w) l p small = omega (arith, beAt-fits w l p small, small (p + w))

@@ -1,10 +1,14 @@
 -- Numbers in bytes, over any width (document 01, "Record": "All numbers big-endian").
-use Prim.Native.Nat.{ℕ, zero, suc, _+_, _*_, _/_, _%_}
+use Prim.Native.Nat.{ℕ, zero, suc, _+_, _*_, _/_, _%_, _<_}
 use mathlib.Core.Bool.{Bool, cond, _&&_}
 use mathlib.Core.List.{List, [], _∷_, _++_}
 use lib.Dec.{leb}
 use lib.ListN.{length, getD, take, drop}
 use lib.Seq.{sets}
+
+-- each entry of the list is a byte
+abbrev pub Bytes : List ℕ → Type 0
+Bytes bytes = (k : ℕ) → getD bytes k 0 < 256
 
 -- the number that stands in `width` bytes from `place` on
 unfoldable pub beAt : (width : ℕ) → List ℕ → (place : ℕ) → ℕ

@@ -1,54 +1,25 @@
 // Standard input, output and error for the programs.
-ghost use Prim.Native.Nat.{_≤_};
 use libc::STDERR_FILENO;
 use libc::STDIN_FILENO;
 use libc::STDOUT_FILENO;
+ghost use Prim.Native.Nat.{_≤_};
+ghost use lib.ListN.{length};
+ghost use Rattle.console.specs.Input.{Filled};
 
-// The lowest decimal digit of a number, as a byte.
-fn digit(x: u64) -> u8 {
-    (48 + x % 10) as u8
-}
-
-// Bytes as they are.
-pub fn bytes(text: &[u8]) {
-    io::write_all(STDOUT_FILENO, text);
-}
-
-// The digits from a place on, with the space before them.
-fn show(digits: [u8; 21], from: usize)
-    requires { ⌜ from ≤ 20 ⌝ }
-{
-    io::write_all(STDOUT_FILENO, &digits[from..]);
+// Bytes as they are, to standard output. False where a write failed or took nothing: some of them may be written then.
+pub fn bytes(text: &[u8]) -> bool {
+    io::write_all(STDOUT_FILENO, text)
 }
 
 // A space and a number in decimal.
 pub fn number(x: u64) {
-    let mut digits = [32u8; 21];
-    digits[20] = digit(x);
-    let mut at: usize = 19;
-    let mut rest = x / 10;
-    while 0 < at {
-        if rest == 0 {
-            show(digits, at);
-            return;
-        }
-        digits[at] = digit(rest);
-        rest = rest / 10;
-        at -= 1;
-    }
-    show(digits, at)
+    bytes(b" ");
+    io::print_decimal(STDOUT_FILENO, x);
 }
 
 // The end of a line.
 pub fn end() {
-    io::write_all(STDOUT_FILENO, b"\n");
-}
-
-// The first bytes of a buffer, to standard output.
-pub fn part(text: &[u8], length: usize) {
-    if length <= text.len() {
-        io::write_all(STDOUT_FILENO, &text[..length]);
-    }
+    bytes(b"\n");
 }
 
 // A line to standard error.
@@ -56,43 +27,60 @@ pub fn complain(text: &[u8]) {
     io::write_all(STDERR_FILENO, text);
 }
 
-// What came of standard input: how many bytes, or a failed read.
-pub enum Got {
-    Bytes(usize),
-    Failed,
+// What came of reading: how many bytes the buffer has of the input, from its front on, and whether a read failed.
+pub struct Input {
+    pub length: usize,
+    pub failed: bool,
 }
 
-// One read into the part of the buffer behind what is there.
-fn more(buffer: &mut [u8], done: usize) -> Got {
-    if buffer.len() < done {
-        return Got::Failed;
-    }
-    let free = &mut buffer[done..];
-    let got = libc::read(STDIN_FILENO, free);
-    if got < 0 {
-        return Got::Failed;
-    }
-    Got::Bytes(io::count(got, free))
+// The smaller of two lengths.
+fn smaller(a: usize, b: usize) -> usize
+    ensures { λ r. ⌜ (r ≤ a) × (r ≤ b) ⌝ }
+{
+    if a < b { a } else { b }
 }
 
-// All of standard input, or as much of it as the buffer holds.
-pub fn read_all(buffer: &mut [u8]) -> Got {
+// One read: what came, from the front of the chunk on.
+fn fetch(chunk: &mut [u8]) -> Input {
+    let got = libc::read(STDIN_FILENO, chunk);
+    Input {
+        length: io::count(got, chunk),
+        failed: got < 0,
+    }
+}
+
+// One read more, put into the buffer behind the first `done` bytes. The end of the input brings none.
+fn more(buffer: &mut [u8], done: usize) -> Input
+    requires { ⌜ done ≤ length (now buffer) ⌝ }
+    ensures { λ r. ⌜ Filled done (now (buffer .entry)) (now (buffer .exit)) (r .length) ⌝ }
+{
+    let mut chunk = io::buffer();
+    let read = fetch(&mut chunk);
+    let length = smaller(read.length, buffer.len() - done);
+    putting::copy(&chunk, 0, buffer, done, length);
+    Input {
+        length,
+        failed: read.failed,
+    }
+}
+
+// All of standard input, or as much of it as the buffer holds; bytes past it stay as they were.
+pub fn read_all(buffer: &mut [u8]) -> Input
+    ensures { λ r. ⌜ Filled 0 (now (buffer .entry)) (now (buffer .exit)) (r .length) ⌝ }
+{
     let mut done: usize = 0;
     while done < buffer.len() {
-        match more(buffer, done) {
-            Got::Failed => {
-                return Got::Failed;
-            }
-            Got::Bytes(n) => {
-                if n == 0 {
-                    return Got::Bytes(done);
-                }
-                if buffer.len() - done < n {
-                    return Got::Failed;
-                }
-                done += n;
-            }
+        let read = more(buffer, done);
+        if read.length == 0 {
+            return Input {
+                length: done,
+                failed: read.failed,
+            };
         }
+        done += read.length;
     }
-    Got::Bytes(done)
+    Input {
+        length: done,
+        failed: false,
+    }
 }

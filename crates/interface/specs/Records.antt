@@ -5,7 +5,7 @@ use Rattle.scheme.specs.declared.Scheme.{Scheme}
 use Rattle.scheme.specs.Cause.{orElse}
 use Rattle.layout.specs.Layout.{version1, schemeIn}
 use Rattle.layout.specs.Read.{readCause}
-use Rattle.layout.specs.Write.{numberOf, valueOf, writeAnswer}
+use Rattle.layout.specs.Write.{writeNumber, writtenLength, writeAnswer}
 use Rattle.ready_schemes.specs.Answer.{readyAnswer}
 use Rattle.buffers.specs.Buffers.{bufferCause}
 
@@ -15,11 +15,11 @@ checkNumber bytes = readCause bytes
 
 -- the cause of writing, then 13 where the buffer for the length is not of 1 number
 abbrev pub recordNumber : Scheme → (out length : List ℕ) → ℕ
-recordNumber s out length = orElse (numberOf (writeAnswer s out)) (bufferCause 1 length)
+recordNumber s out length = orElse (writeNumber (writeAnswer s out)) (bufferCause 1 length)
 
 -- the record's length, as a buffer of 1 number
 abbrev pub recordLength : Scheme → List ℕ → List ℕ
-recordLength s out = valueOf (writeAnswer s out) ∷ []
+recordLength s out = writtenLength (writeAnswer s out) ∷ []
 
 -- the number for a record written again: the cause of reading comes first
 abbrev pub rewriteNumber : List ℕ → (out length : List ℕ) → ℕ

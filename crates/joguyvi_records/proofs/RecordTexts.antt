@@ -12,7 +12,7 @@ use Rattle.scheme.specs.Cause.{orElse, causeOf}
 use Rattle.scheme.specs.Laws.Cause.{first-cause, second-cause, declined}
 use Rattle.layout.specs.Layout.{version1}
 use Rattle.layout.specs.Bytes.{bytesOf}
-use Rattle.layout.specs.Write.{numberOf, valueOf, recordLength, writeCause, writeAnswer, writeLeaves}
+use Rattle.layout.specs.Write.{writeNumber, writtenLength, recordLength, writeCause, writeAnswer, writeLeaves}
 use Rattle.buffers.specs.Laws.Texting.{Texted, unfilled}
 use Rattle.interface.specs.Records.{recordNumber}
 
@@ -22,23 +22,23 @@ room-only true n e h = e
 room-only false n e h = absurd (h e)
 
 module _ (s : Scheme) (out : List ℕ) where
-  pub write-only : causeOf s ≡ 0 → (numberOf (writeAnswer s out) ≡ 0 → ⊥) → numberOf (writeAnswer s out) ≡ 13
+  pub write-only : causeOf s ≡ 0 → (writeNumber (writeAnswer s out) ≡ 0 → ⊥) → writeNumber (writeAnswer s out) ≡ 13
   write-only ok h =
       room-only (ltb (length out) (recordLength s)) _ (answer-number s out ∙ second-cause (causeOf s) (cond (ltb (length out) (recordLength s)) 13 0) ok) h
 
-  pub write-left : (numberOf (writeAnswer s out) ≡ 0 → ⊥) → writeLeaves s out ≡ out
+  pub write-left : (writeNumber (writeAnswer s out) ≡ 0 → ⊥) → writeLeaves s out ≡ out
   unfolding writeLeaves
   write-left h = declined (writeCause s out) (bytesOf version1 s ++ drop (recordLength s) out) out (λ z. h (answer-number s out ∙ z))
 
 -- what is answered and left for a scheme's record
 abbrev pub Recorded : Scheme → (number cause : ℕ) (out size out′ size′ : List ℕ) → Type 0
-Recorded s number cause out size out′ size′ = Texted number cause (valueOf (writeAnswer s out)) (writeLeaves s out) out size out′ size′
+Recorded s number cause out size out′ size′ = Texted number cause (writtenLength (writeAnswer s out)) (writeLeaves s out) out size out′ size′
 
 -- a cause before writing: with one, and without
 module _ (cause : ℕ) (s : Scheme) (out size : List ℕ) where
   pub record-stopped : {n : ℕ} → n ≡ cause → (n ≡ 0 → ⊥) → Recorded s n (orElse cause (recordNumber s out size)) out size out size
   record-stopped e some =
-      unfilled (valueOf (writeAnswer s out)) (writeLeaves s out) some (e ∙ sym (first-cause cause (recordNumber s out size) (λ z. some (e ∙ z))))
+      unfilled (writtenLength (writeAnswer s out)) (writeLeaves s out) some (e ∙ sym (first-cause cause (recordNumber s out size) (λ z. some (e ∙ z))))
 
   pub record-passed : (t : Scheme) {n : ℕ} {out′ size′ : List ℕ} → cause ≡ 0 → t ≡ s → Recorded t n (recordNumber t out size) out size out′ size′
       → Recorded s n (orElse cause (recordNumber s out size)) out size out′ size′

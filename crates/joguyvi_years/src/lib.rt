@@ -10,7 +10,6 @@ ghost use Rattle.interface.specs.Shares.{sharesNumber};
 ghost use Rattle.interface.specs.Texts.{sheetLength, sheetNumber};
 
 mod figures;
-mod texts;
 
 // The low and the high share of a class after a number of years, in parts, into a buffer of 2 numbers.
 #[no_mangle]
@@ -89,10 +88,10 @@ pub extern "C" fn joguyvi_sheet(bytes: &[u8], out: &mut [u8], length: &mut [u64]
         return scheme::SLICE_OUT;
     }
     let answer = sheet_text::sheet(bytes, out);
-    let number = texts::number_of(answer);
+    let number = buffers::write_number(answer);
     if number != 0 {
         return number;
     }
-    length[0] = texts::length_of(answer);
+    length[0] = buffers::written_length(answer);
     0
 }

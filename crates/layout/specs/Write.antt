@@ -11,15 +11,15 @@ use Rattle.layout.specs.declared.WriteAnswer.the-variants.{Written, Decl
 use Rattle.layout.specs.Layout.{version1, lengthOf}
 use Rattle.layout.specs.Bytes.{bytesOf}
 
--- the number of each answer: 0 where the record was written
-abbrev pub numberOf : WriteAnswer → ℕ
-numberOf (Written length) = 0
-numberOf (Declined number) = number
+-- the number of each answer: 0 where a record or a text was written
+abbrev pub writeNumber : WriteAnswer → ℕ
+writeNumber (Written length) = 0
+writeNumber (Declined number) = number
 
--- the value of each answer: the record's length, and none where the call was declined
-abbrev pub valueOf : WriteAnswer → ℕ
-valueOf (Written length) = length
-valueOf (Declined number) = 0
+-- the value of each answer: the length of what was written, and none where the call was declined
+abbrev pub writtenLength : WriteAnswer → ℕ
+writtenLength (Written length) = length
+writtenLength (Declined number) = 0
 
 -- the length of the scheme's record
 abbrev pub recordLength : Scheme → ℕ

@@ -7,7 +7,7 @@ pub struct ReadAnswer {
     pub scheme: Scheme,
 }
 
-// What writing a record answers: the record's length, or the cause.
+// What writing a record, or a text, into a lent slice answers: the length of what was written, or the cause.
 pub enum WriteAnswer {
     Written(usize),
     Declined(u8),

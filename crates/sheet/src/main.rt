@@ -1,35 +1,31 @@
 // Reads one record from standard input and prints its sheet (document 01, "Sheet program and examples").
-use console::Got;
-use sheet_text::SheetAnswer;
+ghost use Rattle.sheet.specs.Program.{Buffers, Composed};
+
+// One byte more than a record's length field can say: input that has more is refused by its first bytes, as it would be by all of them.
+const INPUT: usize = 65_536;
 
 // Room for the sheet of any record.
 const ROOM: usize = 132_862;
 
-// Prints the sheet of the first n bytes.
-fn print_sheet(bytes: &[u8], n: usize) {
-    if bytes.len() < n {
+// Writes the sheet of the first n bytes of the input, and answers its length.
+fn compose(input: &[u8], n: usize, out: &mut [u8]) -> usize
+    requires { ⌜ Buffers (now input) n (now out) ⌝ }
+    ensures { λ r. ⌜ Composed (now (input .entry)) n (now (out .exit)) r ⌝ }
+{
+    let answer = sheet_text::sheet(&input[..n], out);
+    buffers::written_length(answer) as usize
+}
+
+fn main() {
+    let mut input = [0u8; INPUT];
+    let read = console::read_all(&mut input);
+    if read.failed {
+        console::complain(b"sheet: standard input could not be read\n");
         return;
     }
     let mut out = [0u8; ROOM];
-    match sheet_text::sheet(&bytes[..n], &mut out) {
-        SheetAnswer::Written(length) => {
-            console::part(&out, length);
-        }
-        SheetAnswer::Declined(_) => {
-            console::complain(b"sheet: no room for the text\n");
-        }
-    }
-}
-
-// The buffer holds more bytes than a record's length field can say, so that no longer input is cut into a record.
-fn main() {
-    let mut input = io::large_buffer();
-    match console::read_all(&mut input) {
-        Got::Bytes(n) => {
-            print_sheet(&input, n);
-        }
-        Got::Failed => {
-            console::complain(b"sheet: standard input could not be read\n");
-        }
+    let length = compose(&input, read.length, &mut out);
+    if !console::bytes(&out[..length]) {
+        console::complain(b"sheet: standard output could not be written\n");
     }
 }

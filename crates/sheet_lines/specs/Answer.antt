@@ -4,23 +4,14 @@ use mathlib.Core.Path.{_≡_}
 use mathlib.Core.Bool.{cond}
 use mathlib.Core.List.{List, _++_}
 use lib.Dec.{eqb, ltb}
-use lib.ListN.{length, drop}
+use lib.ListN.{length, take, drop}
 use Rattle.scheme.specs.declared.Scheme.{Scheme}
 use Rattle.layout.specs.Layout.{version1, schemeIn}
 use Rattle.layout.specs.Read.{readCause}
-use Rattle.sheet_lines.specs.declared.SheetAnswer.{SheetAnswer}
-use Rattle.sheet_lines.specs.declared.SheetAnswer.the-variants.{Written, Declined}
+use Rattle.layout.specs.declared.WriteAnswer.{WriteAnswer}
+use Rattle.layout.specs.declared.WriteAnswer.the-variants.{Written, Declined}
+use Rattle.layout.specs.Write.{writeNumber, writtenLength}
 use Rattle.sheet_lines.specs.Sheet.{sheetText}
-
--- the number of each answer: 0 where the sheet was written
-abbrev pub numberOf : SheetAnswer → ℕ
-numberOf (Written length) = 0
-numberOf (Declined number) = number
-
--- the value of each answer: the sheet's length, and none where the call was declined
-abbrev pub valueOf : SheetAnswer → ℕ
-valueOf (Written length) = length
-valueOf (Declined number) = 0
 
 -- the most bytes that the sheet of a scheme of this size may have: SCHEME 19, a class 40, PREMIUM 35, TOTAL 28
 unfoldable pub roomOf : Scheme → ℕ
@@ -31,7 +22,7 @@ unfoldable pub roomFor : List ℕ → ℕ
 roomFor bytes = cond (eqb (readCause bytes) 0) (roomOf (schemeIn version1 bytes)) 11
 
 -- a text into a slice of at least `room` bytes: its length, and 13 for a shorter slice
-abbrev pub answerBy : (room : ℕ) (text out : List ℕ) → SheetAnswer
+abbrev pub answerBy : (room : ℕ) (text out : List ℕ) → WriteAnswer
 answerBy room text out = cond (ltb (length out) room) (Declined 13) (Written (length text))
 
 -- the text from the front on, and bytes past it unchanged; declined, all of them
@@ -39,14 +30,18 @@ abbrev pub leavesBy : (room : ℕ) (text out : List ℕ) → List ℕ
 leavesBy room text out = cond (ltb (length out) room) out (text ++ drop (length text) out)
 
 -- what is answered for a text that takes so much room, and what the slice holds afterwards
-pub record Told (room : ℕ) (text before after : List ℕ) (r : SheetAnswer) : Type 0 where
+pub record Told (room : ℕ) (text before after : List ℕ) (r : WriteAnswer) : Type 0 where
   pub answer : r ≡ answerBy room text before
   pub leaves : after ≡ leavesBy room text before
 
 -- the answer for any bytes
-unfoldable pub sheetAnswer : List ℕ → List ℕ → SheetAnswer
+unfoldable pub sheetAnswer : List ℕ → List ℕ → WriteAnswer
 sheetAnswer bytes out = answerBy (roomFor bytes) (sheetText bytes) out
 
 -- the slice after it
 unfoldable pub sheetLeaves : List ℕ → List ℕ → List ℕ
 sheetLeaves bytes out = leavesBy (roomFor bytes) (sheetText bytes) out
+
+-- what the answer promises: the first bytes of the slice, as many as it says, are the sheet of all the bytes
+abbrev pub TextPromise : (bytes after : List ℕ) → WriteAnswer → Type 0
+TextPromise bytes after r = writeNumber r ≡ 0 → take (writtenLength r) after ≡ sheetText bytes

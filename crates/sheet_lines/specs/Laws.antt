@@ -2,3 +2,4 @@
 pub mod Figures
 pub mod Widths
 pub mod Room
+pub mod Cut

@@ -1,11 +1,11 @@
 // The sheet of a record as text (document 01, "Sheet program and examples").
+pub use layout::WriteAnswer;
 use scheme::Scheme;
-pub use sheet_lines::SheetAnswer;
 ghost use mathlib.Core.Path.{_≡_};
 ghost use Prim.Native.Nat.{_≤_};
 ghost use Rattle.scheme.specs.Accepted.{Accepted};
 ghost use Rattle.sheet_lines.specs.Sheet.{refusedLine, sheetOf};
-ghost use Rattle.sheet_lines.specs.Answer.{roomOf, Told, sheetAnswer, sheetLeaves};
+ghost use Rattle.sheet_lines.specs.Answer.{roomOf, Told, sheetAnswer, sheetLeaves, TextPromise};
 
 mod lines;
 mod tables;
@@ -14,32 +14,34 @@ mod whole;
 mod years;
 
 // Writes the line of a refusal.
-fn refused(out: &mut [u8], number: u8) -> SheetAnswer
+fn refused(out: &mut [u8], number: u8) -> WriteAnswer
     requires { ⌜ number ≤ 99 ⌝ }
     ensures { λ r. ⌜ Told 11 (refusedLine number) (now (out .entry)) (now (out .exit)) r ⌝ }
 {
     if out.len() < 11 {
-        return SheetAnswer::Declined(scheme::SLICE_OUT);
+        return WriteAnswer::Declined(scheme::SLICE_OUT);
     }
-    SheetAnswer::Written(lines::refused_line(out, 0, number))
+    WriteAnswer::Written(lines::refused_line(out, 0, number))
 }
 
 // Writes the sheet of an accepted scheme.
-fn accepted(out: &mut [u8], scheme: Scheme) -> SheetAnswer
+fn accepted(out: &mut [u8], scheme: Scheme) -> WriteAnswer
     requires { ⌜ Accepted scheme ⌝ }
     ensures { λ r. ⌜ Told (roomOf scheme) (sheetOf scheme) (now (out .entry)) (now (out .exit)) r ⌝ }
 {
     let years = (scheme.horizon as usize) + 1;
     let room = 19 + years * ((scheme.classes as usize) * 40 + 35) + 28;
     if out.len() < room {
-        return SheetAnswer::Declined(scheme::SLICE_OUT);
+        return WriteAnswer::Declined(scheme::SLICE_OUT);
     }
-    SheetAnswer::Written(tables::put_sheet(out, scheme))
+    WriteAnswer::Written(tables::put_sheet(out, scheme))
 }
 
 // Writes the sheet of any bytes, or the line of their refusal, and leaves bytes past it unchanged; a slice without the room is left as it was.
-pub fn sheet(bytes: &[u8], out: &mut [u8]) -> SheetAnswer
-    ensures { λ r. ⌜ (r ≡ sheetAnswer (now (bytes .entry)) (now (out .entry))) × (now (out .exit) ≡ sheetLeaves (now (bytes .entry)) (now (out .entry))) ⌝ }
+pub fn sheet(bytes: &[u8], out: &mut [u8]) -> WriteAnswer
+    ensures answer { λ r. ⌜ r ≡ sheetAnswer (now (bytes .entry)) (now (out .entry)) ⌝ }
+    ensures leaves { λ r. ⌜ now (out .exit) ≡ sheetLeaves (now (bytes .entry)) (now (out .entry)) ⌝ }
+    ensures promise { λ r. ⌜ TextPromise (now (bytes .entry)) (now (out .exit)) r ⌝ }
 {
     let answer = record::read(bytes);
     let number = answer.number;

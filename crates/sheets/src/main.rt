@@ -1,7 +1,7 @@
 // Prints the sheets of many records from standard input, each behind its length in two bytes. What it must print was written by the
 // plain Rust version (rust/regenerate): a sheet of at most 1,000 bytes whole, of a longer one its length and a checksum.
 use console::Got;
-use sheet_text::SheetAnswer;
+use sheet_text::WriteAnswer;
 
 // The first bytes of a text, or all where there are fewer.
 fn front(text: &[u8], n: usize) -> &[u8] {
@@ -43,10 +43,10 @@ fn show(text: &[u8]) {
 // The sheet's text in a slice, or the cause for which it does not fit there.
 fn text_in(bytes: &[u8], out: &mut [u8]) {
     match sheet_text::sheet(bytes, out) {
-        SheetAnswer::Written(length) => {
+        WriteAnswer::Written(length) => {
             show(front(out, length));
         }
-        SheetAnswer::Declined(cause) => {
+        WriteAnswer::Declined(cause) => {
             console::bytes(b"NO");
             console::number(cause as u64);
             console::end();

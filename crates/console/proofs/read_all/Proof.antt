@@ -1,65 +1,60 @@
--- `read_all` is safe and ends: each turn leaves less of the buffer free.
-use Prim.Native.Nat.{_≤_, _-_}
-use mathlib.Core.Path.{_≡_}
-use lib.ListN.{length}
+-- `read_all` reads until the buffer is full or nothing more comes: each turn leaves less of the buffer free.
+-- Assumes nothing.
+use Prim.Native.Nat.{_-_}
+use mathlib.Core.Path.{_∙_}
 use native.Mathlib.Omega.{arith}
-use borrow.Author.Needs.{needs}
+use lib.ListN.{length}
+use Rattle.console.specs.Input.{Filled}
+use Rattle.console.proofs.Filling.{filled-none, filled-more}
 use Rattle.console.proofs.read_all.Statement.{statement}
 use Rattle.console.proofs.read_all.Tie as tie
 
 abbrev Inv-loop : tie.InvT-loop
-Inv-loop buffer₀ done₀ buffer done = (done ≤ length buffer) × (length buffer ≡ length buffer₀)
+Inv-loop buffer₀ done₀ buffer done = Filled 0 buffer₀ buffer done
 
 abbrev μ-loop : tie.MeasureT-loop
 μ-loop buffer₀ done₀ buffer done = length buffer - done
 
 loop-holds : tie.Need-loop-holds Inv-loop μ-loop
-loop-holds c = omega arith
+loop-holds c = filled-none 0 _
 
 more-requires : tie.Need-more-requires Inv-loop μ-loop
-more-requires c κs = tt
-
-enum-told : tie.Need-enum-told Inv-loop μ-loop
-enum-told c = search needs
+more-requires c κs = omega arith
 
 same-length : tie.Need-same-length Inv-loop μ-loop
-same-length c = omega (arith, c .before .before .before .before .more .kept .0)
+same-length c =
+    let at-more = c .before .before .before .before in
+    let at-loop = at-more .before .before .before in
+    at-more .more .ensures .size ∙ at-loop .loop .inv .size
 
 returns : tie.Need-returns Inv-loop μ-loop
-returns c = search needs
-
-enum-known-n : tie.Need-enum-known-n Inv-loop μ-loop
-enum-known-n c = search needs
-
-same-length-2 : tie.Need-same-length-2 Inv-loop μ-loop
-same-length-2 c = omega (arith, c .before .before .before .before .before .before .more .kept .0)
-
-returns-2 : tie.Need-returns-2 Inv-loop μ-loop
-returns-2 c = search needs
-
-sub-if2 : tie.Need-sub-if2 Inv-loop μ-loop
-sub-if2 c = omega (arith, c .before .before .before .before .before .before .more .kept .0)
-
-same-length-3 : tie.Need-same-length-3 Inv-loop μ-loop
-same-length-3 c = omega (arith, c .before .before .before .before .before .before .before .more .kept .0)
-
-returns-3 : tie.Need-returns-3 Inv-loop μ-loop
-returns-3 c = search needs
+returns c =
+    let at-more = c .before .before .before .before in
+    let at-loop = at-more .before .before .before in
+    filled-more (at-loop .loop .inv) (at-more .more .ensures) (omega arith)
 
 add-done : tie.Need-add-done Inv-loop μ-loop
-add-done c = omega (arith, c .before .before .before .before .before .before .before .more .kept .0)
+add-done c =
+    let at-more = c .before .before .before .before .before in
+    let at-loop = at-more .before .before .before in
+    omega (arith, at-more .more .ensures .within, at-loop .loop .inv .size, at-loop .loop .inv .within)
 
 loop-less : tie.Need-loop-less Inv-loop μ-loop
-loop-less c = omega (arith, c .before .before .before .before .before .before .before .more .kept .0)
+loop-less c =
+    let at-more = c .before .before .before .before .before in
+    omega (arith, at-more .more .ensures .within, at-more .more .ensures .size)
 
 loop-again : tie.Need-loop-again Inv-loop μ-loop
-loop-again c = omega (arith, c .before .before .before .before .before .before .before .more .kept .0)
+loop-again c =
+    let at-more = c .before .before .before .before .before in
+    let at-loop = at-more .before .before .before in
+    filled-more (at-loop .loop .inv) (at-more .more .ensures) (omega arith)
 
-same-length-4 : tie.Need-same-length-4 Inv-loop μ-loop
-same-length-4 c = search needs
+same-length-2 : tie.Need-same-length-2 Inv-loop μ-loop
+same-length-2 c = c .before .loop .inv .size
 
-returns-4 : tie.Need-returns-4 Inv-loop μ-loop
-returns-4 c = search needs
+returns-2 : tie.Need-returns-2 Inv-loop μ-loop
+returns-2 c = c .before .loop .inv
 
 pub read-all-spec : {M : Type 1} → statement M
 read-all-spec =
@@ -69,17 +64,10 @@ read-all-spec =
     μ-loop
     loop-holds
     more-requires
-    enum-told
     same-length
     returns
-    enum-known-n
-    same-length-2
-    returns-2
-    sub-if2
-    same-length-3
-    returns-3
     add-done
     loop-less
     loop-again
-    same-length-4
-    returns-4)
+    same-length-2
+    returns-2)

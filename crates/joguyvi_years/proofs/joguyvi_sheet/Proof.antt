@@ -1,7 +1,8 @@
 -- `joguyvi_sheet` meets its contract: 13 for the buffer of the length or for want of room, or the text and its length.
 -- Assumes nothing.
 use mathlib.Core.Path.{ap, _∙_}
-use Rattle.sheet_lines.specs.Answer.{numberOf, valueOf, sheetAnswer, sheetLeaves}
+use Rattle.layout.specs.Write.{writeNumber, writtenLength}
+use Rattle.sheet_lines.specs.Answer.{sheetAnswer, sheetLeaves}
 use Rattle.buffers.specs.Laws.Texting.{text-out, text-declined, text-written}
 use Rattle.joguyvi_years.proofs.SheetTexts.{sheet-only, sheet-left}
 use borrow.Author.Needs.{needs}
@@ -13,13 +14,13 @@ returns c =
     let start = c .before .before .before .before in
     let bytes = start .args .bytes .now in
     let out = start .args .out .now in
-    text-out (numberOf (sheetAnswer bytes out)) (valueOf (sheetAnswer bytes out)) (sheetLeaves bytes out) out (start .args .length .now) (sheet-only bytes out) (sheet-left bytes out) (c .if1 .taken)
+    text-out (writeNumber (sheetAnswer bytes out)) (writtenLength (sheetAnswer bytes out)) (sheetLeaves bytes out) out (start .args .length .now) (sheet-only bytes out) (sheet-left bytes out) (c .if1 .taken)
 
 sheet-requires : tie.Need-sheet-requires
 sheet-requires c κs = search needs
 
-number-of-requires : tie.Need-number-of-requires
-number-of-requires c κs = search needs
+write-number-requires : tie.Need-write-number-requires
+write-number-requires c κs = search needs
 
 same-length : tie.Need-same-length
 same-length c = search needs
@@ -30,11 +31,11 @@ returns-2 c =
     let bytes = start .args .bytes .now in
     let out = start .args .out .now in
     let w = c .before .before .before .before .sheet .ensures in
-    text-declined (numberOf (sheetAnswer bytes out)) (valueOf (sheetAnswer bytes out)) (sheetLeaves bytes out) out (start .args .length .now) (sheet-only bytes out) (sheet-left bytes out)
-    (c .before .number-of .ensures ∙ ap numberOf (w .0)) (c .if2 .taken) (w .1)
+    text-declined (writeNumber (sheetAnswer bytes out)) (writtenLength (sheetAnswer bytes out)) (sheetLeaves bytes out) out (start .args .length .now) (sheet-only bytes out) (sheet-left bytes out)
+    (c .before .write-number .ensures ∙ ap writeNumber (w .0)) (c .if2 .taken) (w .1 .0)
 
-length-of-requires : tie.Need-length-of-requires
-length-of-requires c κs = search needs
+written-length-requires : tie.Need-written-length-requires
+written-length-requires c κs = search needs
 
 slice-write-length : tie.Need-slice-write-length
 slice-write-length c = search needs
@@ -51,8 +52,8 @@ returns-3 c =
     let bytes = start .args .bytes .now in
     let out = start .args .out .now in
     let w = c .before .before .before .before .before .sheet .ensures in
-    text-written (numberOf (sheetAnswer bytes out)) (valueOf (sheetAnswer bytes out)) (sheetLeaves bytes out) out (start .args .length .now) (sheet-only bytes out) (sheet-left bytes out)
-    (c .before .before .number-of .ensures ∙ ap numberOf (w .0)) (c .before .if2 .left) (c .before .before .before .before .before .before .before .if1 .left) (c .length-of .ensures ∙ ap valueOf (w .0)) (w .1)
+    text-written (writeNumber (sheetAnswer bytes out)) (writtenLength (sheetAnswer bytes out)) (sheetLeaves bytes out) out (start .args .length .now) (sheet-only bytes out) (sheet-left bytes out)
+    (c .before .before .write-number .ensures ∙ ap writeNumber (w .0)) (c .before .if2 .left) (c .before .before .before .before .before .before .before .if1 .left) (c .written-length .ensures ∙ ap writtenLength (w .0)) (w .1 .0)
 
 pub joguyvi-sheet-spec : {M : Type 1} → statement M
 joguyvi-sheet-spec =
@@ -60,10 +61,10 @@ joguyvi-sheet-spec =
     (tie.spec
     returns
     sheet-requires
-    number-of-requires
+    write-number-requires
     same-length
     returns-2
-    length-of-requires
+    written-length-requires
     slice-write-length
     same-length-2
     same-length-3

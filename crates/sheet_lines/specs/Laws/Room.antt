@@ -8,8 +8,8 @@ use native.Mathlib.Nat.{mul-le-mul}
 use native.Mathlib.Decide.{ℕ-discrete}
 use borrow.Author.Tests.{eq-eqb, ne-eqb}
 use lib.Dec.{eqb, ltb}
-use lib.ListN.{length, getD, take, replicate, length-replicate}
-use lib.Seq.{length-take-le}
+use lib.ListN.{length, getD, take, drop, replicate, length-replicate}
+use lib.Seq.{length-take-le, take-at}
 use Rattle.scheme.specs.Laws.Cause.{second-none}
 use Rattle.scheme.specs.declared.Scheme.{Scheme}
 use Rattle.scheme.specs.Accepted.{Accepted}
@@ -18,8 +18,9 @@ use Rattle.scheme.specs.Laws.Judged.{accepted-cause}
 use Rattle.big_endian.specs.Numbers.{beAt}
 use Rattle.layout.specs.Layout.{version1, lengthOf, classesIn, columnsIn, schemeIn}
 use Rattle.layout.specs.Read.{versionCause, fieldCause, sizeCause, lengthCause, frameCause, readCause}
+use Rattle.layout.specs.declared.WriteAnswer.the-variants.{Written, Declined}
 use Rattle.sheet_lines.specs.Sheet.{classLines, yearPremium, yearLines, sheetOf, refusedLine, sheetText}
-use Rattle.sheet_lines.specs.Answer.{roomOf, roomFor}
+use Rattle.sheet_lines.specs.Answer.{roomOf, roomFor, sheetAnswer, sheetLeaves, TextPromise}
 use Rattle.sheet_lines.specs.Laws.Figures.{low-share-at-most, high-share-at-most, low-mean-at-most, high-mean-at-most, low-total-at-most, high-total-at-most}
 use Rattle.sheet_lines.specs.Laws.Widths.{Within, within-append, within-joined, scheme-line-within, class-line-within, premium-line-within, total-line-within, refused-line-within}
 
@@ -143,3 +144,12 @@ roomy bytes = by (ℕ-discrete (readCause bytes) 0)
           enough = rw (text-refused bytes some, room-refused bytes some) (refused-line-within (readCause bytes) (omega (arith, read-cause-most bytes)) .fits);
           most = rw (room-refused bytes some) (omega arith);
         }
+
+-- the answer keeps its promise
+pub text-kept : (bytes out : List ℕ) → TextPromise bytes (sheetLeaves bytes out) (sheetAnswer bytes out)
+unfolding sheetAnswer sheetLeaves
+text-kept bytes out = by (ltb (length out) (roomFor bytes))
+  where
+    by : (short : Bool) → TextPromise bytes (cond short out (sheetText bytes ++ drop (length (sheetText bytes)) out)) (cond short (Declined 13) (Written (length (sheetText bytes))))
+    by true e = absurd (omega arith)
+    by false e = take-at (sheetText bytes) (drop (length (sheetText bytes)) out) (length (sheetText bytes)) refl

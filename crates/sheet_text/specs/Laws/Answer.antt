@@ -15,12 +15,13 @@ use Rattle.layout.specs.Read.{readCause}
 use Rattle.record.specs.Laws.Lists.{sets-front}
 use Rattle.answers.specs.Answers.{sheetSlice}
 use Rattle.answers.specs.Table.{tableSize, tableCause}
-use Rattle.sheet_lines.specs.declared.SheetAnswer.{SheetAnswer}
-use Rattle.sheet_lines.specs.declared.SheetAnswer.the-variants.{Written, Declined}
+use Rattle.layout.specs.declared.WriteAnswer.{WriteAnswer}
+use Rattle.layout.specs.declared.WriteAnswer.the-variants.{Written, Declined}
 use Rattle.sheet_lines.specs.Sheet.{sheetOf, refusedLine, sheetText}
 use Rattle.sheet_text.specs.Put.{Room, Put}
-use Rattle.sheet_lines.specs.Answer.{numberOf, valueOf, roomOf, roomFor, Told, sheetAnswer, sheetLeaves}
-use Rattle.sheet_lines.specs.Laws.Room.{text-accepted, room-accepted, text-refused, room-refused}
+use Rattle.layout.specs.Write.{writeNumber, writtenLength}
+use Rattle.sheet_lines.specs.Answer.{roomOf, roomFor, Told, sheetAnswer, sheetLeaves, TextPromise}
+use Rattle.sheet_lines.specs.Laws.Room.{text-accepted, room-accepted, text-refused, room-refused, text-kept}
 
 -- a slice that is too short, and one that is not
 pub told-declined : {room : ℕ} {text out : List ℕ} → length out < room → Told room text out out (Declined 13)
@@ -39,26 +40,33 @@ told-room enough fits = record { fits = omega arith }
 
 -- any bytes
 module _ (bytes : List ℕ) where
-  -- the answer for bytes with a cause, and without
-  pub sheet-refused : {n : ℕ} {out after : List ℕ} {r : SheetAnswer} → n ≡ readCause bytes → (n ≡ 0 → ⊥) → Told 11 (refusedLine n) out after r
-      → (r ≡ sheetAnswer bytes out) × (after ≡ sheetLeaves bytes out)
-  unfolding sheetAnswer sheetLeaves
-  sheet-refused e some told =
-      let cause : readCause bytes ≡ 0 → ⊥ = λ z. some (e ∙ z) in
-      (rw (text-refused bytes cause, room-refused bytes cause, ← e) (told .answer), rw (text-refused bytes cause, room-refused bytes cause, ← e) (told .leaves))
+  -- what `sheet` ensures
+  abbrev Answered : (out after : List ℕ) → WriteAnswer → Type 0
+  Answered out after r = (r ≡ sheetAnswer bytes out) × ((after ≡ sheetLeaves bytes out) × TextPromise bytes after r)
 
-  pub sheet-accepted : {s : Scheme} {out after : List ℕ} {r : SheetAnswer} → readCause bytes ≡ 0 → s ≡ schemeIn version1 bytes → Told (roomOf s) (sheetOf s) out after r
-      → (r ≡ sheetAnswer bytes out) × (after ≡ sheetLeaves bytes out)
+  keeps : (out : List ℕ) {after : List ℕ} {r : WriteAnswer} → r ≡ sheetAnswer bytes out → after ≡ sheetLeaves bytes out → Answered out after r
+  keeps out e f = (e, (f, rw (e, f) (text-kept bytes out)))
+
+  -- the answer for bytes with a cause, and without
+  pub sheet-refused : {n : ℕ} {out after : List ℕ} {r : WriteAnswer} → n ≡ readCause bytes → (n ≡ 0 → ⊥) → Told 11 (refusedLine n) out after r
+      → Answered out after r
   unfolding sheetAnswer sheetLeaves
-  sheet-accepted none e told =
-      (rw (text-accepted bytes none, room-accepted bytes none, ← e) (told .answer), rw (text-accepted bytes none, room-accepted bytes none, ← e) (told .leaves))
+  sheet-refused {out = out} e some told =
+      let cause : readCause bytes ≡ 0 → ⊥ = λ z. some (e ∙ z) in
+      keeps out (rw (text-refused bytes cause, room-refused bytes cause, ← e) (told .answer)) (rw (text-refused bytes cause, room-refused bytes cause, ← e) (told .leaves))
+
+  pub sheet-accepted : {s : Scheme} {out after : List ℕ} {r : WriteAnswer} → readCause bytes ≡ 0 → s ≡ schemeIn version1 bytes → Told (roomOf s) (sheetOf s) out after r
+      → Answered out after r
+  unfolding sheetAnswer sheetLeaves
+  sheet-accepted {out = out} none e told =
+      keeps out (rw (text-accepted bytes none, room-accepted bytes none, ← e) (told .answer)) (rw (text-accepted bytes none, room-accepted bytes none, ← e) (told .leaves))
 
   -- the number and the value of the answer
-  pub answer-short : (out : List ℕ) → length out < roomFor bytes → numberOf (sheetAnswer bytes out) ≡ 13
+  pub answer-short : (out : List ℕ) → length out < roomFor bytes → writeNumber (sheetAnswer bytes out) ≡ 13
   unfolding sheetAnswer
   answer-short out short = rw (lt-ltb (length out) (roomFor bytes) short)
 
-  pub answer-written : (out : List ℕ) → roomFor bytes ≤ length out → (numberOf (sheetAnswer bytes out) ≡ 0) × (valueOf (sheetAnswer bytes out) ≡ length (sheetText bytes))
+  pub answer-written : (out : List ℕ) → roomFor bytes ≤ length out → (writeNumber (sheetAnswer bytes out) ≡ 0) × (writtenLength (sheetAnswer bytes out) ≡ length (sheetText bytes))
   unfolding sheetAnswer
   answer-written out enough = (rw (le-ltb (length out) (roomFor bytes) enough), rw (le-ltb (length out) (roomFor bytes) enough))
 

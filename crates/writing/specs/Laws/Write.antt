@@ -11,7 +11,7 @@ use Rattle.scheme.specs.Laws.Cause.{first-cause, second-cause}
 use Rattle.layout.specs.declared.WriteAnswer.the-variants.{Written, Declined}
 use Rattle.layout.specs.Layout.{version1}
 use Rattle.layout.specs.Bytes.{bytesOf}
-use Rattle.layout.specs.Write.{recordLength, writeCause, writeAnswer, writeLeaves, numberOf, valueOf}
+use Rattle.layout.specs.Write.{recordLength, writeCause, writeAnswer, writeLeaves, writeNumber, writtenLength}
 
 module _ (s : Scheme) (out : List ℕ) where
   -- a cause n
@@ -34,14 +34,14 @@ module _ (s : Scheme) (out : List ℕ) where
       (rw (eq-eqb (writeCause s out) 0 clear, is), rw (eq-eqb (writeCause s out) 0 clear, e, is))
 
   -- the number and the value of the answer
-  pub answer-number : numberOf (writeAnswer s out) ≡ writeCause s out
+  pub answer-number : writeNumber (writeAnswer s out) ≡ writeCause s out
   unfolding writeAnswer
   answer-number = by (ℕ-discrete (writeCause s out) 0)
     where
-      by : Dec (writeCause s out ≡ 0) → numberOf (writeAnswer s out) ≡ writeCause s out
+      by : Dec (writeCause s out ≡ 0) → writeNumber (writeAnswer s out) ≡ writeCause s out
       by (yes none) = rw (eq-eqb (writeCause s out) 0 none) (sym none)
       by (no some) = rw (ne-eqb (writeCause s out) 0 some)
 
-  pub answer-value : writeCause s out ≡ 0 → valueOf (writeAnswer s out) ≡ recordLength s
+  pub answer-value : writeCause s out ≡ 0 → writtenLength (writeAnswer s out) ≡ recordLength s
   unfolding writeAnswer
   answer-value none = rw (eq-eqb (writeCause s out) 0 none)

@@ -1,7 +1,7 @@
 -- `put_record` meets its contract: 13 for the buffer of the length, the cause of writing, or the record and its length.
 -- Assumes nothing.
 use mathlib.Core.Path.{ap, _∙_}
-use Rattle.layout.specs.Write.{numberOf, valueOf, writeAnswer, writeLeaves}
+use Rattle.layout.specs.Write.{writeNumber, writtenLength, writeAnswer, writeLeaves}
 use Rattle.buffers.specs.Laws.Texting.{text-out, text-declined, text-written}
 use Rattle.joguyvi_records.proofs.RecordTexts.{write-only, write-left}
 use borrow.Author.Needs.{needs}
@@ -13,13 +13,13 @@ returns c =
     let start = c .before .before .before in
     let s = start .args .scheme in
     let out = start .args .out .now in
-    text-out (numberOf (writeAnswer s out)) (valueOf (writeAnswer s out)) (writeLeaves s out) out (start .args .length .now) (write-only s out (start .pre)) (write-left s out) (c .if1 .taken)
+    text-out (writeNumber (writeAnswer s out)) (writtenLength (writeAnswer s out)) (writeLeaves s out) out (start .args .length .now) (write-only s out (start .pre)) (write-left s out) (c .if1 .taken)
 
 write-requires : tie.Need-write-requires
 write-requires c κs = search needs
 
-number-of-requires : tie.Need-number-of-requires
-number-of-requires c κs = search needs
+write-number-requires : tie.Need-write-number-requires
+write-number-requires c κs = search needs
 
 same-length : tie.Need-same-length
 same-length c = search needs
@@ -30,11 +30,11 @@ returns-2 c =
     let s = start .args .scheme in
     let out = start .args .out .now in
     let w = c .before .before .before .before .write .ensures in
-    text-declined (numberOf (writeAnswer s out)) (valueOf (writeAnswer s out)) (writeLeaves s out) out (start .args .length .now) (write-only s out (start .pre)) (write-left s out)
-    (c .before .number-of .ensures ∙ ap numberOf (w .0)) (c .if2 .taken) (w .1)
+    text-declined (writeNumber (writeAnswer s out)) (writtenLength (writeAnswer s out)) (writeLeaves s out) out (start .args .length .now) (write-only s out (start .pre)) (write-left s out)
+    (c .before .write-number .ensures ∙ ap writeNumber (w .0)) (c .if2 .taken) (w .1)
 
-length-of-requires : tie.Need-length-of-requires
-length-of-requires c κs = search needs
+written-length-requires : tie.Need-written-length-requires
+written-length-requires c κs = search needs
 
 slice-write-length : tie.Need-slice-write-length
 slice-write-length c = search needs
@@ -51,8 +51,8 @@ returns-3 c =
     let s = start .args .scheme in
     let out = start .args .out .now in
     let w = c .before .before .before .before .before .write .ensures in
-    text-written (numberOf (writeAnswer s out)) (valueOf (writeAnswer s out)) (writeLeaves s out) out (start .args .length .now) (write-only s out (start .pre)) (write-left s out)
-    (c .before .before .number-of .ensures ∙ ap numberOf (w .0)) (c .before .if2 .left) (c .before .before .before .before .before .before .before .if1 .left) (c .length-of .ensures ∙ ap valueOf (w .0)) (w .1)
+    text-written (writeNumber (writeAnswer s out)) (writtenLength (writeAnswer s out)) (writeLeaves s out) out (start .args .length .now) (write-only s out (start .pre)) (write-left s out)
+    (c .before .before .write-number .ensures ∙ ap writeNumber (w .0)) (c .before .if2 .left) (c .before .before .before .before .before .before .before .if1 .left) (c .written-length .ensures ∙ ap writtenLength (w .0)) (w .1)
 
 pub put-record-spec : {M : Type 1} → statement M
 put-record-spec =
@@ -60,10 +60,10 @@ put-record-spec =
     (tie.spec
     returns
     write-requires
-    number-of-requires
+    write-number-requires
     same-length
     returns-2
-    length-of-requires
+    written-length-requires
     slice-write-length
     same-length-2
     same-length-3

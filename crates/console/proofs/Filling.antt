@@ -1,0 +1,54 @@
+-- Bytes copied behind those that are there: one read, and one read more.
+-- Assumes nothing.
+use Prim.Native.Nat.{ℕ, _+_, _-_, _≤_}
+use mathlib.Core.Path.{_≡_, refl, ap, sym, _∙_, subst}
+use mathlib.Core.Bool.{Bool, true, false, cond, _&&_}
+use mathlib.Core.List.{List, _++_, append-assoc}
+use native.Mathlib.Omega.{arith}
+use native.Mathlib.Decide.{decLe}
+use native.Mathlib.Nat.{zero-add}
+use borrow.Author.Tests.{lt-leb}
+use lib.ListN.{length, take, drop, length-append}
+use lib.Seq.{sets, length-sets, sets-eq, length-take-le, take-at, drop-at, drop-drop}
+use Rattle.big_endian.specs.Numbers.{partPut}
+use Rattle.big_endian.specs.Laws.{part-held}
+use Rattle.console.specs.Input.{Filled}
+
+-- nothing read
+pub filled-none : (done : ℕ) (buffer : List ℕ) → Filled done buffer buffer 0
+filled-none done buffer = record { size = refl; within = omega arith; front = refl; rest = refl }
+
+-- a list laid behind the first `done` bytes
+laid : (buffer : List ℕ) (done : ℕ) (text : List ℕ) → done + length text ≤ length buffer → Filled done buffer (sets buffer done text) (length text)
+laid buffer done text fits =
+    let first : length (take done buffer) ≡ done = length-take-le done buffer (omega arith) in
+    let is : sets buffer done text ≡ take done buffer ++ text ++ drop (done + length text) buffer = sets-eq text buffer done fits in
+    record {
+      size = length-sets buffer done text;
+      within = omega arith;
+      front = rw (is, append-assoc) (take-at (take done buffer) (text ++ drop (done + length text) buffer) done first);
+      rest = rw is (drop-at (take done buffer ++ text) (drop (done + length text) buffer) (done + length text) (omega (arith, length-append (take done buffer) text)));
+    }
+
+-- a chunk's first bytes copied there
+pub filled-copy : (buffer : List ℕ) (done : ℕ) (chunk : List ℕ) (count : ℕ) → done ≤ length buffer → count ≤ length buffer - done
+    → Filled done buffer (partPut count chunk 0 buffer done) count
+unfolding partPut
+filled-copy buffer done chunk count inside fits = by (decLe count (length chunk))
+  where
+    by : Dec (count ≤ length chunk) → Filled done buffer (partPut count chunk 0 buffer done) count
+    by (yes held) = subst (λ n. Filled done buffer (partPut count chunk 0 buffer done) n) (length-take-le count chunk held)
+        (rw (part-held count chunk 0 buffer done (omega arith) (omega arith)) (laid buffer done (take count chunk) (omega (arith, length-take-le count chunk held))))
+    by (no out) = rw (lt-leb (0 + count) (length chunk) (omega arith)) (record { size = refl; within = fits; front = refl; rest = refl })
+
+-- one read more, after `done` bytes from the front on
+pub filled-more : {before buffer after : List ℕ} {done count sum : ℕ} → Filled 0 before buffer done → Filled done buffer after count → done + count ≡ sum → Filled 0 before after sum
+filled-more {before} {buffer} {after} {done} {count} w v is =
+    subst (Filled 0 before after) is
+    (let behind : drop done buffer ≡ drop done before = rw zero-add at (w .rest) in
+    record {
+      size = v .size ∙ w .size;
+      within = omega (arith, w .within, v .within, w .size);
+      front = refl;
+      rest = rw zero-add (v .rest ∙ sym (drop-drop count done buffer) ∙ ap (drop count) behind ∙ drop-drop count done before);
+    })

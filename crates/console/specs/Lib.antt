@@ -1,0 +1,3 @@
+-- What reading leaves in a lent buffer, and worked cases.
+pub mod Input
+pub mod Examples

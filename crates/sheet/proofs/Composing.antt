@@ -1,0 +1,34 @@
+-- What the sheet's text leaves in a buffer with room for any sheet: the sheet of the whole input.
+-- Assumes nothing.
+use Prim.Native.Nat.{ℕ, _≤_}
+use mathlib.Core.Path.{_≡_, ap, sym, _∙_, subst}
+use mathlib.Core.List.{List}
+use native.Mathlib.Omega.{arith}
+use native.Mathlib.Nat.{le-trans}
+use lib.ListN.{length, take}
+use Rattle.layout.specs.declared.WriteAnswer.{WriteAnswer}
+use Rattle.layout.specs.declared.WriteAnswer.the-variants.{Written, Declined}
+use Rattle.layout.specs.Write.{writeNumber, writtenLength}
+use Rattle.sheet_lines.specs.Sheet.{sheetText}
+use Rattle.sheet_lines.specs.Answer.{roomFor, sheetAnswer, TextPromise}
+use Rattle.sheet_lines.specs.Laws.Room.{roomy}
+use Rattle.sheet_lines.specs.Laws.Cut.{cut-text}
+use Rattle.sheet_text.specs.Laws.Answer.{answer-written}
+use Rattle.sheet.specs.Program.{Buffers, Composed}
+
+module _ {input : List ℕ} {n : ℕ} {out : List ℕ} (w : Buffers input n out) where
+  -- no sheet is declined for want of room
+  enough : roomFor (take n input) ≤ length out
+  enough = le-trans (roomy (take n input) .most) (w .room)
+
+  module _ {r : WriteAnswer} (answer : r ≡ sheetAnswer (take n input) out) where
+    answered : writeNumber r ≡ 0
+    answered = ap writeNumber answer ∙ answer-written (take n input) out enough .0
+
+    pub composed : {after : List ℕ} → length after ≡ length out → TextPromise (take n input) after r → Composed input n after (writtenLength r)
+    composed same promise =
+        record {
+          within = omega (arith, same, ap writtenLength answer ∙ answer-written (take n input) out enough .1, roomy (take n input) .enough, enough);
+          text = promise answered;
+          whole = λ all small e. promise answered ∙ ap sheetText (sym e) ∙ cut-text (length input) (w .enough) all small;
+        }

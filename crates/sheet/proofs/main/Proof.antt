@@ -1,0 +1,84 @@
+-- `main` lends buffers that are large enough for any input and any sheet.
+-- Assumes nothing.
+use Prim.Native.Nat.{ℕ}
+use mathlib.Core.Path.{sym, _∙_}
+use native.Mathlib.Omega.{arith}
+use lib.ListN.{length-replicate}
+use lib.Seq.{length-take-le}
+use borrow.Author.Needs.{needs}
+use Rattle.sheet.proofs.main.Statement.{statement}
+use Rattle.sheet.proofs.main.Tie as tie
+
+slice-aggregate-read-all : tie.Need-slice-aggregate-read-all
+slice-aggregate-read-all c = search needs
+
+read-all-requires : tie.Need-read-all-requires
+read-all-requires c κs = search needs
+
+slice-aggregate-complain : tie.Need-slice-aggregate-complain
+slice-aggregate-complain c = search needs
+
+complain-requires : tie.Need-complain-requires
+complain-requires c κs = search needs
+
+returns : tie.Need-returns
+returns c = search needs
+
+slice-aggregate-compose : tie.Need-slice-aggregate-compose
+slice-aggregate-compose c = search needs
+
+slice-aggregate-compose-2 : tie.Need-slice-aggregate-compose-2
+slice-aggregate-compose-2 c = search needs
+
+compose-requires : tie.Need-compose-requires
+compose-requires c κs =
+    let read = c .before .before .before .before .read-all .ensures in
+    let input = read .size ∙ length-replicate {A = ℕ} 65536 0 in
+    record {
+      within = omega (arith, read .within, read .size);
+      enough = omega (arith, input);
+      room = omega (arith, length-replicate {A = ℕ} 132862 0);
+    }
+
+array-share-prefix-out : tie.Need-array-share-prefix-out
+array-share-prefix-out c = search needs
+
+slice-aggregate-bytes : tie.Need-slice-aggregate-bytes
+slice-aggregate-bytes c =
+    let at-compose = c .before .before in
+    sym (length-take-le _ _ (at-compose .compose .ensures .within))
+
+bytes-requires : tie.Need-bytes-requires
+bytes-requires c κs = search needs
+
+slice-aggregate-complain-2 : tie.Need-slice-aggregate-complain-2
+slice-aggregate-complain-2 c = search needs
+
+complain-requires-2 : tie.Need-complain-requires-2
+complain-requires-2 c κs = search needs
+
+returns-2 : tie.Need-returns-2
+returns-2 c = search needs
+
+returns-3 : tie.Need-returns-3
+returns-3 c = search needs
+
+pub main-spec : {M : Type 1} → statement M
+main-spec =
+    tie.close
+    (tie.spec
+    slice-aggregate-read-all
+    read-all-requires
+    slice-aggregate-complain
+    complain-requires
+    returns
+    slice-aggregate-compose
+    slice-aggregate-compose-2
+    compose-requires
+    array-share-prefix-out
+    slice-aggregate-bytes
+    bytes-requires
+    slice-aggregate-complain-2
+    complain-requires-2
+    returns-2
+    returns-3)

@@ -1,0 +1,2 @@
+-- What the program's core takes, and what it leaves to be printed.
+pub mod Program
