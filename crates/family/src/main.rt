@@ -2,6 +2,7 @@
 // and on ready schemes. What it must print was written by the plain Rust version (rust/regenerate); rust/trials/src/bin/family.rs
 // describes the lines.
 use bands::Band;
+use bands::Reader;
 use bounds::Bounds;
 use console::Got;
 use scheme::Scheme;
@@ -125,6 +126,52 @@ fn bands(bytes: &[u8]) {
         band(bytes, column);
         column += 1;
     }
+    console::end();
+}
+
+// What a reader handed out.
+fn shown_band(b: Band) {
+    match b {
+        Band::Ends { lower, upper } => {
+            console::number(lower as u64);
+            console::number(upper as u64);
+        }
+        Band::NoMore => {
+            console::bytes(b" -");
+        }
+    }
+}
+
+// What opening a reader answered.
+fn opened(number: u8) {
+    word(b"READER", number as u64);
+}
+
+// One call of a reader.
+fn hand_out<'a>(r: &mut Reader<'a>) {
+    shown_band(bands::next(r));
+}
+
+// A reader over the record; one call more than there can be columns.
+fn reader(bytes: &[u8]) {
+    let answer = bands::open(bytes);
+    opened(answer.number);
+    let mut reader = answer.reader;
+    hand_out(&mut reader);
+    hand_out(&mut reader);
+    hand_out(&mut reader);
+    hand_out(&mut reader);
+    hand_out(&mut reader);
+    hand_out(&mut reader);
+    hand_out(&mut reader);
+    hand_out(&mut reader);
+    hand_out(&mut reader);
+}
+
+// The first band, and the end of the line.
+fn first(bytes: &[u8]) {
+    console::bytes(b" FIRST");
+    shown_band(bands::first_band(bytes));
     console::end();
 }
 
@@ -309,6 +356,8 @@ fn one(number: u8, bytes: &[u8]) {
     rules(bytes, 0);
     rules(bytes, 1);
     bands(bytes);
+    reader(bytes);
+    first(bytes);
     if read.number == 0 {
         accepted(read.scheme, number, bytes);
     }

@@ -148,8 +148,28 @@ pub fn report_record(out: &mut String, number: u64, record: &[u8]) {
         put!(out, " {lower} {upper}");
     }
     out.push('\n');
+    report_reader(out, record);
     if let Ok(scheme) = read {
         report_scheme(out, number, record, &scheme);
+    }
+}
+
+/// One call more of the reader than there can be columns.
+fn report_reader(out: &mut String, record: &[u8]) {
+    let (number, mut reader) = plain::open(record);
+    put!(out, "READER {number}");
+    for _ in 0..9 {
+        report_band(out, reader.next());
+    }
+    put!(out, " FIRST");
+    report_band(out, plain::bands(record).first().copied());
+    out.push('\n');
+}
+
+fn report_band(out: &mut String, band: Option<(u32, u32)>) {
+    match band {
+        Some((lower, upper)) => put!(out, " {lower} {upper}"),
+        None => out.push_str(" -"),
     }
 }
 

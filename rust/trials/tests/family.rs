@@ -20,6 +20,6 @@ fn report_is_fixed() {
     assert!(report.ends_with('\n'));
     assert_eq!(
         (report.len(), bytes_sum(report.as_bytes())),
-        (66820, 1264654250)
+        (71479, 1945706228)
     );
 }

@@ -12,6 +12,11 @@
 //! RECORD number length ANSWER      of reading; OK alone
 //! RULES class rule ...             the rule row; class 0, 1
 //! BANDS lower upper ...            all bands in order
+//! READER number BAND ... FIRST BAND
+//!                                  the number beside an opened reader, nine
+//!                                  calls of it, one more than there can be
+//!                                  columns, and the first band; BAND is lower
+//!                                  and upper, or `-` where there is no more
 //! ```
 //!
 //! and, where it is accepted:
