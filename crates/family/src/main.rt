@@ -4,7 +4,6 @@
 use bands::Band;
 use bands::Reader;
 use bounds::Bounds;
-use console::Got;
 use scheme::Scheme;
 use writing::WriteAnswer;
 
@@ -420,13 +419,11 @@ fn all(input: &[u8]) {
 
 fn main() {
     let mut input = io::large_buffer();
-    match console::read_all(&mut input) {
-        Got::Bytes(n) => {
-            all(front(&input, n));
-            ready_schemes();
-        }
-        Got::Failed => {
-            console::complain(b"family: standard input could not be read\n");
-        }
+    let read = console::read_all(&mut input);
+    if read.failed {
+        console::complain(b"family: standard input could not be read\n");
+        return;
     }
+    all(front(&input, read.length));
+    ready_schemes();
 }

@@ -1,6 +1,5 @@
 // Prints the sheets of many records from standard input, each behind its length in two bytes. What it must print was written by the
 // plain Rust version (rust/regenerate): a sheet of at most 1,000 bytes whole, of a longer one its length and a checksum.
-use console::Got;
 use sheet_text::WriteAnswer;
 
 // The first bytes of a text, or all where there are fewer.
@@ -83,12 +82,10 @@ fn all(input: &[u8]) {
 
 fn main() {
     let mut input = io::large_buffer();
-    match console::read_all(&mut input) {
-        Got::Bytes(n) => {
-            all(front(&input, n));
-        }
-        Got::Failed => {
-            console::complain(b"sheets: standard input could not be read\n");
-        }
+    let read = console::read_all(&mut input);
+    if read.failed {
+        console::complain(b"sheets: standard input could not be read\n");
+        return;
     }
+    all(front(&input, read.length));
 }
