@@ -1,7 +1,7 @@
 -- What a band reader hands out: the record's bands in order, then no more.
 use Prim.Native.Nat.{ℕ, zero, suc, max, _+_, _*_, _≤_, _<_}
 use mathlib.Core.Path.{_≡_, refl, ap, sym, _∙_}
-use mathlib.Core.Bool.{Bool, true, false, _&&_}
+use mathlib.Core.Bool.{Bool, true, false, cond, _&&_}
 use mathlib.Core.List.{List, [], _∷_, _++_}
 use native.Mathlib.Decide.{ℕ-discrete}
 use native.Mathlib.Omega.{arith}
@@ -18,7 +18,7 @@ use Rattle.big_endian.specs.Numbers.{beAt}
 use Rattle.layout.specs.Layout.{version1, lengthOf, schemeIn, classesIn, columnsIn}
 use Rattle.layout.specs.Frame.{Framed}
 use Rattle.layout.specs.Read.{frameCause, readCause}
-use Rattle.layout.specs.Reader.{handedOut, stored, bandIn, bandAt, afterAt, openPart, answers, cursorAfter, storedBands}
+use Rattle.layout.specs.Reader.{handedOut, endsOf, stored, bandIn, bandAt, BandAnswered, afterAt, openPart, answers, cursorAfter, storedBands}
 use Rattle.layout.specs.Laws.Read.{read-framed}
 use Rattle.record.specs.Laws.Made.{lower-made, upper-made}
 
@@ -36,6 +36,19 @@ both-right false false e = e
 pub second-fails : (a b : Bool) → b ≡ false → (a && b) ≡ false
 second-fails true b e = e
 second-fails false b e = refl
+
+-- the answer's number and values follow from the answer
+pub told : (bytes : List ℕ) (cursor : ℕ) {b : Band} → b ≡ bandAt bytes cursor → BandAnswered bytes cursor b
+unfolding bandAt
+told bytes cursor e = record { answer = e; number = ap handedOut e ∙ number (stored bytes cursor); ends = ap endsOf e ∙ ends (stored bytes cursor) }
+  where
+    number : (is : Bool) → handedOut (cond is (bandIn bytes cursor) NoMore) ≡ cond is 1 0
+    number true = refl
+    number false = refl
+
+    ends : (is : Bool) → endsOf (cond is (bandIn bytes cursor) NoMore) ≡ cond is (endsOf (bandIn bytes cursor)) []
+    ends true = refl
+    ends false = refl
 
 -- no byte is declined
 pub empty-declined : readCause [] ≡ 1

@@ -2,7 +2,7 @@
 ghost use mathlib.Core.Path.{_≡_};
 ghost use Prim.Native.Nat.{_<_};
 ghost use Rattle.layout.specs.Read.{readCause};
-ghost use Rattle.layout.specs.Reader.{stored, handedOut, bandAt, afterAt, openPart};
+ghost use Rattle.layout.specs.Reader.{stored, handedOut, bandAt, BandAnswered, afterAt, openPart};
 pub use layout::Band;
 
 // a byte as a count
@@ -48,7 +48,7 @@ fn kept(bytes: &[u8]) -> &[u8]
 
 // The band of a column, or no more: what a reader at that column answers, with no reader.
 pub fn band_at(bytes: &[u8], column: usize) -> Band
-    ensures { λ r. ⌜ r ≡ bandAt (now (bytes .entry)) column ⌝ }
+    ensures { λ r. ⌜ BandAnswered (now (bytes .entry)) column r ⌝ }
 {
     if !stored(bytes, column) {
         return Band::NoMore;
@@ -93,7 +93,7 @@ pub fn open<'a>(bytes: &'a [u8]) -> Opened<'a>
 
 // The next band, or no more; the cursor moves on where a band came.
 pub fn next<'a>(r: &mut Reader<'a>) -> Band
-    ensures { λ b. ⌜ (b ≡ bandAt (now (now (r .entry) .bytes)) (now (r .entry) .at)) × (now (r .exit) .bytes ≡ now (r .entry) .bytes) × (now (r .exit) .at ≡ afterAt (now (now (r .entry) .bytes)) (now (r .entry) .at)) ⌝ }
+    ensures { λ b. ⌜ (BandAnswered (now (now (r .entry) .bytes)) (now (r .entry) .at) b) × (now (r .exit) .bytes ≡ now (r .entry) .bytes) × (now (r .exit) .at ≡ afterAt (now (now (r .entry) .bytes)) (now (r .entry) .at)) ⌝ }
 {
     let bytes = r.bytes;
     let at = r.at;
@@ -104,7 +104,7 @@ pub fn next<'a>(r: &mut Reader<'a>) -> Band
 
 // The first band of a record, by a reader opened over it.
 pub fn first_band(bytes: &[u8]) -> Band
-    ensures { λ r. ⌜ r ≡ bandAt (now (bytes .entry)) 0 ⌝ }
+    ensures { λ r. ⌜ BandAnswered (now (bytes .entry)) 0 r ⌝ }
 {
     let opened = open(bytes);
     let mut reader = opened.reader;

@@ -16,9 +16,9 @@ use Rattle.layout.specs.Joined.{joined}
 use Rattle.layout.specs.Layout.{version1, lengthOf, schemeIn}
 use Rattle.layout.specs.Read.{frameCause, readCause, readAnswer}
 use Rattle.layout.specs.RuleRow.{ruleRow}
-use Rattle.layout.specs.Reader.{bandAt, openPart, answers, handedOut, endsOf}
+use Rattle.layout.specs.Reader.{bandAt, bandNumber, bandEnds, openPart, answers, handedOut, endsOf}
 use Rattle.layout.specs.Bytes.{headerBytes, bytesOf}
-use Rattle.layout.specs.Write.{writeAnswer, writeLeaves}
+use Rattle.layout.specs.Write.{writeNumber, writtenLength, writeAnswer, writeLeaves}
 
 -- its record
 abbrev pub exampleA : List ℕ
@@ -89,8 +89,9 @@ bands-a = refl
 pub first-a :
     (handedOut (bandAt exampleA 0) ≡ 1) × (endsOf (bandAt exampleA 0) ≡ 800000000 ∷ 900000000 ∷ [])
     × (handedOut (bandAt exampleA 3) ≡ 0) × (endsOf (bandAt exampleA 3) ≡ [])
+    × (bandNumber exampleA 0 ≡ 1) × (bandEnds exampleA 0 ≡ 800000000 ∷ 900000000 ∷ []) × (bandNumber exampleA 3 ≡ 0) × (bandEnds exampleA 3 ≡ [])
 unfolding bandAt frameCause beAt schemeOf upTo tab causeWhere sizeOut startOut horizonOut ruleOut bandOut sumOut premiumOut anyBelow sumTo
-first-a = (refl, refl, refl, refl)
+first-a = (refl, refl, refl, refl, refl, refl, refl, refl)
 
 -- a reader over a declined record: an empty part, and no more
 pub none-declined : (openPart (small 1 20 1 1 101) ≡ []) × (bandAt (small 1 20 1 1 101) 0 ≡ NoMore)
@@ -108,3 +109,7 @@ pub record Writings : Type 0 where
 pub writings : Writings
 unfolding writeAnswer writeLeaves bytesOf headerBytes joined beBytes tab causeWhere sizeOut startOut horizonOut ruleOut bandOut sumOut premiumOut anyBelow sumTo
 writings = record { length = refl; written = refl; short = refl; left = refl; cause = refl }
+
+-- the number and the value of each answer: 45 bytes written, and cause 13
+pub write-answers : (writeNumber (Written 45) ≡ 0) × (writtenLength (Written 45) ≡ 45) × (writeNumber (Declined 13) ≡ 13) × (writtenLength (Declined 13) ≡ 0)
+write-answers = (refl, refl, refl, refl)

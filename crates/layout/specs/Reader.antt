@@ -1,5 +1,6 @@
 -- The band reader (document 01, "Record": "A reader stands over the lent record and hands out the bands in order.").
 use Prim.Native.Nat.{ℕ, zero, suc, _+_}
+use mathlib.Core.Path.{_≡_}
 use mathlib.Core.Bool.{Bool, cond, _&&_}
 use mathlib.Core.List.{List, [], _∷_}
 use lib.Dec.{eqb, ltb}
@@ -34,6 +35,19 @@ bandIn bytes column =
 -- "Past the last band, or over a record that isn't accepted, the answer is "no more"."
 unfoldable pub bandAt : List ℕ → (cursor : ℕ) → Band
 bandAt bytes cursor = cond (stored bytes cursor) (bandIn bytes cursor) NoMore
+
+-- the number of that answer, and its values: 1 and the ends of the column's band where it is stored, otherwise 0 and none
+abbrev pub bandNumber : List ℕ → (cursor : ℕ) → ℕ
+bandNumber bytes cursor = cond (stored bytes cursor) 1 0
+
+abbrev pub bandEnds : List ℕ → (cursor : ℕ) → List ℕ
+bandEnds bytes cursor = cond (stored bytes cursor) (endsOf (bandIn bytes cursor)) []
+
+-- what a reader at this cursor answers, by its number and its values
+pub record BandAnswered (bytes : List ℕ) (cursor : ℕ) (b : Band) : Type 0 where
+  pub answer : b ≡ bandAt bytes cursor
+  pub number : handedOut b ≡ bandNumber bytes cursor
+  pub ends : endsOf b ≡ bandEnds bytes cursor
 
 -- the cursor after that answer: one column on where a band came
 abbrev pub afterAt : List ℕ → (cursor : ℕ) → ℕ

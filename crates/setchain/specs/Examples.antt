@@ -6,6 +6,7 @@ use lib.ListN.{getD}
 use Rattle.setchain.specs.Sums.{sumTo, onlyIf}
 use Rattle.setchain.specs.Fractions.{sumFractions}
 use Rattle.setchain.specs.Rows.{IntervalRow, SetChain}
+use Rattle.setchain.specs.Cells.{Cells, rowOf}
 use Rattle.setchain.specs.Step.{roomBefore, fillRow, lowStep, highStep}
 use Rattle.setchain.specs.Years.{lowYears, highYears, lowShare, highShare, lowMean, highMean, lowTotal, highTotal}
 use Rattle.setchain.specs.Picks.{Matrix, product, exactMean, exactTotal}
@@ -37,6 +38,25 @@ pub record StepExamples : Type 0 where
 pub step-examples : StepExamples
 unfolding lowStep highStep fillRow roomBefore sumTo onlyIf
 step-examples = record { low = refl; high = refl; bareLow = refl; bareHigh = refl }
+
+-- Example A's class 1: the first two columns lead to class 1 and are summed, also the upper ends, which are held to ONE; the third leads to class 2
+abbrev cellsA : Cells
+cellsA =
+    record {
+      count = 3;
+      target = from (0 ∷ 0 ∷ 1 ∷ []);
+      lower = from (800000000 ∷ 100000000 ∷ 0 ∷ []);
+      upper = from (900000000 ∷ 200000000 ∷ 50000000 ∷ []);
+    }
+
+pub record MergedColumns : Type 0 where
+  pub lower : (rowOf cellsA .lower 0 ≡ 900000000) × (rowOf cellsA .lower 1 ≡ 0)
+  pub upper : (rowOf cellsA .upper 0 ≡ 1000000000) × (rowOf cellsA .upper 1 ≡ 50000000)
+  pub none : (rowOf cellsA .lower 2 ≡ 0) × (rowOf cellsA .upper 2 ≡ 0)
+
+pub merged-columns : MergedColumns
+unfolding sumTo onlyIf
+merged-columns = record { lower = (refl, refl); upper = (refl, refl); none = (refl, refl) }
 
 -- from state 0: half stays in the first year, and all return to state 0 in the second
 abbrev spread : Matrix

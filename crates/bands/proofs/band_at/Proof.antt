@@ -8,7 +8,7 @@ use borrow.Author.Tests.{not-true, not-false}
 use Rattle.layout.specs.Reader.{stored}
 use Rattle.layout.specs.Laws.Read.{read-framed}
 use Rattle.big_endian.specs.Laws.{read-held}
-use Rattle.bands.specs.Laws.{stored-read, band-within, answer-none, answer-ends}
+use Rattle.bands.specs.Laws.{told, stored-read, band-within, answer-none, answer-ends}
 use borrow.Author.Needs.{needs}
 use Rattle.bands.proofs.band_at.Statement.{statement}
 use Rattle.bands.proofs.band_at.Tie as tie
@@ -27,7 +27,7 @@ within : (c : tie.After-count2)
 within c = band-within _ _ (c .before .before .count .ensures .0) (c .count2 .ensures .0) (stood (c .before .before .before .before))
 
 returns : tie.Need-returns
-returns c = answer-none _ _ (sym (c .before .stored .ensures) ∙ not-true (c .before .stored .result) (c .if1 .taken))
+returns c = told _ _ (answer-none _ _ (sym (c .before .stored .ensures) ∙ not-true (c .before .stored .result) (c .if1 .taken)))
 
 shared-slice-read-count : tie.Need-shared-slice-read-count
 shared-slice-read-count c = omega (arith, read-framed _ (stored-read _ _ (stood (c .before))) .header)
@@ -65,9 +65,9 @@ be4-requires-2 c κs = search needs
 returns-2 : tie.Need-returns-2
 returns-2 c =
     let start = c .before .before .before .before .before .before .before .before .before .args in
-    answer-ends _ _ (c .before .before .before .before .count .ensures .0) (c .before .before .count2 .ensures .0)
+    told _ _ (answer-ends _ _ (c .before .before .before .before .count .ensures .0) (c .before .before .count2 .ensures .0)
     (c .before .be4 .ensures ∙ read-held 4 (start .bytes .now) _ (omega (arith, within (c .before .before))))
-    (c .be42 .ensures ∙ read-held 4 (start .bytes .now) _ (omega (arith, within (c .before .before)))) (stood (c .before .before .before .before .before .before))
+    (c .be42 .ensures ∙ read-held 4 (start .bytes .now) _ (omega (arith, within (c .before .before)))) (stood (c .before .before .before .before .before .before)))
 
 pub band-at-spec : {M : Type 1} → statement M
 band-at-spec =

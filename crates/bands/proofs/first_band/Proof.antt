@@ -46,8 +46,8 @@ use denote.Triple.Walked.{says, Stays, stay-none-slice, walkOf, goes-none-slice,
 use denote.Triple.Clauses.{ensured, lasts}
 use denote.Exit.{yes}
 use Rattle.layout.specs.Read.{readCause}
-use Rattle.layout.specs.Reader.{bandAt, afterAt, openPart}
-use Rattle.bands.specs.Laws.{part-answer}
+use Rattle.layout.specs.Reader.{bandAt, BandAnswered, afterAt, openPart}
+use Rattle.bands.specs.Laws.{told, part-answer}
 use Rattle.layout.specs.declared.Band.{Band}
 use Rattle.bands.specs.declared.Reader.{Reader}
 use Rattle.bands.specs.declared.Opened.{Opened}
@@ -168,9 +168,9 @@ module _ {M : Type 1} (𝓤 : URA M) (H : Heap 𝓤) (A : Atoms 𝓤) (W : Given
 
   -- what is known of its answer, at the reader's last value
   abbrev Is-next : Reader → Band → Reader → Type 0
-  Is-next g t g′ = (t ≡ bandAt (now (g .bytes)) (g .at)) × (g′ .bytes ≡ g .bytes) × (g′ .at ≡ afterAt (now (g .bytes)) (g .at))
+  Is-next g t g′ = BandAnswered (now (g .bytes)) (g .at) t × (g′ .bytes ≡ g .bytes) × (g′ .at ≡ afterAt (now (g .bytes)) (g .at))
 
-  exits : (t : Band) (u : Val) → t ≡ bandAt (now s) 0 → ent 𝓤 (⋆ 𝓤 H A (‵ (B.the-row .own t (u ∷ [])) ∷ (‵ (flft κ q) ⊛ ‵ ftrue) ∷ ‵ Own ∷ [])) (Post u)
+  exits : (t : Band) (u : Val) → BandAnswered (now s) 0 t → ent 𝓤 (⋆ 𝓤 H A (‵ (B.the-row .own t (u ∷ [])) ∷ (‵ (flft κ q) ⊛ ‵ ftrue) ∷ ‵ Own ∷ [])) (Post u)
   exits t u e =
       qed W (‵ (B.the-row .own t (u ∷ [])) ∷ (‵ (flft κ q) ⊛ ‵ ftrue) ∷ ‵ Own ∷ []) ∵
       suffices ! _ (ends-at 𝓤 H A first.ended stayed (first.clauses 𝓤 H A at-mem run) W (((κ, tt), (q, tt), tt, (s, tt), (v ∷ [], tt)), tt) u t (tt, tt) (tt, tt)) $ says ! e $
@@ -181,8 +181,8 @@ module _ {M : Type 1} (𝓤 : URA M) (H : Heap 𝓤) (A : Atoms 𝓤) (W : Given
   is-reader r u is = LL.owed (O.the-type α) (O′.the-laws α) r _ is .1 .0
 
   -- the answer is that at column 0 of the record
-  answers-first : (r : Opened) (t : Band) (g′ : Reader) → Is-open r → Is-next (r .reader) t g′ → t ≡ bandAt (now s) 0
-  answers-first r t g′ e e′ = e′ .0 ∙ ap (λ l. bandAt l (r .reader .at)) (e .1) ∙ ap (bandAt (openPart (now s))) (e .3) ∙ part-answer (now s) 0
+  answers-first : (r : Opened) (t : Band) (g′ : Reader) → Is-open r → Is-next (r .reader) t g′ → BandAnswered (now s) 0 t
+  answers-first r t g′ e e′ = told (now s) 0 (e′ .0 .answer ∙ ap (λ l. bandAt l (r .reader .at)) (e .1) ∙ ap (bandAt (openPart (now s))) (e .3) ∙ part-answer (now s) 0)
 
   module _ (C : Calls 𝓤 H) (Λ : Loops 𝓤 H) (fm : FmC 𝓤 H (W .laws) C) (known-open : Triple 𝓤 (C #bands·open) (Opening 𝓤 H A at-mem run)) (known-next : Triple 𝓤 (C #bands·next) (Next 𝓤 H A at-mem run)) where
     walk : Is (ShrSlice (named 0) κ u8) s (v ∷ []) → ent 𝓤 (onEntry 𝓤 H A first.signature (κ, tt) (q, tt) (s, tt) (v ∷ [], tt)) (WpFn 𝓤 H C Λ code.function (v ∷ []) Post)

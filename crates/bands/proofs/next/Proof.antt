@@ -42,7 +42,7 @@ use denote.Triple.Spec.{Meets, tripleOf}
 use denote.Triple.Table.{entered, cited}
 use denote.Triple.Walked.{says, Stays, stay-ref, walkOf, goes-ref, Walks, ends-at, walked, walk-meets}
 use denote.Triple.Clauses.{ensured, lasts}
-use Rattle.layout.specs.Reader.{bandAt, afterAt}
+use Rattle.layout.specs.Reader.{BandAnswered, afterAt}
 use Rattle.layout.specs.declared.Band.{Band}
 use Rattle.bands.specs.declared.Reader.{Reader}
 use Rattle.layout.proofs.Band as B
@@ -132,8 +132,8 @@ module _ {M : Type 1} (𝓤 : URA M) (H : Heap 𝓤) (A : Atoms 𝓤) (W : Given
       qed W ((‵ (flft κ′ q′) ⊛ ‵ ftrue) ∷ ‵ (Own h) ∷ []) ∵ move ! (1 ∷ []) $ use1 W (‵ (owns (ShrSlice (named 0) κ′ u8 ∷ usize ∷ []) (h .bytes, (h .at, tt)) passed) ⊛ ‵ (Own h)) (apart fits) $ split ! $
       move ! (2 ∷ 0 ∷ []) $ use2 W (raw (After 𝓤 H A at-mem run .pre to-after)) (qed W ((‵ (flft κ′ q′) ⊛ ‵ ftrue) ∷ ‵ (owns (ShrSlice (named 0) κ′ u8 ∷ usize ∷ []) (h .bytes, (h .at, tt)) passed) ∷ []) ∵ join ! $ frame ! $ done !) $ frame ! $ done !
 
-  band-said : (t : Band) → ent 𝓤 (ensured 𝓤 H A band.ended (band.clauses 𝓤 H A at-mem run) (κ′, tt) (h .bytes, (h .at, tt)) tt t) (fact 𝓤 (t ≡ bandAt (now (h .bytes)) (h .at)))
-  band-said t = exE 𝓤 _ (λ ws. snd∗ 𝓤 (sem 𝓤 H A (lasts band.ended (κ′, tt) (h .bytes, (h .at, tt)) ws)) (fact 𝓤 (t ≡ bandAt (now (h .bytes)) (h .at))))
+  band-said : (t : Band) → ent 𝓤 (ensured 𝓤 H A band.ended (band.clauses 𝓤 H A at-mem run) (κ′, tt) (h .bytes, (h .at, tt)) tt t) (fact 𝓤 (BandAnswered (now (h .bytes)) (h .at) t))
+  band-said t = exE 𝓤 _ (λ ws. snd∗ 𝓤 (sem 𝓤 H A (lasts band.ended (κ′, tt) (h .bytes, (h .at, tt)) ws)) (fact 𝓤 (BandAnswered (now (h .bytes)) (h .at) t)))
 
   after-said : (m : ℕ) → ent 𝓤 (ensured 𝓤 H A after.ended (after.clauses 𝓤 H A at-mem run) (κ′, tt) (h .bytes, (h .at, tt)) tt m) (fact 𝓤 (m ≡ afterAt (now (h .bytes)) (h .at)))
   after-said m = exE 𝓤 _ (λ ws. snd∗ 𝓤 (sem 𝓤 H A (lasts after.ended (κ′, tt) (h .bytes, (h .at, tt)) ws)) (fact 𝓤 (m ≡ afterAt (now (h .bytes)) (h .at))))
@@ -142,7 +142,7 @@ module _ {M : Type 1} (𝓤 : URA M) (H : Heap 𝓤) (A : Atoms 𝓤) (W : Given
   again : (m : ℕ) → m < 2 ^ 64 → ent 𝓤 (sem 𝓤 H A (Own h)) (sem 𝓤 H A (Own (h′ m)))
   again m fits = qed W (‵ (Own h) ∷ []) ∵ owned ! usize (Is usize) (uint-makes 𝓤 H A W w64) m _ (refl, fits) $ move ! (1 ∷ 0 ∷ []) $ by ! (own-put 𝓤 H A W (T.the-type (α κ′)) (T′.the-laws (α κ′)) 1 (h .bytes, (h .at, tt)) m (T′.lowered h))
 
-  exits : (t : Band) (u : Val) (m : ℕ) → t ≡ bandAt (now (h .bytes)) (h .at) → m ≡ afterAt (now (h .bytes)) (h .at)
+  exits : (t : Band) (u : Val) (m : ℕ) → BandAnswered (now (h .bytes)) (h .at) t → m ≡ afterAt (now (h .bytes)) (h .at)
       → ent 𝓤 (⋆ 𝓤 H A (‵ (fobs γ (R κ′ .coded .code (h′ m))) ∷ ‵ (fbor κ (Body (mem (R κ′)) b o γ)) ∷ ‵ (flft κ q) ∷ (‵ (flft κ′ q′) ⊛ ‵ ftrue) ∷ ‵ (B.the-row .own t (u ∷ [])) ∷ [])) (Post u)
   exits t u m e e′ =
       qed W (‵ (fobs γ (R κ′ .coded .code (h′ m))) ∷ ‵ (fbor κ (Body (mem (R κ′)) b o γ)) ∷ ‵ (flft κ q) ∷ (‵ (flft κ′ q′) ⊛ ‵ ftrue) ∷ ‵ (B.the-row .own t (u ∷ [])) ∷ []) ∵
@@ -171,7 +171,7 @@ module _ {M : Type 1} (𝓤 : URA M) (H : Heap 𝓤) (A : Atoms 𝓤) (W : Given
         move ! (5 ∷ 1 ∷ []) $ use2 W (raw (BandAt 𝓤 H A at-mem run .pre to-band) ⊛ ‵ (Own h)) (goes-band (n-fits g)) $ split ! $
         calls-at ! fm (BandAt 𝓤 H A at-mem run) known-band to-band (and-then ! (load ! (from ! (stop !)) (look ! 13 refl)) (and-then ! (load ! (from ! (stop !)) (look ! 11 refl)) (no-more !))) (λ u.
         use1 W (later (some (λ (t : Band). ((‵ (flft κ′ q′) ⊛ ‵ ftrue) ⊛ ‵ (B.the-row .own t (u ∷ []))) ⊛ raw (ensured 𝓤 H A band.ended (band.clauses 𝓤 H A at-mem run) (κ′, tt) (h .bytes, (h .at, tt)) tt t)))) (id⊢ 𝓤 _) $ await ! tt $ pick ! (λ t.
-        split ! $ move ! (1 ∷ []) $ use1 W (raw (fact 𝓤 (t ≡ bandAt (now (h .bytes)) (h .at)))) (band-said t) $ heard ! (t ≡ bandAt (now (h .bytes)) (h .at)) (λ e. split ! $ move ! (1 ∷ []) $
+        split ! $ move ! (1 ∷ []) $ use1 W (raw (fact 𝓤 (BandAnswered (now (h .bytes)) (h .at) t))) (band-said t) $ heard ! (BandAnswered (now (h .bytes)) (h .at) t) (λ e. split ! $ move ! (1 ∷ []) $
         -- [the answer; 'a's token; what the struct owns; its cell; the open borrow; obs; auth; …; room for _5; …; _4; …; _3; …; _2; …; _1; …; _0; …]
         peeks ! B.the-row (Is B.the-row) (shows 𝓤 H A B.the-row) t (u ∷ []) (λ is.
         land ! (from ! (stop !)) (init ! 10 refl (EL.lawful B.the-type B′.the-laws 𝓤 H A W tt .typed t _ is .0)) $

@@ -31,7 +31,7 @@ use denote.Triple.Spec.{Meets, tripleOf}
 use denote.Triple.Table.{entered, cited}
 use denote.Triple.Walked.{Stays, gave-ref, walkOf, goes-gave-ref, Walks, ends-at, walked, walk-meets}
 use denote.Triple.Clauses.{ensured, lasts}
-use Rattle.layout.specs.Reader.{bandAt, afterAt}
+use Rattle.layout.specs.Reader.{BandAnswered, afterAt}
 use Rattle.layout.specs.declared.Band.{Band}
 use Rattle.bands.specs.declared.Reader.{Reader}
 use Rattle.layout.proofs.Band as B
@@ -90,7 +90,7 @@ module _ {M : Type 1} (𝓤 : URA M) (H : Heap 𝓤) (A : Atoms 𝓤) (W : Given
 
   -- what is known of its answer, at the reader's last value
   abbrev Is-next : Band → Reader → Type 0
-  Is-next t g = (t ≡ bandAt (now (h .bytes)) (h .at)) × (g .bytes ≡ h .bytes) × (g .at ≡ afterAt (now (h .bytes)) (h .at))
+  Is-next t g = BandAnswered (now (h .bytes)) (h .at) t × (g .bytes ≡ h .bytes) × (g .at ≡ afterAt (now (h .bytes)) (h .at))
 
   -- the call of `shown_band`
   abbrev to-shown : Band → Val → Shown 𝓤 H A mem run .Ghost
