@@ -16,7 +16,7 @@ use Rattle.scheme.specs.Laws.Judged.{accepted-cause}
 use Rattle.scheme.specs.Laws.Tables.{or-false-left, or-false-right}
 use Rattle.answers.specs.Answers.{sheetSlice}
 use Rattle.answers.specs.Table.{tableSize, lowTable, highTable, tableCause}
-use Rattle.bounds.specs.Tracks.{TableReady}
+use Rattle.bounds.specs.Columns.{TableReady}
 use Rattle.answers.specs.Promises.{FiguresPromise}
 use Rattle.answers.specs.Laws.Kept.{figures-kept}
 use Rattle.bounds.proofs.Sheeting.{test-not}

@@ -12,6 +12,5 @@ pub mod Running
 pub mod Starting
 pub mod Answering
 pub mod Sheeting
-pub mod Tracking
 pub mod Tabling
 pub mod Figuring

@@ -1,32 +1,37 @@
--- The recursion on the year count: no year, and one year more.
+-- The recursion on the year count: no year, one year more, and the figure that is then written.
 -- Assumes nothing.
-use Prim.Native.Nat.{ℕ, suc, _≤_}
-use mathlib.Core.Path.{_≡_, ap, sym, _∙_, subst}
+use Prim.Native.Nat.{ℕ, suc, _+_, _*_, _≤_, _<_}
+use mathlib.Core.Path.{_≡_, refl, ap, sym, _∙_, subst}
 use mathlib.Core.Bool.{Bool}
 use mathlib.Core.List.{List}
 use native.Mathlib.Omega.{arith}
 use native.Mathlib.Nat.{le-trans, mul-le-mul-right}
-use lib.ListN.{length}
+use lib.ListN.{length, set, length-set}
+use lib.Seq.{getD-set-same, getD-set-other}
+use borrow.Author.Count.{below-more}
 use Rattle.setchain.specs.Rows.{SetChain}
 use Rattle.order.specs.Order.{Placed}
 use Rattle.step.specs.Lists.{at}
 use Rattle.step.specs.Figure.{LARGEST}
 use Rattle.bounds.specs.Entries.{chainListed}
-use Rattle.bounds.specs.Years.{yearsFigure, Yearly, Formed, Roomy, Runnable, Ran}
+use Rattle.bounds.specs.Years.{yearFigure, yearsFigure, Yearly, Formed, Roomy, Runnable, Noted, Ran}
 use Rattle.bounds.proofs.Agreeing.{years-none, years-next, years-at-most}
 
--- in no years the figures are the payoff
-pub run-none : {c : SetChain} {gain payoff : List ℕ} {falling : Bool} {t : ℕ} → t ≡ 0 → Ran c gain payoff falling t payoff
-run-none {c} {gain} {payoff} {falling} e =
+-- one figure more
+noted-more : {figure : ℕ → ℕ} {first stride t v : ℕ} {before : List ℕ} (out : List ℕ) (place : ℕ) → place ≡ first + t * stride → 1 ≤ stride → v ≡ figure t
+    → Noted figure first stride t before out → Noted figure first stride (t + 1) before (set out place v)
+noted-more {figure} {first} {stride} {t} {v} {before} out place here apart e w =
     record {
-      each = λ i l.
-          sym
-          (ap (λ k. yearsFigure falling c (at payoff) (at gain) k i) e
-          ∙ years-none falling c (at payoff) (at gain) i);
+      size = length-set out place v ∙ w .size;
+      done =
+          below-more (λ u. first + u * stride < length before → at (set out place v) (first + u * stride) ≡ figure u) t
+          (λ u l i. getD-set-other out place (first + u * stride) v 0 (λ g. omega (arith, here, apart, mul-le-mul-right stride l)) ∙ w .done u l i)
+          (λ i. ap (at (set out place v)) (sym here) ∙ getD-set-same out place v 0 (omega (arith, here, w .size)) ∙ e);
+      other = λ p o. getD-set-other out place p v 0 (λ g. o t (g ∙ here)) ∙ w .other p o;
     }
 
 -- room for t years is room for fewer
-pub roomy-less : {n : ℕ} {gain payoff : List ℕ} {t : ℕ} → Roomy n gain payoff t → (u : ℕ) → u ≤ t → Roomy n gain payoff u
+roomy-less : {n : ℕ} {gain payoff : List ℕ} {t : ℕ} → Roomy n gain payoff t → (u : ℕ) → u ≤ t → Roomy n gain payoff u
 roomy-less w u fewer =
     record {
       top = w .top;
@@ -37,38 +42,70 @@ roomy-less w u fewer =
       rises = w .rises;
     }
 
--- from t years to fewer, and from the figures of u years to those of one more
-module _ {entries spare gain order payoff : List ℕ} {t : ℕ} (w : Runnable entries spare gain order payoff t) (u : ℕ) (fewer : u ≤ t) where
+module _ {entries spare gain order payoff : List ℕ} {t state stride : ℕ} (w : Runnable entries spare gain order payoff t state stride) where
   abbrev chain : SetChain
   chain = chainListed (length gain) entries
 
-  pub run-less : Runnable entries spare gain order payoff u
-  run-less = record { held = w .held; placed = w .placed; roomy = roomy-less (w .roomy) u fewer }
+  -- in no years the figures are the payoff, and none is written yet
+  pub run-none : {falling : Bool} {before : List ℕ} → t ≡ 0 → Ran entries gain payoff falling t state stride t order payoff before before
+  run-none {falling} e =
+      record {
+        placed = w .placed;
+        each = λ i l.
+            sym
+            (ap (λ k. yearsFigure falling chain (at payoff) (at gain) k i) e
+            ∙ years-none falling chain (at payoff) (at gain) i);
+        noted = record { size = refl; done = λ u l. absurd (omega arith); other = λ p o. refl };
+      }
 
-  module _ {falling : Bool} {figures : List ℕ} (before : Ran (chainListed (length gain) entries) gain payoff falling u figures) where
-    pub run-year : {order′ : List ℕ} → Placed (length gain) order′ → Yearly entries spare gain order′ figures
-    unfolding run-less roomy-less
-    run-year placed =
+  -- with the figure of year t written
+  pub run-noted : {falling : Bool} {order′ figures before out : List ℕ}
+      → Ran entries gain payoff falling t state stride t order′ figures before out
+      → Ran entries gain payoff falling t state stride (t + 1) order′ figures before (set out (t * stride) (at figures state))
+  run-noted {falling} {order′} {figures} {before} {out} i =
+      record { placed = i .placed; each = i .each; noted = noted-more out (t * stride) (omega arith) (w .apart) (i .each state (w .within)) (i .noted) }
+
+  -- from t years to fewer, and from the figures of u years to those of one more
+  module _ (u : ℕ) (fewer : u ≤ t) where
+    pub run-less : Runnable entries spare gain order payoff u state stride
+    run-less =
         record {
           held = w .held;
-          placed = placed;
-          small = λ j l.
-              subst (λ x. x ≤ LARGEST) (sym (before .each j l))
-              (le-trans
-              (years-at-most falling chain (w .held .sound) (at payoff) (at gain) (w .roomy .top) (w .roomy .rise) (w .roomy .payoffs) (w .roomy .gains) u j l)
-              (run-less .roomy .room));
-          rises = λ j l. le-trans (w .roomy .gains j l) (w .roomy .rises);
+          placed = w .placed;
+          roomy = roomy-less (w .roomy) u fewer;
+          within = w .within;
+          apart = w .apart;
+          counted = omega (arith, mul-le-mul-right stride fewer, w .counted);
         }
 
-    pub run-next : {after : List ℕ} → Formed (chainListed (length gain) entries) gain figures falling after
-        → Ran (chainListed (length gain) entries) gain payoff falling (suc u) after
-    run-next f =
-        record {
-          each = λ i l.
-              f .each i l
-              ∙ years-next falling chain (w .held .sound) (at payoff) (at gain) (at figures) u i l (before .each);
-        }
+    module _ {falling : Bool} {order′ figures before out : List ℕ}
+        (r : Ran entries gain payoff falling u state stride (u + 1) order′ figures before out) where
+      pub run-year : Yearly entries spare gain order′ figures
+      unfolding run-less roomy-less
+      run-year =
+          record {
+            held = w .held;
+            placed = r .placed;
+            small = λ j l.
+                subst (λ x. x ≤ LARGEST) (sym (r .each j l))
+                (le-trans
+                (years-at-most falling chain (w .held .sound) (at payoff) (at gain) (w .roomy .top) (w .roomy .rise) (w .roomy .payoffs) (w .roomy .gains) u j l)
+                (run-less .roomy .room));
+            rises = λ j l. le-trans (w .roomy .gains j l) (w .roomy .rises);
+          }
 
-    pub run-more : {after : List ℕ} → suc u ≡ t → Formed (chainListed (length gain) entries) gain figures falling after
-        → Ran (chainListed (length gain) entries) gain payoff falling t after
-    run-more {after} next f = subst (λ k. Ran chain gain payoff falling k after) next (run-next f)
+      pub run-more : {order″ after : List ℕ} {flag : Bool} → suc u ≡ t → falling ≡ flag
+          → Formed (chainListed (length gain) entries) gain figures flag after → Placed (length gain) order″
+          → Ran entries gain payoff falling t state stride t order″ after before out
+      run-more {order″} {after} next is f placed =
+          record {
+            placed = placed;
+            each = λ i l.
+                subst (λ x. at after i ≡ yearFigure x chain (at gain) (at figures) i) (sym is) (f .each i l)
+                ∙ years-next falling chain (w .held .sound) (at payoff) (at gain) (at figures) u i l (r .each)
+                ∙ ap (λ k. yearsFigure falling chain (at payoff) (at gain) k i) next;
+            noted = subst (λ k. Noted (λ v. yearsFigure falling chain (at payoff) (at gain) v state) 0 stride k before out) again (r .noted);
+          }
+        where
+          again : u + 1 ≡ t
+          again = omega (arith, next)

@@ -1,11 +1,13 @@
 -- The start class's figure: from the lists of entries to the scheme's own chain.
 -- Assumes nothing.
-use Prim.Native.Nat.{ℕ, _-_, _≤_, _<_}
+use Prim.Native.Nat.{ℕ, _-_, _*_, _≤_, _<_}
 use mathlib.Core.Path.{_≡_, refl, ap, sym, _∙_, subst}
 use mathlib.Core.Bool.{Bool}
 use mathlib.Core.List.{List, _++_}
 use native.Mathlib.Decide.{ℕ-discrete}
 use native.Mathlib.Omega.{arith}
+use mir.Syntax.{w64}
+use mir.Val.{Fits}
 use lib.Dec.{eqb}
 use lib.ListN.{length, take, set, getD-replicate, length-append}
 use lib.Seq.{length-take-le, getD-take, take-at, getD-set-same, getD-set-other}
@@ -47,6 +49,9 @@ module _ (s : Scheme) {entries spare gain payoff : List ℕ} {t : ℕ} (w : Read
   gains-count : length (take n gain) ≡ n
   gains-count = length-take-le n gain (omega (arith, e .held .few))
 
+  start-within : (i : ℕ) → i ≡ s .start - 1 → i < length (take (s .classes) gain)
+  start-within i g = omega (arith, gains-count, w .accepted .start .positive, w .accepted .start .within)
+
   module _ (order rest : List ℕ) (is : order ≡ numbered (take n zeros)) where
     -- the numbers are an order of the classes
     placed : Placed (length (take n zeros)) order
@@ -63,8 +68,9 @@ module _ (s : Scheme) {entries spare gain payoff : List ℕ} {t : ℕ} (w : Read
     pub order-size : s .classes ≡ length (take (s .classes) (order ++ rest))
     order-size = sym (length-take-le n (order ++ rest) order-fits)
 
-    pub start-runs : Runnable entries spare (take (s .classes) gain) (take (s .classes) (order ++ rest)) payoff t
-    start-runs =
+    pub start-runs : (i : ℕ) → i ≡ s .start - 1 → (stride : ℕ) → 1 ≤ stride → Fits w64 (t * stride)
+        → Runnable entries spare (take (s .classes) gain) (take (s .classes) (order ++ rest)) payoff t i stride
+    start-runs i g stride apart counted =
         record {
           held = subst (λ k. Held k entries spare) (sym gains-count) (e .held);
           placed =
@@ -81,6 +87,9 @@ module _ (s : Scheme) {entries spare gain payoff : List ℕ} {t : ℕ} (w : Read
                 room = w .roomy .room;
                 rises = w .roomy .rises;
               };
+          within = start-within i g;
+          apart = apart;
+          counted = counted;
         }
 
   pub start-years : (falling : Bool) (u i : ℕ) → i ≡ s .start - 1
@@ -93,10 +102,7 @@ module _ (s : Scheme) {entries spare gain payoff : List ℕ} {t : ℕ} (w : Read
       (at payoff) (at payoff) (at (take n gain)) (at gain)
       (λ j l. refl) (λ j l. getD-take n gain j 0 l) u (startOf s) (omega (arith, w .accepted .start .positive, w .accepted .start .within))
 
-  pub start-within : (i : ℕ) → i ≡ s .start - 1 → i < length (take (s .classes) gain)
-  start-within i g = omega (arith, gains-count, w .accepted .start .positive, w .accepted .start .within)
-
-  pub start-is : {falling : Bool} {figures : List ℕ} (i : ℕ) → i ≡ s .start - 1
-      → Ran (chainListed (length (take (s .classes) gain)) entries) (take (s .classes) gain) payoff falling t figures
+  pub start-is : {falling : Bool} {stride count : ℕ} {order figures before after : List ℕ} (i : ℕ) → i ≡ s .start - 1
+      → Ran entries (take (s .classes) gain) payoff falling t i stride count order figures before after
       → at figures i ≡ startFigure falling s gain payoff t
   start-is {falling} i g ran = ran .each i (start-within i g) ∙ start-years falling t i g

@@ -3,14 +3,14 @@
 use Prim.Native.Nat.{ℕ, suc, _+_, _-_, _*_, _/_, _%_, _≤_, _<_}
 use mathlib.Core.Path.{_≡_, ap, sym, _∙_, subst}
 use mathlib.Core.Bool.{Bool, true, false}
-use mathlib.Core.List.{List, _++_}
+use mathlib.Core.List.{List, _++_, append-nil}
 use native.Mathlib.Omega.{arith}
 use native.Mathlib.Decide.{decLt}
 use native.Mathlib.Nat.{mul-le-mul, mul-le-mul-right, div-add-mod', div-lt-iff-lt-mul, mod-lt, mod-eq-of-lt, mul-add-mod-self-right}
 use mir.Syntax.{w64}
 use mir.Val.{Fits}
-use lib.ListN.{length, set, take, length-set}
-use lib.Seq.{getD-set-same, getD-set-other}
+use lib.ListN.{length, set, take, drop, length-set, length-append, length-drop, List·getD-append}
+use lib.Seq.{length-take-le, take-all, drop-length, getD-set-same, getD-set-other, getD-append-add, getD-take, getD-drop}
 use borrow.Author.Count.{below-none, below-more}
 use Rattle.setchain.specs.Years.{sharePayoff, nothing}
 use Rattle.scheme.specs.Tables.{tab}
@@ -22,21 +22,63 @@ use Rattle.scheme.specs.declared.Scheme.{Scheme}
 use Rattle.order.specs.Order.{numbered}
 use Rattle.step.specs.Lists.{at}
 use Rattle.step.specs.Figure.{LARGEST}
-use Rattle.bounds.specs.Entries.{chainListed}
-use Rattle.bounds.specs.Years.{yearsFigure}
+use Rattle.bounds.specs.Years.{yearsFigure, Runnable, Noted, Ran}
 use Rattle.bounds.specs.Start.{Entered, Ready, startFigure, ShareHeld}
 use Rattle.answers.specs.Answers.{startOf}
 use Rattle.answers.specs.Table.{placeOf, totalPlace, tableSize, tableEntry, lowTable, highTable}
-use Rattle.bounds.specs.Tracks.{Trackable, Tracked, ColumnReady, TableReady, SharesIn, figureTable}
+use Rattle.bounds.specs.Columns.{ColumnReady, TableReady, SharesIn, figureTable}
 use Rattle.answers.specs.Laws.Table.{entry-share, entry-mean, entry-total}
-use Rattle.bounds.proofs.Starting.{start-runs, start-years, start-within}
+use Rattle.bounds.proofs.Starting.{start-runs, start-years}
 use Rattle.bounds.proofs.Forming.{zeros}
 use Rattle.bounds.proofs.Answering.{share-ready, share-figure, mean-ready, mean-figure, total-ready, total-figure}
 
--- figures that are equal in each year
-tracked-same : {f g : ℕ → ℕ} {first stride years : ℕ} {before after : List ℕ} → ((u : ℕ) → f u ≡ g u)
-    → Tracked f first stride years before after → Tracked g first stride years before after
-tracked-same h w = record { size = w .size; done = λ u l. w .done u l ∙ h u; other = w .other }
+-- what was noted in the part of a slice from `first` on is noted in the slice
+module _ (first : ℕ) (before after : List ℕ) (inside : first ≤ length before) where
+  abbrev whole : List ℕ
+  whole = take first before ++ after
+
+  front : length (take first before) ≡ first
+  front = length-take-le first before inside
+
+  past : (q : ℕ) → at whole (first + q) ≡ at after q
+  past q =
+      let e : first + q ≡ length (take first before) + q = omega (arith, front) in
+      ap (at whole) e ∙ getD-append-add (take first before) after q 0
+
+  noted-rest : {figure : ℕ → ℕ} {stride count : ℕ} → Noted figure 0 stride count (drop first before) after → Noted figure first stride count before (take first before ++ after)
+  noted-rest {figure} {stride} {count} w =
+      record {
+        size = omega (arith, length-append (take first before) after, front, w .size, length-drop first before);
+        done = λ u l i. past (u * stride) ∙ ap (at after) (zeroth (u * stride)) ∙ w .done u l (omega (arith, length-drop first before));
+        other = λ p o. by p o (decLt p first);
+      }
+    where
+      zeroth : (q : ℕ) → q ≡ 0 + q
+      zeroth q = omega arith
+
+      by : (p : ℕ) → ((u : ℕ) → p ≡ first + u * stride → ⊥) → Dec (p < first) → at whole p ≡ at before p
+      by p o (yes g) = List·getD-append (take first before) after 0 p (omega (arith, front)) ∙ getD-take first before p 0 g
+      by p o (no g) =
+          let e : p ≡ first + (p - first) = omega arith in
+          ap (at whole) e
+          ∙ past (p - first)
+          ∙ w .other (p - first) (λ u f. o u (omega arith))
+          ∙ getD-drop first before (p - first) 0
+          ∙ ap (at before) (sym e)
+
+  -- as the part is lent and comes back
+  noted-part : {figure : ℕ → ℕ} {stride count : ℕ} → Noted figure 0 stride count (take (length before - first) (drop first before)) after
+      → Noted figure first stride count before (take first before ++ (after ++ drop (length before - first) (drop first before)))
+  noted-part {figure} {stride} {count} w =
+      subst (λ l. Noted figure first stride count before (take first before ++ l)) (sym none)
+      (noted-rest
+      (subst (λ l. Noted figure 0 stride count l after) (take-all (length before - first) (drop first before) (omega (arith, length-drop first before))) w))
+    where
+      none : after ++ drop (length before - first) (drop first before) ≡ after
+      none =
+          ap (λ k. after ++ drop k (drop first before)) (sym (length-drop first before))
+          ∙ ap (λ l. after ++ l) (drop-length (drop first before))
+          ∙ append-nil after
 
 -- a table's numbers are few
 table-few : (s : Scheme) → s .horizon ≤ 100 → s .classes ≤ 32 → tableSize s ≤ LARGEST
@@ -51,21 +93,19 @@ last-fits s ok e = omega (arith, table-few s (ok .horizon .within) (ok .size .cl
 -- from a scheme's arrays to the slices that go down, and from the lists of its entries to its chain
 module _ (s : Scheme) {entries spare gain payoff : List ℕ} {first : ℕ} {out : List ℕ} (w : ColumnReady s gain payoff first out)
     (e : Entered s entries spare) (gainStored : 32 ≤ length gain) (i : ℕ) (state : i ≡ s .start - 1) where
-  pub column-tracks : (order rest : List ℕ) → order ≡ numbered (take (s .classes) zeros)
-      → Trackable entries spare (take (s .classes) gain) (take (s .classes) (order ++ rest)) payoff i first (s .classes + 1) (s .horizon) out
-  column-tracks order rest is =
-      record {
-        runs = start-runs s (w .ready) e gainStored order rest is;
-        within = start-within s (w .ready) e gainStored i state;
-        apart = omega arith;
-        fits = omega (arith, w .within, w .size);
-        few = omega (arith, w .size, table-few s (w .ready .accepted .horizon .within) (w .ready .accepted .size .classes));
-      }
+  pub column-runs : (order rest : List ℕ) → order ≡ numbered (take (s .classes) zeros)
+      → Runnable entries spare (take (s .classes) gain) (take (s .classes) (order ++ rest)) payoff (s .horizon) i (s .classes + 1)
+  column-runs order rest is =
+      start-runs s (w .ready) e gainStored order rest is i state (s .classes + 1) (omega arith)
+      (omega (arith, table-few s (w .ready .accepted .horizon .within) (w .ready .accepted .size .classes)))
 
-  pub column-tracked : (falling : Bool) {after : List ℕ}
-      → Tracked (λ u. yearsFigure falling (chainListed (length (take (s .classes) gain)) entries) (at payoff) (at (take (s .classes) gain)) u i) first (s .classes + 1) (s .horizon) out after
-      → Tracked (startFigure falling s gain payoff) first (s .classes + 1) (s .horizon) out after
-  column-tracked falling t = tracked-same (λ u. start-years s (w .ready) e gainStored falling u i state) t
+  pub column-noted : {falling : Bool} {order figures after : List ℕ}
+      → Ran entries (take (s .classes) gain) payoff falling (s .horizon) i (s .classes + 1) (s .horizon + 1) order figures
+      (take (length out - first) (drop first out)) after
+      → Noted (startFigure falling s gain payoff) first (s .classes + 1) (s .horizon + 1) out (take first out ++ (after ++ drop (length out - first) (drop first out)))
+  column-noted {falling} {order} {figures} {after} r =
+      let m = noted-part first out after (omega (arith, w .within, w .size)) (r .noted) in
+      record { size = m .size; done = λ u l h. m .done u l h ∙ start-years s (w .ready) e gainStored falling u i state; other = m .other }
 
 -- a place tells its number in the row
 number-is : (c t j : ℕ) → j ≤ c → (t * suc c + j) % suc c ≡ j
@@ -79,11 +119,12 @@ columns-apart c t k u j l m e =
 
 -- a column's own places hold its figures, and those of another column what they held
 module _ (s : Scheme) {figure : ℕ → ℕ} {j : ℕ} {before after : List ℕ} (inRow : j ≤ s .classes)
-    (w : Tracked figure j (s .classes + 1) (s .horizon) before after) where
+    (size : length before ≡ tableSize s) (w : Noted figure j (s .classes + 1) (s .horizon + 1) before after) where
   column-own : (t : ℕ) → t ≤ s .horizon → at after (placeOf s t j) ≡ figure t
   column-own t h =
       let e : placeOf s t j ≡ j + t * (s .classes + 1) = omega arith in
-      ap (at after) e ∙ w .done t (omega arith)
+      let k : suc t * suc (s .classes) ≤ suc (s .horizon) * suc (s .classes) = mul-le-mul-right (suc (s .classes)) (omega arith) in
+      ap (at after) e ∙ w .done t (omega arith) (omega (arith, size))
 
   column-other : (t k : ℕ) → k ≤ s .classes → (k ≡ j → ⊥) → at after (placeOf s t k) ≡ at before (placeOf s t k)
   column-other t k l d = w .other (placeOf s t k) (λ u e. d (columns-apart (s .classes) t k u j l inRow e))
@@ -97,16 +138,16 @@ module _ (s : Scheme) (ok : Accepted s) {falling : Bool} {out : List ℕ} {j : �
   pub sharing-column : ColumnReady s zeros payoff j out
   sharing-column = record { ready = share-ready s ok held (s .horizon); within = omega arith; size = w .size }
 
-  pub sharing-more : {after : List ℕ} → Tracked (startFigure falling s zeros payoff) j (s .classes + 1) (s .horizon) out after → SharesIn falling s after (j + 1)
+  pub sharing-more : {after : List ℕ} → Noted (startFigure falling s zeros payoff) j (s .classes + 1) (s .horizon + 1) out after → SharesIn falling s after (j + 1)
   sharing-more {after} t =
       record {
         size = t .size ∙ w .size;
         inside = omega arith;
         done =
             below-more (λ k. (u : ℕ) → u ≤ s .horizon → at after (placeOf s u k) ≡ yearsFigure falling (chainOf s) (sharePayoff k) nothing u (startOf s)) j
-            (λ k l u h. column-other s (omega arith) t u k (omega arith) (λ e. omega arith) ∙ w .done k l u h)
+            (λ k l u h. column-other s (omega arith) (w .size) t u k (omega arith) (λ e. omega arith) ∙ w .done k l u h)
             (λ u h.
-            column-own s (omega arith) t u h
+            column-own s (omega arith) (w .size) t u h
             ∙ share-figure s ok held u falling
             ∙ ap (λ k. yearsFigure falling (chainOf s) (sharePayoff k) nothing u (startOf s)) again);
       }
@@ -179,7 +220,7 @@ module _ (s : Scheme) (ok : Accepted s) {premiums : List ℕ} (are : premiums �
           size = w .size;
         }
 
-    module _ {after : List ℕ} (m : Tracked (startFigure falling s zeros premiums) (s .classes) (s .classes + 1) (s .horizon) out after) where
+    module _ {after : List ℕ} (m : Noted (startFigure falling s zeros premiums) (s .classes) (s .classes + 1) (s .horizon + 1) out after) where
       -- the last place is the total's
       last-place : length after - 1 ≡ totalPlace s
       last-place = omega (arith, m .size, w .size)
@@ -195,10 +236,10 @@ module _ (s : Scheme) (ok : Accepted s) {premiums : List ℕ} (are : premiums �
       table-made v f =
           tabled s falling
           (table-pinned s _ _ _ (set after (length after - 1) v) (last-length after v (m .size ∙ w .size))
-          (λ t j h l. kept v t j h (omega arith) ∙ column-other s (omega arith) m t j (omega arith) (λ g. omega arith) ∙ w .done j l t h)
+          (λ t j h l. kept v t j h (omega arith) ∙ column-other s (omega arith) (w .size) m t j (omega arith) (λ g. omega arith) ∙ w .done j l t h)
           (λ t h.
           kept v t (s .classes) h (omega arith)
-          ∙ column-own s (omega arith) m t h
+          ∙ column-own s (omega arith) (w .size) m t h
           ∙ ap (λ x. startFigure falling s zeros x t) are
           ∙ mean-figure s ok falling t)
           (ap (at (set after (length after - 1) v)) (sym last-place)

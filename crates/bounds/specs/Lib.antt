@@ -4,4 +4,4 @@ pub mod Entries
 pub mod Walk
 pub mod Years
 pub mod Start
-pub mod Tracks
+pub mod Columns

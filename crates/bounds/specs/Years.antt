@@ -3,6 +3,8 @@ use Prim.Native.Nat.{ℕ, _+_, _*_, _≤_, _<_}
 use mathlib.Core.Path.{_≡_}
 use mathlib.Core.Bool.{Bool, true, false}
 use mathlib.Core.List.{List}
+use mir.Syntax.{w64}
+use mir.Val.{Fits}
 use lib.ListN.{length}
 use Rattle.setchain.specs.Rows.{SetChain}
 use Rattle.setchain.specs.Years.{lowYears, highYears}
@@ -10,7 +12,7 @@ use Rattle.order.specs.Order.{Placed}
 use Rattle.step.specs.Lists.{at}
 use Rattle.one_year.specs.Figure.{stepFigure}
 use Rattle.step.specs.Figure.{LARGEST}
-use Rattle.bounds.specs.Entries.{Held}
+use Rattle.bounds.specs.Entries.{chainListed, Held}
 
 -- what one year makes of the figures f of the year before: the gain and the step's figure, low where payoffs rise and high where they fall
 abbrev pub yearFigure : Bool → SetChain → (gain f : ℕ → ℕ) → ℕ → ℕ
@@ -45,12 +47,23 @@ pub record Yearly (entries spare gain order before : List ℕ) : Type 0 where
 pub record Formed (c : SetChain) (gain before : List ℕ) (falling : Bool) (figures : List ℕ) : Type 0 where
   pub each : (i : ℕ) → i < c .states → at figures i ≡ yearFigure falling c (at gain) (at before) i
 
--- what t years take
-pub record Runnable (entries spare gain order payoff : List ℕ) (t : ℕ) : Type 0 where
+-- what t years take: lists that hold sound rows, an order, payoffs and gains that leave room, a state of the chain, and places that are apart and can be counted
+pub record Runnable (entries spare gain order payoff : List ℕ) (t state stride : ℕ) : Type 0 where
   pub held : Held (length gain) entries spare
   pub placed : Placed (length gain) order
   pub roomy : Roomy (length gain) gain payoff t
+  pub within : state < length gain
+  pub apart : 1 ≤ stride
+  pub counted : Fits w64 (t * stride)
 
--- each figure of the chain's states is that of t years
-pub record Ran (c : SetChain) (gain payoff : List ℕ) (falling : Bool) (t : ℕ) (figures : List ℕ) : Type 0 where
-  pub each : (i : ℕ) → i < c .states → at figures i ≡ yearsFigure falling c (at payoff) (at gain) t i
+-- the figures of the first `count` years stand in `after`, that of year u at place first + u × stride where the slice has it, and nothing else has changed
+pub record Noted (figure : ℕ → ℕ) (first stride count : ℕ) (before after : List ℕ) : Type 0 where
+  pub size : length after ≡ length before
+  pub done : (u : ℕ) → u < count → first + u * stride < length before → at after (first + u * stride) ≡ figure u
+  pub other : (p : ℕ) → ((u : ℕ) → p ≡ first + u * stride → ⊥) → at after p ≡ at before p
+
+-- what t years leave: an order of the states, each state's figure of t years, and one state's figures of the first `count` years at their places
+pub record Ran (entries gain payoff : List ℕ) (falling : Bool) (t state stride count : ℕ) (order figures before after : List ℕ) : Type 0 where
+  pub placed : Placed (length gain) order
+  pub each : (i : ℕ) → i < length gain → at figures i ≡ yearsFigure falling (chainListed (length gain) entries) (at payoff) (at gain) t i
+  pub noted : Noted (λ u. yearsFigure falling (chainListed (length gain) entries) (at payoff) (at gain) u state) 0 stride count before after

@@ -11,7 +11,6 @@ mod payoffs;
 mod sheet;
 mod start;
 mod table;
-mod track;
 mod year;
 mod years;
 

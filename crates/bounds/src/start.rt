@@ -24,16 +24,22 @@ pub fn start_figure(
     let n = scheme.classes as usize;
     let mut order = [0u8; 32];
     number(&mut order[..n]);
-    let figures = years(
+    let mut figures = payoff;
+    let begins = state(scheme.start);
+    let mut none: [u64; 0] = [];
+    years(
         entries,
         spare,
         &gain[..n],
         falling,
         &mut order[..n],
-        &payoff,
-        t,
+        &mut figures,
+        t as usize,
+        begins,
+        1,
+        &mut none,
     );
-    figures[state(scheme.start)]
+    figures[begins]
 }
 
 // Both figures of the start class: low and high run on their own.

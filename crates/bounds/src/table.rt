@@ -3,14 +3,15 @@ use crate::entries::list_scheme;
 use crate::payoffs::share_payoff;
 use crate::payoffs::widened;
 use crate::start::start_figure;
-use crate::track::track;
+use crate::years::years;
 use scheme::Scheme;
 use states::number;
 use states::state;
 ghost use mathlib.Core.Path.{_≡_};
 ghost use Prim.Native.Nat.{_+_};
+ghost use Rattle.bounds.specs.Years.{Noted};
 ghost use Rattle.bounds.specs.Start.{Entered, startFigure};
-ghost use Rattle.bounds.specs.Tracks.{ColumnReady, SharesIn, TableReady, Tracked, figureTable};
+ghost use Rattle.bounds.specs.Columns.{ColumnReady, SharesIn, TableReady, figureTable};
 
 // Writes the start class's figures of all years at one place of each year's row.
 fn column(
@@ -24,23 +25,23 @@ fn column(
     out: &mut [u64],
 )
     requires { ⌜ (ColumnReady scheme gain payoff first (now out)) × Entered scheme (now entries) (now spare) ⌝ }
-    ensures { λ _. ⌜ Tracked (startFigure falling scheme gain payoff) first (scheme .classes + 1) (scheme .horizon) (now (out .entry)) (now (out .exit)) ⌝ }
+    ensures { λ _. ⌜ Noted (startFigure falling scheme gain payoff) first (scheme .classes + 1) (scheme .horizon + 1) (now (out .entry)) (now (out .exit)) ⌝ }
 {
     let n = scheme.classes as usize;
     let mut order = [0u8; 32];
     number(&mut order[..n]);
-    track(
+    let mut figures = payoff;
+    years(
         entries,
         spare,
         &gain[..n],
         falling,
         &mut order[..n],
-        payoff,
-        state(scheme.start),
-        first,
-        n + 1,
+        &mut figures,
         scheme.horizon as usize,
-        out,
+        state(scheme.start),
+        n + 1,
+        &mut out[first..],
     );
 }
 

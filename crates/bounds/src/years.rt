@@ -1,12 +1,14 @@
-// The figures of t years, by recursion on the year count (document 01, "Years").
+// The figures of t years, and of every year before, by recursion on the year count (document 01, "Years").
 use crate::year::year;
-ghost use lib.ListN.{length};
+ghost use mathlib.Core.Path.{_≡_};
+ghost use Prim.Native.Nat.{_+_};
+ghost use lib.ListN.{length, set};
 ghost use Rattle.order.specs.Order.{Placed};
 ghost use Rattle.bounds.specs.Entries.{chainListed};
 ghost use Rattle.bounds.specs.Years.{Formed, Ran, Runnable, Yearly};
 
 // One year more, in place.
-pub fn advance(
+fn advance(
     entries: &[u32; 3104],
     spare: &[u32; 32],
     gain: &[u64],
@@ -22,24 +24,52 @@ pub fn advance(
     *figures = year(entries, spare, gain, falling, order, before);
 }
 
-// The figures of t years rest on those of t - 1, down to the payoff.
+// Writes a figure at a place of the slice, where the slice has it.
+fn note(figure: u64, place: usize, out: &mut [u64])
+    ensures { λ _. ⌜ now (out .exit) ≡ set (now (out .entry)) place figure ⌝ }
+{
+    if place < out.len() {
+        out[place] = figure;
+    }
+}
+
+// The figures of t years, in place of the payoff: those of t - 1 first, then one year more.
+// Of each year u the state's figure is written at place u × stride, where the slice has it.
 pub fn years(
     entries: &[u32; 3104],
     spare: &[u32; 32],
     gain: &[u64],
     falling: bool,
     order: &mut [u8],
-    payoff: &[u64; 32],
-    t: u64,
-) -> [u64; 32]
-    requires { ⌜ Runnable (now entries) (now spare) (now gain) (now order) (now payoff) t ⌝ }
-    ensures figures { λ r. ⌜ Ran (chainListed (length (now (gain .entry))) (now (entries .entry))) (now (gain .entry)) (now (payoff .entry)) falling t r ⌝ }
-    ensures order { λ _. ⌜ Placed (length (now (gain .entry))) (now (order .exit)) ⌝ }
+    figures: &mut [u64; 32],
+    t: usize,
+    state: usize,
+    stride: usize,
+    out: &mut [u64],
+)
+    requires { ⌜ Runnable (now entries) (now spare) (now gain) (now order) (now figures) t state stride ⌝ }
+    ensures { λ _. ⌜ Ran (now (entries .entry)) (now (gain .entry)) (now (figures .entry)) falling t state stride (t + 1)
+        (now (order .exit)) (now (figures .exit)) (now (out .entry)) (now (out .exit)) ⌝ }
 {
-    if t == 0 {
-        return *payoff;
+    if t != 0 {
+        years(
+            entries,
+            spare,
+            gain,
+            falling,
+            order,
+            figures,
+            t - 1,
+            state,
+            stride,
+            out,
+        );
+        // Low figures feed the low step, high figures the high step. Two calls: with one alone the compiler lays a whole year into every frame.
+        if falling {
+            advance(entries, spare, gain, true, order, figures);
+        } else {
+            advance(entries, spare, gain, false, order, figures);
+        }
     }
-    let mut figures = years(entries, spare, gain, falling, order, payoff, t - 1);
-    advance(entries, spare, gain, falling, order, &mut figures);
-    figures
+    note(figures[state], t * stride, out);
 }

@@ -3,7 +3,7 @@
 use mathlib.Core.Path.{sym, _∙_}
 use Prim.Native.Nat.{_-_}
 use native.Mathlib.Omega.{arith}
-use Rattle.bounds.specs.Tracks.{SharesIn}
+use Rattle.bounds.specs.Columns.{SharesIn}
 use Rattle.bounds.proofs.Tabling.{sharing-none, sharing-column, sharing-more, sharing-all}
 use Rattle.bounds.proofs.table.share_columns.Statement.{statement}
 use Rattle.bounds.proofs.table.share_columns.Tie as tie

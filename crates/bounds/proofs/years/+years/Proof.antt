@@ -1,8 +1,10 @@
 -- The proof of the cycle of calls {years}: the year count falls at each call.
 -- Assumes nothing.
 use mathlib.Core.Path.{sym, _∙_}
+use mathlib.Core.Logic.{⊎-elim}
 use native.Mathlib.Omega.{arith}
-use Rattle.bounds.proofs.Running.{run-none, run-less, run-year, run-more}
+use Rattle.bounds.specs.Years.{Ran}
+use Rattle.bounds.proofs.Running.{run-none, run-more, run-noted, run-less, run-year}
 use Prim.Native.Nat.{ℕ, _<_}
 use borrow.Fn.Kinds.{In}
 use borrow.Fn.PlainCycle.{Measures, is, falls, and}
@@ -10,78 +12,110 @@ use Rattle.bounds.proofs.years.years.Reads as years
 use Rattle.bounds.proofs.years.years.Kinds as years-kinds
 use Rattle.bounds.proofs.years.+years.Lts-years as years-lts
 use Rattle.bounds.proofs.years.advance.Reads as advance-reads
+use Rattle.bounds.proofs.years.note.Reads as note-reads
 use Rattle.bounds.proofs.years.+years.{statement}
 use Rattle.bounds.proofs.years.+years.Tie.{close}
 
-abbrev μ-years : Measures 5 years-kinds.ps ℕ
+abbrev μ-years : Measures 6 years-kinds.ps ℕ
 μ-years κs a = a .1 .1 .1 .1 .1 .1 .0
 
-abbrev years-at : ℕ → In 5 years-kinds.ps
-years-at t = and 5 years-kinds.ps (is 5 years-kinds.ps μ-years t) years.Pre
+abbrev years-at : ℕ → In 6 years-kinds.ps
+years-at t = and 6 years-kinds.ps (is 6 years-kinds.ps μ-years t) years.Pre
 
-abbrev years-below : ℕ → In 5 years-kinds.ps
-years-below t = and 5 years-kinds.ps (falls 5 years-kinds.ps _<_ μ-years t) years.Pre
+abbrev years-below : ℕ → In 6 years-kinds.ps
+years-below t = and 6 years-kinds.ps (falls 6 years-kinds.ps _<_ μ-years t) years.Pre
 
-years-returns : (t : ℕ) → years-lts.Need-returns (
-  years-below t,
-  years.Post,
-  advance-reads.Asked,
-  advance-reads.Learnt,
-) (years-at t) years.Post
-years-returns t c = (run-none (c .before .if1 .taken), c .before .before .before .before .pre .1 .placed)
+-- what each call asks and tells
+abbrev claims : ℕ → years-lts.Claims
+claims t = (years-below t, years.Post, advance-reads.Asked, advance-reads.Learnt, note-reads.Asked, note-reads.Learnt)
 
-years-sub-years : (t : ℕ) → years-lts.Need-sub-years (
-  years-below t,
-  years.Post,
-  advance-reads.Asked,
-  advance-reads.Learnt,
-) (years-at t) years.Post
+years-sub-years : (t : ℕ) → years-lts.Need-sub-years (claims t) (years-at t) years.Post
 years-sub-years t c = omega arith
 
-years-years-requires : (t : ℕ) → years-lts.Need-years-requires (
-  years-below t,
-  years.Post,
-  advance-reads.Asked,
-  advance-reads.Learnt,
-) (years-at t) years.Post
-years-years-requires t c κs = (omega arith, run-less (c .before .before .before .before .pre .1) _ (omega arith))
+years-years-requires : (t : ℕ) → years-lts.Need-years-requires (claims t) (years-at t) years.Post
+years-years-requires t c κs =
+    let then = c .before .before .before in
+    let enter = then .before .before .before .before in
+    (omega arith, run-less (enter .pre .1) _ (omega arith))
 
-years-advance-requires : (t : ℕ) → years-lts.Need-advance-requires (
-  years-below t,
-  years.Post,
-  advance-reads.Asked,
-  advance-reads.Learnt,
-) (years-at t) years.Post
-years-advance-requires t c κs = run-year (c .before .before .before .before .before .before .before .before .before .pre .1) _ (omega arith) (c .before .before .before .before .years .ensures .0) (c .before .before .before .before .years .ensures .1)
+years-advance-requires : (t : ℕ) → years-lts.Need-advance-requires (claims t) (years-at t) years.Post
+years-advance-requires t c κs =
+    let at-if = c .before .before .before in
+    let at-years = at-if .before .before .before .before in
+    let then = at-years .before .before .before .before in
+    let enter = then .before .before .before .before in
+    run-year (enter .pre .1) _ (omega arith) (at-years .years .ensures)
 
-years-same-length : (t : ℕ) → years-lts.Need-same-length (
-  years-below t,
-  years.Post,
-  advance-reads.Asked,
-  advance-reads.Learnt,
-) (years-at t) years.Post
-years-same-length t c = c .before .before .advance .ensures .1 .size ∙ sym (c .before .before .before .before .before .before .before .before .before .before .before .before .pre .1 .placed .size)
+years-advance-requires-2 : (t : ℕ) → years-lts.Need-advance-requires-2 (claims t) (years-at t) years.Post
+years-advance-requires-2 t c κs =
+    let at-if = c .before .before .before in
+    let at-years = at-if .before .before .before .before in
+    let then = at-years .before .before .before .before in
+    let enter = then .before .before .before .before in
+    run-year (enter .pre .1) _ (omega arith) (at-years .years .ensures)
 
-years-returns-2 : (t : ℕ) → years-lts.Need-returns-2 (
-  years-below t,
-  years.Post,
-  advance-reads.Asked,
-  advance-reads.Learnt,
-) (years-at t) years.Post
-years-returns-2 t c = (run-more (c .before .before .before .before .before .before .before .before .before .before .before .before .pre .1) _ (omega arith) (c .before .before .before .before .before .before .before .years .ensures .0) (omega arith) (c .before .before .advance .ensures .0), c .before .before .advance .ensures .1)
+-- where the ways meet the figures are those of t years: by the high step, by the low step, or the payoff
+-- (a way by a step: 4 the call of `years`, 9 the test of the flag, 12 the step, 15 to 17 what order, figures and slice then are)
+met : (t : ℕ) → (c : years-lts.Joined1 (claims t) (years-at t) years.Post)
+    → let a = c .before .before .before .before .args in
+    Ran (a .entries .now) (a .gain .now) (a .figures .now) (a .falling) (a .t) (a .state) (a .stride) (a .t) (c .if1 .order) (c .if1 .figures) (a .out .now) (c .if1 .out)
+met t c =
+    let pre = c .before .before .before .before .pre .1 in
+    ⊎-elim
+    (λ w. rw (w .15, w .16, w .17) (run-more pre _ (omega arith) (w .4 .ensures) (omega arith) (w .9 .taken) (w .12 .ensures .0) (w .12 .ensures .1)))
+    (⊎-elim
+    (λ w. rw (w .15, w .16, w .17) (run-more pre _ (omega arith) (w .4 .ensures) (omega arith) (w .9 .left) (w .12 .ensures .0) (w .12 .ensures .1)))
+    (λ w. rw (w .1, w .2, w .3) (run-none pre (w .0 .left))))
+    (c .if1 .came)
+
+years-mul-note : (t : ℕ) → years-lts.Need-mul-note (claims t) (years-at t) years.Post
+years-mul-note t c =
+    let enter = c .before .before .before .before in
+    omega (arith, enter .pre .1 .within, enter .pre .1 .held .few)
+
+years-element-copy-out-note : (t : ℕ) → years-lts.Need-element-copy-out-note (claims t) (years-at t) years.Post
+years-element-copy-out-note t c =
+    let enter = c .before .before .before .before in
+    omega (arith, enter .pre .1 .within, enter .pre .1 .held .few)
+
+years-mul-note-2 : (t : ℕ) → years-lts.Need-mul-note-2 (claims t) (years-at t) years.Post
+years-mul-note-2 t c =
+    let join = c .before in
+    let enter = join .before .before .before .before in
+    enter .pre .1 .counted
+
+years-note-requires : (t : ℕ) → years-lts.Need-note-requires (claims t) (years-at t) years.Post
+years-note-requires t c κs = tt
+
+years-returns : (t : ℕ) → years-lts.Need-returns (claims t) (years-at t) years.Post
+years-returns t c =
+    let at-note = c .before .before in
+    let join = at-note .before .before .before in
+    let enter = join .before .before .before .before in
+    rw (at-note .note .ensures) (run-noted (enter .pre .1) (met t join))
+
+years-same-length : (t : ℕ) → years-lts.Need-same-length (claims t) (years-at t) years.Post
+years-same-length t c =
+    let at-note = c .before .before in
+    let join = at-note .before .before .before in
+    let enter = join .before .before .before .before in
+    years-returns t c .placed .size ∙ sym (enter .pre .1 .placed .size)
+
+years-same-length-2 : (t : ℕ) → years-lts.Need-same-length-2 (claims t) (years-at t) years.Post
+years-same-length-2 t c = years-returns t c .noted .size
 
 pub +years-spec : {M : Type 1} → statement M
-+years-spec = close μ-years λ t. years-lts.spec (
-  years-below t,
-  years.Post,
-  advance-reads.Asked,
-  advance-reads.Learnt,
-)
++years-spec = close μ-years λ t. years-lts.spec (claims t)
     (years-at t)
     years.Post
-    (years-returns t)
     (years-sub-years t)
     (years-years-requires t)
     (years-advance-requires t)
+    (years-advance-requires-2 t)
+    (years-mul-note t)
+    (years-element-copy-out-note t)
+    (years-mul-note-2 t)
+    (years-note-requires t)
     (years-same-length t)
-    (years-returns-2 t)
+    (years-same-length-2 t)
+    (years-returns t)

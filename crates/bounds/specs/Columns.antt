@@ -1,5 +1,5 @@
--- Figure vectors carried through the years, and the columns of a sheet's table: what the private functions take and leave.
-use Prim.Native.Nat.{ℕ, _+_, _*_, _≤_, _<_}
+-- The columns of a sheet's table: what the private functions take and leave.
+use Prim.Native.Nat.{ℕ, _≤_, _<_}
 use mathlib.Core.Path.{_≡_}
 use mathlib.Core.Bool.{Bool, true, false}
 use mathlib.Core.List.{List}
@@ -9,25 +9,10 @@ use Rattle.scheme.specs.declared.Scheme.{Scheme}
 use Rattle.scheme.specs.Accepted.{Accepted}
 use Rattle.scheme.specs.Rows.{chainOf}
 use Rattle.step.specs.Lists.{at}
-use Rattle.step.specs.Figure.{LARGEST}
-use Rattle.bounds.specs.Years.{yearsFigure, Runnable}
+use Rattle.bounds.specs.Years.{yearsFigure}
 use Rattle.bounds.specs.Start.{Ready}
 use Rattle.answers.specs.Answers.{startOf}
 use Rattle.answers.specs.Table.{placeOf, tableSize, lowTable, highTable}
-
--- years that can be run, a state of the chain, and a slice that has the last year's place
-pub record Trackable (entries spare gain order payoff : List ℕ) (state first stride years : ℕ) (out : List ℕ) : Type 0 where
-  pub runs : Runnable entries spare gain order payoff years
-  pub within : state < length gain
-  pub apart : 1 ≤ stride
-  pub fits : first + years * stride < length out
-  pub few : length out ≤ LARGEST
-
--- the figures of year 0 to `years` stand in `after`, and nothing else has changed
-pub record Tracked (figure : ℕ → ℕ) (first stride years : ℕ) (before after : List ℕ) : Type 0 where
-  pub size : length after ≡ length before
-  pub done : (u : ℕ) → u < years + 1 → at after (first + u * stride) ≡ figure u
-  pub other : (p : ℕ) → ((u : ℕ) → p ≡ first + u * stride → ⊥) → at after p ≡ at before p
 
 -- what a column of the start class's figures takes: a scheme that is ready, a place in a year's row, and a slice of the table's size
 pub record ColumnReady (s : Scheme) (gain payoff : List ℕ) (first : ℕ) (out : List ℕ) : Type 0 where
