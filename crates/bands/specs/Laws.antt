@@ -20,7 +20,7 @@ use Rattle.layout.specs.Frame.{Framed}
 use Rattle.layout.specs.Read.{frameCause, readCause}
 use Rattle.layout.specs.Reader.{handedOut, endsOf, stored, bandIn, bandAt, BandAnswered, afterAt, openPart, answers, cursorAfter, storedBands}
 use Rattle.layout.specs.Laws.Read.{read-framed}
-use Rattle.record.specs.Laws.Made.{lower-made, upper-made}
+use Rattle.scheme.specs.Laws.Stored.{lower-made, upper-made}
 
 -- both tests pass
 pub both-left : (a b : Bool) → (a && b) ≡ true → a ≡ true

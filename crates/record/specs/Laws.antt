@@ -1,4 +1,3 @@
 -- The lemmas behind the theorems, by subject.
 pub mod Lists
 pub mod Stored
-pub mod Made

@@ -5,3 +5,5 @@ pub mod Judged
 pub mod Sound
 pub mod Tab
 pub mod Filled
+pub mod Stored
+pub mod Values

@@ -1,4 +1,4 @@
--- Read in this order: tables, the scheme's parts, what acceptance asks, the first cause, the code's stages, interval rows, what the cells of one class come to, what a made scheme holds, worked cases.
+-- Read in this order: tables, the scheme's parts, what acceptance asks, the first cause, the code's stages, interval rows, what the cells of one class come to, what a made scheme holds, when two schemes have the same values, worked cases.
 pub mod Tables
 pub mod Access
 pub mod Accepted
@@ -7,6 +7,8 @@ pub mod Stages
 pub mod Rows
 pub mod Gathered
 pub mod Stored
+pub mod Values
 pub mod Examples
 pub mod GatheredExamples
+pub mod BeyondExamples
 pub mod Laws

@@ -12,7 +12,10 @@ use Rattle.scheme.specs.Tables.{tab}
 use Rattle.scheme.specs.Access.{ruleAt, lowerAt, upperAt, premiumAt}
 use Rattle.scheme.specs.Cause.{causeOf}
 use Rattle.scheme.specs.Accepted.{Accepted}
-use Rattle.scheme.specs.Laws.Judged.{accepted-cause, cause-accepted}
+use Rattle.scheme.specs.Laws.Judged.{accepted-cause}
+use Rattle.scheme.specs.Values.{SameValues}
+use Rattle.scheme.specs.Laws.Stored.{made-eq}
+use Rattle.scheme.specs.Laws.Values.{cause-same, cleared-values}
 use Rattle.big_endian.specs.Numbers.{beAt, beBytes}
 use Rattle.scheme.specs.Stored.{schemeOf, cleared}
 use Rattle.layout.specs.Layout.{version1, lengthOf, rowPlace, bandPlace, premiumPlace, classesIn, columnsIn, schemeIn}
@@ -26,7 +29,6 @@ use Rattle.layout.specs.Laws.Frame.{framed}
 use Rattle.layout.specs.Laws.Read.{read-framed, scheme-next, answer-scheme}
 use Rattle.writing.specs.Laws.Bytes.{length-header, length-bytes}
 use Rattle.writing.specs.Laws.Write.{written}
-use Rattle.writing.specs.Laws.Cleared.{made-eq, cleared-accepted}
 use Rattle.writing.specs.Laws.Body.{body-put, rule-read, lower-read, upper-read, premium-read}
 
 -- each entry of the list is a byte
@@ -107,7 +109,7 @@ module _ (s : Scheme) (accepted : causeOf s ≡ 0) where
       made-eq (s .classes) (s .columns) (s .start) (s .horizon) _ _ _ _ (ruleAt s) (lowerAt s 0) (upperAt s 0) (premiumAt s) rule-at lower-at upper-at premium-at
 
   pub reread-cause : readCause (bytesOf version1 s) ≡ 0
-  reread-cause = sym (scheme-next (bytesOf version1 s) (framed (bytesOf version1 s) record-framed) (sym (ap causeOf reread ∙ cause-accepted (cleared s) (cleared-accepted s ok))))
+  reread-cause = sym (scheme-next (bytesOf version1 s) (framed (bytesOf version1 s) record-framed) (sym (ap causeOf reread ∙ sym (cause-same (cleared-values s (ok .size))) ∙ accepted)))
 
   pub reread-answer : readAnswer (bytesOf version1 s) ≡ record { number = 0; scheme = cleared s }
   reread-answer = sym (ap (λ x. record { number = 0; scheme = x }) (sym reread) ∙ answer-scheme (bytesOf version1 s) (sym reread-cause) refl)
@@ -116,6 +118,13 @@ module _ (s : Scheme) (accepted : causeOf s ≡ 0) where
   pub written-record : (out : List ℕ) → recordLength s ≤ length out → take (recordLength s) (writeLeaves s out) ≡ bytesOf version1 s
   written-record out fits =
       rw (← (written s out accepted refl fits refl .1)) (take-at (bytesOf version1 s) (drop (recordLength s) out) (recordLength s) (length-bytes version1 s refl))
+
+  -- "written and read, a scheme keeps each value it uses": start, horizon, and every rule, band and premium up to s and m
+  pub kept-values : (out : List ℕ) → recordLength s ≤ length out
+      → (readAnswer (take (recordLength s) (writeLeaves s out)) .number ≡ 0) × SameValues s (readAnswer (take (recordLength s) (writeLeaves s out)) .scheme)
+  kept-values out fits =
+      let e : readAnswer (take (recordLength s) (writeLeaves s out)) ≡ record { number = 0; scheme = cleared s } = ap readAnswer (written-record out fits) ∙ reread-answer in
+      rw e (refl, cleared-values s (ok .size))
 
 -- writing the scheme that was read gives the bytes again
 pub copied : (bytes out : List ℕ) → Bytes bytes → readCause bytes ≡ 0 → length bytes ≤ length out

@@ -3,5 +3,4 @@ pub mod Lists
 pub mod Numbers
 pub mod Bytes
 pub mod Write
-pub mod Cleared
 pub mod Body

@@ -2,36 +2,16 @@
 use Prim.Native.Nat.{ℕ, _+_, _*_, _-_, _/_, _%_, _≤_, _<_}
 use mathlib.Core.Path.{_≡_, ap, sym, _∙_}
 use mathlib.Core.List.{List}
-use mathlib.Core.Logic.{_⊎_, inl, inr, ⊎-elim}
-use native.Mathlib.Decide.{decLt, ℕ-discrete}
+use mathlib.Core.Logic.{⊎-elim}
+use native.Mathlib.Decide.{ℕ-discrete}
 use native.Mathlib.Omega.{arith}
 use lib.ListN.{length, getD, set, replicate, length-set, length-replicate, getD-replicate}
 use lib.Seq.{sets, length-sets, getD-set-same, getD-set-other}
-use borrow.Author.Tests.{lt-ltb, le-ltb}
 use Rattle.scheme.specs.Tables.{tab}
 use Rattle.scheme.specs.Stored.{upTo, rulesUpTo}
 use Rattle.scheme.specs.Laws.Tab.{length-tab, getD-tab, as-tab}
+use Rattle.scheme.specs.Laws.Stored.{split, upTo-below, upTo-past}
 use Rattle.record.specs.Laws.Lists.{sets-below, sets-within, sets-past}
-
--- one of two orders holds
-pub split : (a b : ℕ) → (a < b) ⊎ (b ≤ a)
-split a b = by (decLt a b)
-  where
-    by : Dec (a < b) → (a < b) ⊎ (b ≤ a)
-    by (yes h) = inl h
-    by (no h) = inr (omega arith)
-
-pub upTo-below : (n : ℕ) (f : ℕ → ℕ) (k : ℕ) → k < n → upTo n f k ≡ f k
-unfolding upTo
-upTo-below n f k h = rw (lt-ltb k n h)
-
-pub upTo-past : (n : ℕ) (f : ℕ → ℕ) (k : ℕ) → n ≤ k → upTo n f k ≡ 0
-unfolding upTo
-upTo-past n f k h = rw (le-ltb k n h)
-
-pub upTo-eq : (n : ℕ) (f g : ℕ → ℕ) → ((k : ℕ) → k < n → f k ≡ g k) → (k : ℕ) → upTo n f k ≡ upTo n g k
-upTo-eq n f g h k =
-    ⊎-elim (λ lt. upTo-below n f k lt ∙ h k lt ∙ sym (upTo-below n g k lt)) (λ le. upTo-past n f k le ∙ sym (upTo-past n g k le)) (split k n)
 
 -- an array of 0 has none of its entries filled
 pub fill-none : (n : ℕ) (f : ℕ → ℕ) → replicate n 0 ≡ tab n (upTo 0 f)

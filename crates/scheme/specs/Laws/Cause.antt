@@ -52,6 +52,14 @@ declined n x y h = ap (λ b. cond b x y) (ne-eqb n 0 h)
 pub answered {ℓ} : {A : Type ℓ} (n : ℕ) (x y : A) → n ≡ 0 → cond (eqb n 0) x y ≡ x
 answered n x y e = ap (λ b. cond b x y) (eq-eqb n 0 e)
 
+-- answers with the same cause are the same, where what they answer without one is
+pub by-cause {ℓ} : {A : Type ℓ} {n n′ : ℕ} {x x′ y y′ : A} → n ≡ n′ → (n ≡ 0 → x ≡ x′) → y ≡ y′ → cond (eqb n 0) x y ≡ cond (eqb n′ 0) x′ y′
+by-cause {n = n} {n′ = n′} {x = x} {x′ = x′} {y = y} {y′ = y′} e same other = by (ℕ-discrete n 0)
+  where
+    by : Dec (n ≡ 0) → cond (eqb n 0) x y ≡ cond (eqb n′ 0) x′ y′
+    by (yes z) = answered n x y z ∙ same z ∙ sym (answered n′ x′ y′ (sym e ∙ z))
+    by (no h) = declined n x y h ∙ other ∙ sym (declined n′ x′ y′ (λ z. h (e ∙ z)))
+
 -- over the tests' outcomes: a stage's number that is not 0 is the whole's, and 0 leads on to the rest
 form-hit : (a b c : Bool) (rest n : ℕ) → n ≡ cond a 3 (cond b 5 (cond c 6 0)) → (n ≡ 0 → ⊥) → n ≡ cond a 3 (cond b 5 (cond c 6 rest))
 form-hit true b c rest n e h = e

@@ -28,7 +28,7 @@ pub record Tells (test : Bool) (Fact : Type 0) : Type 0 where
   pub passes : Fact → test ≡ false
 
 module _ (s : Scheme) where
-  size-tells : Tells (sizeOut s) (SizeFits s)
+  pub size-tells : Tells (sizeOut s) (SizeFits s)
   unfolding sizeOut
   size-tells =
       record {

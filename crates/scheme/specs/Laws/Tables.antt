@@ -1,6 +1,6 @@
 -- Laws of a test over all indices below a count.
 use Prim.Native.Nat.{ℕ, zero, suc, _+_, _<_}
-use mathlib.Core.Path.{_≡_, refl, ap, sym, _∙_}
+use mathlib.Core.Path.{_≡_, refl, ap, ap₂, sym, _∙_}
 use mathlib.Core.Logic.{⊎-elim}
 use mathlib.Core.Bool.{Bool, true, false, _||_, or-true}
 use native.Mathlib.Numerals.{add-one}
@@ -59,3 +59,12 @@ any-false (suc n) test e k l =
 pub any-same : (n : ℕ) (b : Bool) → 0 < n → anyBelow n (λ k. b) ≡ b
 any-same n true l = any-hit n 0 (λ k. true) l refl
 any-same n false l = any-clear n (λ k. false) (λ k g. refl)
+
+-- tests that agree below the count
+below-same : (n : ℕ) (test test′ : ℕ → Bool) → ((k : ℕ) → k < n → test k ≡ test′ k) → anyBelow n test ≡ anyBelow n test′
+unfolding anyBelow
+below-same zero test test′ h = refl
+below-same (suc n) test test′ h = ap₂ _||_ (below-same n test test′ (λ k l. h k (le-step l))) (h n (le-refl (suc n)))
+
+pub any-eq : {n n′ : ℕ} → n ≡ n′ → (test test′ : ℕ → Bool) → ((k : ℕ) → k < n → test k ≡ test′ k) → anyBelow n test ≡ anyBelow n′ test′
+any-eq {n} e test test′ h = below-same n test test′ h ∙ ap (λ x. anyBelow x test′) e

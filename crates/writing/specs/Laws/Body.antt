@@ -19,7 +19,7 @@ use Rattle.writing.specs.Laws.Lists.{tab-part, joined-parts, getD-joined
 use Rattle.record.specs.Laws.Lists.{joined-eq}
 use Rattle.big_endian.specs.Laws.{put-read, read-put, beAt-eq, length-beBytes}
 use Rattle.writing.specs.Laws.Numbers.{length-band}
-use Rattle.record.specs.Laws.Made.{rule-made, lower-made, upper-made, premium-made}
+use Rattle.scheme.specs.Laws.Stored.{rule-made, lower-made, upper-made, premium-made}
 use Rattle.writing.specs.Laws.Bytes.{length-rules, length-bands}
 
 -- an index below s among s lists of w entries

@@ -11,7 +11,7 @@ use Rattle.big_endian.specs.Numbers.{beAt}
 use Rattle.scheme.specs.Stored.{upTo, rulesUpTo, schemeOf}
 use Rattle.layout.specs.Layout.{version1, classesIn, columnsIn, schemeIn}
 use Rattle.scheme.specs.Laws.Tab.{tab-eq}
-use Rattle.record.specs.Laws.Stored.{upTo-eq}
+use Rattle.scheme.specs.Laws.Stored.{upTo-eq}
 use borrow.Author.Needs.{needs}
 use Rattle.record.proofs.reading.parsed.Statement.{statement}
 use Rattle.record.proofs.reading.parsed.Tie as tie
@@ -25,7 +25,7 @@ places c = let framed = c .before .before .before .before .before .pre in mul-le
 upper-places : (bytes : List ℕ) (p n : ℕ)
     → tab 8 (upTo n (λ k. beAt 4 bytes (p + 4 + k * 8))) ≡ tab 8 (upTo n (λ k. beAt 4 bytes (p + k * 8 + 4)))
 upper-places bytes p n =
-    tab-eq 0 8 _ _ (λ k lt. upTo-eq n _ _ (λ j less. let e : p + 4 + j * 8 ≡ p + j * 8 + 4 = omega arith in ap (beAt 4 bytes) e) k)
+    tab-eq 0 8 _ _ (λ k lt. upTo-eq n _ _ k (λ less. let e : p + 4 + k * 8 ≡ p + k * 8 + 4 = omega arith in ap (beAt 4 bytes) e))
 
 -- the scheme of the parts that were read
 made : (bytes : List ℕ) {rules lowers uppers premiums : List ℕ}

@@ -1,0 +1,155 @@
+-- Schemes with the same values have the same causes and interval rows, and a scheme has the same values as itself with 0 beyond s and m.
+use Prim.Native.Nat.{ℕ, min, _-_, _<_}
+use mathlib.Core.Path.{_≡_, refl, ap, ap₂, sym, _∙_}
+use mathlib.Core.Bool.{Bool, true, false, cond, _||_}
+use lib.Dec.{eqb, ltb}
+use native.Mathlib.Omega.{arith}
+use Rattle.setchain.specs.Sums.{sumTo, onlyIf}
+use Rattle.setchain.specs.Rows.{ONE}
+use Rattle.setchain.specs.Laws.Sums.{sumTo-eq}
+use Rattle.scheme.specs.declared.Scheme.{Scheme}
+use Rattle.scheme.specs.Access.{cellCount, ruleAt, lowerAt, upperAt, premiumAt}
+use Rattle.scheme.specs.Accepted.{SizeFits, Accepted}
+use Rattle.scheme.specs.Cause.{outside, bandTest, sizeOut, startOut, horizonOut, ruleOut, bandOut, sumOut, premiumOut, causeWhere, causeOf}
+use Rattle.scheme.specs.Rows.{chainOf}
+use Rattle.scheme.specs.Stored.{schemeOf, cleared}
+use Rattle.scheme.specs.Values.{SameValues}
+use Rattle.scheme.specs.Laws.Tables.{any-eq}
+use Rattle.scheme.specs.Laws.Cause.{cond-true}
+use Rattle.scheme.specs.Laws.Judged.{size-tells, accepted-cause, cause-accepted}
+use Rattle.scheme.specs.Laws.Stored.{stored-at, rule-stored}
+
+-- sums over as many cells
+cells-eq : {n n′ : ℕ} → n ≡ n′ → (f g : ℕ → ℕ) → ((k : ℕ) → k < n → f k ≡ g k) → sumTo n f ≡ sumTo n′ g
+cells-eq {n} e f g h = sumTo-eq n f g h ∙ ap (λ x. sumTo x g) e
+
+module _ {s s′ : Scheme} (v : SameValues s s′) where
+  pub same-back : SameValues s′ s
+  same-back =
+      record {
+        classes = sym (v .classes);
+        columns = sym (v .columns);
+        start = sym (v .start);
+        horizon = sym (v .horizon);
+        rules = λ i k l g. sym (v .rules i k (omega arith) (omega arith));
+        lowers = λ i k l g. sym (v .lowers i k (omega arith) (omega arith));
+        uppers = λ i k l g. sym (v .uppers i k (omega arith) (omega arith));
+        premiums = λ i l. sym (v .premiums i (omega arith));
+      }
+
+  -- the outcome of each test
+  size-same : sizeOut s ≡ sizeOut s′
+  unfolding sizeOut
+  size-same = ap₂ (λ n m. outside 32 n || outside 8 m) (v .classes) (v .columns)
+
+  start-same : startOut s ≡ startOut s′
+  unfolding startOut
+  start-same = ap₂ outside (v .classes) (v .start)
+
+  horizon-same : horizonOut s ≡ horizonOut s′
+  unfolding horizonOut
+  horizon-same = ap (ltb 100) (v .horizon)
+
+  rules-same : ruleOut s ≡ ruleOut s′
+  unfolding ruleOut
+  rules-same =
+      any-eq (v .classes) _ _ (λ i l. any-eq (v .columns) _ _ (λ k g. ap₂ outside (v .classes) (v .rules i k l g)))
+
+  bands-same : bandOut s ≡ bandOut s′
+  unfolding bandOut
+  bands-same =
+      any-eq (v .classes) _ _ (λ i l. any-eq (v .columns) _ _ (λ k g. ap₂ bandTest (v .lowers i k l g) (v .uppers i k l g)))
+
+  sums-same : sumOut s ≡ sumOut s′
+  unfolding sumOut
+  sums-same =
+      any-eq (v .classes) _ _
+      (λ i l.
+      ap₂ (λ x y. ltb ONE x || ltb y ONE)
+      (cells-eq (v .columns) (lowerAt s i) (lowerAt s′ i) (λ k g. v .lowers i k l g))
+      (cells-eq (v .columns) (upperAt s i) (upperAt s′ i) (λ k g. v .uppers i k l g)))
+
+  pub premiums-same : premiumOut s ≡ premiumOut s′
+  unfolding premiumOut
+  premiums-same = any-eq (v .classes) _ _ (λ i l. ap (ltb 10000000) (v .premiums i l))
+
+  pub where-same : {a a′ : Bool} → a ≡ a′ → causeWhere s a ≡ causeWhere s′ a′
+  unfolding causeWhere
+  where-same e = rw (size-same, start-same, horizon-same, rules-same, bands-same, sums-same, e)
+
+  pub cause-same : causeOf s ≡ causeOf s′
+  cause-same = where-same premiums-same
+
+  pub accepted-same : Accepted s → Accepted s′
+  accepted-same ok = accepted-cause s′ (sym cause-same ∙ cause-accepted s ok)
+
+  -- the interval row of each class, at every class
+  module _ (i : ℕ) (l : i < s .classes) where
+    into-same : (band band′ : ℕ → ℕ) → ((k : ℕ) → k < cellCount s → band k ≡ band′ k) → (j : ℕ)
+        → sumTo (cellCount s) (λ k. onlyIf (eqb (ruleAt s i k - 1) j) (band k)) ≡ sumTo (cellCount s′) (λ k. onlyIf (eqb (ruleAt s′ i k - 1) j) (band′ k))
+    into-same band band′ same j =
+        cells-eq (v .columns) _ _ (λ k g. ap₂ (λ rule end. onlyIf (eqb (rule - 1) j) end) (v .rules i k l g) (same k g))
+
+    pub lower-same : (j : ℕ) → chainOf s .row i .lower j ≡ chainOf s′ .row i .lower j
+    lower-same = into-same (lowerAt s i) (lowerAt s′ i) (λ k g. v .lowers i k l g)
+
+    pub upper-same : (j : ℕ) → chainOf s .row i .upper j ≡ chainOf s′ .row i .upper j
+    upper-same j = ap (min ONE) (into-same (upperAt s i) (upperAt s′ i) (λ k g. v .uppers i k l g) j)
+
+    pub row-same : chainOf s .row i ≡ chainOf s′ .row i
+    row-same = λ t. record { lower = λ j. lower-same j t; upper = λ j. upper-same j t }
+
+-- a scheme whose size fits has the same values with 0 beyond s and m
+pub cleared-values : (s : Scheme) → SizeFits s → SameValues s (cleared s)
+unfolding schemeOf
+cleared-values s h =
+    record {
+      classes = refl;
+      columns = refl;
+      start = refl;
+      horizon = refl;
+      rules = λ i k l g. sym (rule-stored (s .classes) (s .columns) (ruleAt s) i k (omega arith) (omega arith) l g);
+      lowers = λ i k l g. sym (stored-at 8 (s .columns) (lowerAt s 0) k (omega arith) g);
+      uppers = λ i k l g. sym (stored-at 8 (s .columns) (upperAt s 0) k (omega arith) g);
+      premiums = λ i l. sym (stored-at 32 (s .classes) (premiumAt s) i (omega arith) l);
+    }
+
+-- a size out of range is cause 3, whatever else holds
+size-first : (s : Scheme) (moneyOut : Bool) → sizeOut s ≡ true → causeWhere s moneyOut ≡ 3
+unfolding causeWhere
+size-first s moneyOut e = cond-true (sizeOut s) 3 _ e
+
+size-cleared : (s : Scheme) → sizeOut s ≡ true → sizeOut (cleared s) ≡ true
+unfolding sizeOut schemeOf
+size-cleared s e = e
+
+pub cleared-refused : (s : Scheme) → ¬ SizeFits s → (causeOf s ≡ 3) × (causeOf (cleared s) ≡ 3)
+cleared-refused s h = by (sizeOut s) refl
+  where
+    by : (b : Bool) → sizeOut s ≡ b → (causeOf s ≡ 3) × (causeOf (cleared s) ≡ 3)
+    by true e = (size-first s (premiumOut s) e, size-first (cleared s) (premiumOut (cleared s)) (size-cleared s e))
+    by false e = absurd (h (size-tells s .fits e))
+
+-- what no operation tells apart: the same values, or two sizes out of range
+pub data Alike (s s′ : Scheme) : Type 0 where
+  same : SameValues s s′ → Alike s s′
+  sizesOut : sizeOut s ≡ true → sizeOut s′ ≡ true → Alike s s′
+
+module _ {s s′ : Scheme} where
+  pub alike-where : Alike s s′ → {a a′ : Bool} → (SameValues s s′ → a ≡ a′) → causeWhere s a ≡ causeWhere s′ a′
+  alike-where (same v) e = where-same v (e v)
+  alike-where (sizesOut o o′) e = size-first s _ o ∙ sym (size-first s′ _ o′)
+
+  pub alike-values : Alike s s′ → (moneyOut : Bool) → causeWhere s moneyOut ≡ 0 → SameValues s s′
+  alike-values (same v) moneyOut z = v
+  alike-values (sizesOut o o′) moneyOut z = let e = size-first s moneyOut o in absurd (omega arith)
+
+  pub alike-cause : Alike s s′ → causeOf s ≡ causeOf s′
+  alike-cause w = alike-where w premiums-same
+
+pub cleared-alike : (s : Scheme) → Alike s (cleared s)
+cleared-alike s = by (sizeOut s) refl
+  where
+    by : (b : Bool) → sizeOut s ≡ b → Alike s (cleared s)
+    by true e = sizesOut e (size-cleared s e)
+    by false e = same (cleared-values s (size-tells s .fits e))
