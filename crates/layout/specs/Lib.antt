@@ -1,5 +1,5 @@
 -- Read in this order: lists joined, the record's layout, what reading answers, the rule row of a class, the band reader, a scheme's record and what writing it answers, worked cases.
--- Laws has the causes of a record's bytes and the answer of a reading, by cases.
+-- Laws has the causes of a record's bytes and the answer of a reading, by cases; Ignored has what becomes of values beyond s and m.
 pub mod Joined
 pub mod Layout
 pub mod Read
@@ -10,3 +10,4 @@ pub mod Bytes
 pub mod Write
 pub mod Examples
 pub mod Laws
+pub mod Ignored

@@ -63,6 +63,11 @@ pub premiums : Premiums
 unfolding readyScheme premiumEntry tab scale1 scale2 scale3
 premiums = record { first = (refl, refl, refl); last = (refl, refl, refl); beyond = (refl, refl, refl) }
 
+-- "every operation that makes a scheme sets them to 0": rules past column 5 and past class 18
+pub zero-beyond : (base : ℕ) → (ruleAt (readyScheme 1 base) 0 5 ≡ 0) × (ruleAt (readyScheme 1 base) 18 0 ≡ 0)
+unfolding readyScheme ruleEntry tab
+zero-beyond base = (refl, refl)
+
 -- the tenths of each scale, summed over document 01's digits
 pub scale-sums : (sumTo 18 (tenthsOf 1) ≡ 29681) × (sumTo 18 (tenthsOf 2) ≡ 25624) × (sumTo 24 (tenthsOf 3) ≡ 42656)
 unfolding scale1 scale2 scale3 sumTo

@@ -1,8 +1,8 @@
--- Every ready scheme is accepted (document 01, "Units and the scheme" and "Ready schemes").
+-- Every ready scheme is accepted, and has 0 beyond s and m (document 01, "Units and the scheme" and "Ready schemes").
 use Prim.Native.Nat.{ℕ, _+_, _*_, _/_, _%_, _≤_, _<_}
-use mathlib.Core.Path.{_≡_, _∙_}
-use mathlib.Core.Bool.{cond}
-use lib.Dec.{ltb}
+use mathlib.Core.Path.{_≡_, refl, ap, sym, _∙_}
+use mathlib.Core.Bool.{Bool, true, false, cond}
+use lib.Dec.{eqb, ltb}
 use native.Mathlib.Omega.{arith}
 use native.Mathlib.Nat.{le-refl}
 use borrow.Author.Tests.{lt-ltb}
@@ -12,12 +12,14 @@ use Rattle.scheme.specs.Tables.{tab}
 use Rattle.scheme.specs.Access.{ruleAt, lowerAt, upperAt, premiumAt}
 use Rattle.scheme.specs.Accepted.{SizeFits, StartFits, HorizonFits, RulesFit, BandsFit, SumsFit, PremiumsFit, Accepted}
 use Rattle.scheme.specs.Cause.{causeOf}
+use Rattle.scheme.specs.Stored.{upTo, schemeOf, cleared, noScheme}
 use Rattle.scheme.specs.Laws.Judged.{cause-accepted}
 use Rattle.ready_schemes.specs.Scales.{classesOf, factorOf, premiumOf}
 use Rattle.ready_schemes.specs.Moves.{movedClass}
 use Rattle.ready_schemes.specs.Ready.{ruleEntry, premiumEntry, readyScheme}
-use Rattle.ready_schemes.specs.Answer.{Offered, readyAnswer}
+use Rattle.ready_schemes.specs.Answer.{Offered, readyCause, readyAnswer}
 use Rattle.scheme.specs.Laws.Tab.{getD-tab}
+use Rattle.scheme.specs.Laws.Stored.{made-cleared, none-cleared}
 use Rattle.ready_schemes.specs.Laws.{classes-least, classes-most, product-most, rule-in, premium-in, offered}
 
 module _ (number base : ℕ) where
@@ -110,3 +112,18 @@ module _ (number base : ℕ) where
   -- no cause applies to a ready scheme
   pub ready-cause : Offered number base → causeOf (readyScheme number base) ≡ 0
   ready-cause o = cause-accepted (readyScheme number base) (ready-accepted o)
+
+  -- a ready scheme as the scheme of its values
+  ready-made : readyScheme number base
+      ≡ schemeOf (classesOf number) 5 10 40 (λ i k. movedClass (classesOf number) (factorOf number) (i + 1) k) (λ k. 0) (λ k. ONE) (premiumOf number base)
+  unfolding readyScheme ruleEntry premiumEntry schemeOf upTo tab
+  ready-made = refl
+
+  -- "every operation that makes a scheme sets them to 0": also where the call is declined
+  pub ready-cleared : cleared (readyAnswer number base .scheme) ≡ readyAnswer number base .scheme
+  unfolding readyAnswer
+  ready-cleared = by (eqb (readyCause number base) 0)
+    where
+      by : (offered : Bool) → cleared (cond offered (readyScheme number base) noScheme) ≡ cond offered (readyScheme number base) noScheme
+      by true = ap cleared ready-made ∙ made-cleared _ _ _ _ _ _ _ _ ∙ sym ready-made
+      by false = none-cleared
