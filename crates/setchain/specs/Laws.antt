@@ -4,6 +4,7 @@ pub mod Certificate
 pub mod Fractions
 pub mod Fill
 pub mod Order
+pub mod Agreeing
 pub mod Step
 pub mod Cells
 pub mod Value

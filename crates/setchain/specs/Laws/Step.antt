@@ -8,10 +8,11 @@ use Rattle.setchain.specs.Sums.{sumTo, dot}
 use Rattle.setchain.specs.Rows.{ONE, IntervalRow, SoundRow, Row, Inside, ofParts}
 use Rattle.setchain.specs.Step.{room, spare, rising, falling, roomBefore, fillRow, lowRow, highRow, lowStep, highStep, Parts, LowFigure, HighFigure}
 use Rattle.setchain.specs.Certificate.{LowCertificate, HighCertificate}
-use Rattle.setchain.specs.Laws.Sums.{sumTo-eq, sumTo-le, sumTo-add, sumTo-scale}
+use Rattle.setchain.specs.Laws.Sums.{sumTo-le, sumTo-add, sumTo-scale}
 use Rattle.setchain.specs.Laws.Certificate.{low-certified, high-certified}
 use Rattle.setchain.specs.Laws.Fill.{Strict, Pivot, ahead, pivot, given, given-before, given-after, given-all, positive-count}
 use Rattle.setchain.specs.Laws.Order.{rising-less, rising-strict, falling-strict}
+use Rattle.setchain.specs.Laws.Agreeing.{agree-refl, low-step-agrees, high-step-agrees}
 
 -- along any strict order the fill gives a row inside, filled before a pivot and bare after it
 record Filled (n : ℕ) (r : IntervalRow) (before : ℕ → ℕ → Bool) : Type 0 where
@@ -184,34 +185,8 @@ module _ (n : ℕ) (r : IntervalRow) (sound : SoundRow n r) where
     high-step-at-most b h = omega (arith, parts-at-most (highRow n r f) b high-parts h)
 
   -- payoffs of states from n on are ignored
-  module _ (f g : ℕ → ℕ) (agree : (j : ℕ) → j < n → f j ≡ g j) where
-    same-dot : (p : ℕ → ℕ) → dot n p f ≡ dot n p g
-    same-dot p = sumTo-eq n (λ j. p j * f j) (λ j. p j * g j) (λ j l. ap (λ v. p j * v) (agree j l))
+  pub low-step-same : (f g : ℕ → ℕ) → ((j : ℕ) → j < n → f j ≡ g j) → lowStep n r f ≡ lowStep n r g
+  low-step-same f g agree = low-step-agrees (agree-refl n r) agree
 
-    pub low-step-same : lowStep n r f ≡ lowStep n r g
-    low-step-same =
-        low-reached f (lowRow n r f) (low-parts f) (low-certificate f)
-        ∙ ap (λ v. v / ONE) (same-dot (lowRow n r f))
-        ∙ sym (low-reached g (lowRow n r f) (low-parts f) moved)
-      where
-        moved : LowCertificate n r g (lowRow n r f)
-        moved =
-            record {
-              threshold = low-certificate f .threshold;
-              filled = λ j l h. low-certificate f .filled j l (omega (arith, agree j l));
-              bare = λ j l h. low-certificate f .bare j l (omega (arith, agree j l));
-            }
-
-    pub high-step-same : highStep n r f ≡ highStep n r g
-    high-step-same =
-        high-reached f (highRow n r f) (high-parts f) (high-certificate f)
-        ∙ ap (λ v. (v + (ONE - 1)) / ONE) (same-dot (highRow n r f))
-        ∙ sym (high-reached g (highRow n r f) (high-parts f) moved)
-      where
-        moved : HighCertificate n r g (highRow n r f)
-        moved =
-            record {
-              threshold = high-certificate f .threshold;
-              filled = λ j l h. high-certificate f .filled j l (omega (arith, agree j l));
-              bare = λ j l h. high-certificate f .bare j l (omega (arith, agree j l));
-            }
+  pub high-step-same : (f g : ℕ → ℕ) → ((j : ℕ) → j < n → f j ≡ g j) → highStep n r f ≡ highStep n r g
+  high-step-same f g agree = high-step-agrees (agree-refl n r) agree
