@@ -1,4 +1,5 @@
--- The theorems that the contracts cite, and that the promises pin the figures.
+-- The theorems that the contracts cite, what stands in a table, that the promises pin the figures, and what two schemes with the same values share.
 pub mod Kept
 pub mod Table
 pub mod Pinned
+pub mod Alike

@@ -1,4 +1,5 @@
--- Read in this order: the causes for which a query is declined, what the calls for bounds answer, tables of all figures, what the answers promise, then worked cases, document 01's examples, and what the promises forbid.
+-- Read in this order: the causes for which a query is declined, what the calls for bounds answer, tables of all figures, what the answers promise,
+-- worked cases, document 01's examples, what the promises forbid, then that values beyond s and m are ignored.
 pub mod Causes
 pub mod Answers
 pub mod Table
@@ -7,3 +8,4 @@ pub mod CauseExamples
 pub mod Examples
 pub mod PromiseExamples
 pub mod Laws
+pub mod Ignored

@@ -1,3 +1,4 @@
 -- The lemmas behind the theorems, by subject.
 pub mod Frame
 pub mod Read
+pub mod Joined

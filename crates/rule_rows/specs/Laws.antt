@@ -8,16 +8,12 @@ use native.Mathlib.Nat.{mul-le-mul-right}
 use lib.ListN.{length, take, drop}
 use borrow.Author.Tests.{eq-eqb, ne-eqb}
 use Rattle.scheme.specs.Cause.{outside}
-use Rattle.scheme.specs.Laws.Cause.{outside-false, first-cause, second-cause, first-none, second-none, test-none}
+use Rattle.scheme.specs.Laws.Cause.{class-fits, first-cause, second-cause, first-none, second-none}
 use Rattle.layout.specs.Layout.{classesIn, columnsIn}
 use Rattle.layout.specs.Frame.{Framed}
 use Rattle.layout.specs.Read.{readCause}
 use Rattle.layout.specs.Laws.Read.{read-framed}
 use Rattle.layout.specs.RuleRow.{rowCause, ruleRow}
-
--- no cause in the number of a class
-pub class-fits : (s class : ℕ) → _≡_ {A = ℕ} (cond (outside s class) 11 0) 0 → (1 ≤ class) × (class ≤ s)
-class-fits s class e = outside-false s class (test-none (outside s class) 11 (omega arith) e)
 
 module _ (bytes : List ℕ) (class : ℕ) where
   pub row-read : {n : ℕ} → n ≡ readCause bytes → (n ≡ 0 → ⊥) → n ≡ rowCause bytes class

@@ -4,9 +4,11 @@ use mathlib.Core.Path.{_≡_, refl}
 use mathlib.Core.List.{[], _∷_, _++_}
 use lib.ListN.{replicate}
 use native.Mathlib.Omega.{arith}
+use Rattle.setchain.specs.Sums.{sumTo}
 use Rattle.scheme.specs.declared.Scheme.{Scheme}
-use Rattle.scheme.specs.Tables.{tab}
+use Rattle.scheme.specs.Tables.{anyBelow, tab}
 use Rattle.scheme.specs.Access.{ruleAt, lowerAt, upperAt, premiumAt}
+use Rattle.scheme.specs.Cause.{sizeOut, startOut, horizonOut, ruleOut, bandOut, sumOut, premiumOut, causeWhere, causeOf}
 use Rattle.scheme.specs.Stored.{upTo, schemeOf, cleared}
 use Rattle.scheme.specs.Values.{SameValues}
 use Rattle.scheme.specs.Examples.{padded, schemeA}
@@ -51,7 +53,7 @@ changed-a =
       premium = λ v. omega (arith, v .premiums 1 (omega arith));
     }
 
--- Example A with 9 at every place beyond its two classes and three columns
+-- Example A with values that would be refused at every place beyond its two classes and three columns
 abbrev pub strayA : Scheme
 strayA =
     record {
@@ -60,10 +62,15 @@ strayA =
       start = 2;
       horizon = 2;
       rules = (1 ∷ 1 ∷ 2 ∷ 9 ∷ 9 ∷ 9 ∷ 9 ∷ 9 ∷ 1 ∷ 2 ∷ 2 ∷ []) ++ replicate 245 9;
-      lowers = (800000000 ∷ 100000000 ∷ 0 ∷ []) ++ replicate 5 9;
-      uppers = (900000000 ∷ 200000000 ∷ 50000000 ∷ []) ++ replicate 5 9;
-      premiums = (10000 ∷ 15000 ∷ []) ++ replicate 30 9;
+      lowers = (800000000 ∷ 100000000 ∷ 0 ∷ []) ++ replicate 5 4000000000;
+      uppers = (900000000 ∷ 200000000 ∷ 50000000 ∷ []) ++ replicate 5 3000000000;
+      premiums = (10000 ∷ 15000 ∷ []) ++ replicate 30 10000001;
     }
+
+-- they are ignored
+pub accepted-a : causeOf strayA ≡ 0
+unfolding causeWhere sizeOut startOut horizonOut ruleOut bandOut sumOut premiumOut anyBelow sumTo
+accepted-a = refl
 
 -- with 0 for them it is Example A
 pub cleared-a : cleared strayA ≡ schemeA

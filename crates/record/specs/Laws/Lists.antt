@@ -1,12 +1,11 @@
--- Laws of lists: parts of a list, values laid over a list, and lists laid one after another.
+-- Laws of lists: parts of a list, and values laid over a list.
 use Prim.Native.Nat.{ℕ, zero, suc, _+_, _≤_, _<_}
 use mathlib.Core.Path.{_≡_, refl, ap, _∙_}
 use mathlib.Core.List.{List, [], _∷_, _++_}
 use native.Mathlib.Omega.{arith}
-use native.Mathlib.Nat.{le-refl, add-zero, zero-add}
+use native.Mathlib.Nat.{add-zero, zero-add}
 use lib.ListN.{length, getD, take, drop, set, length-set, length-drop}
 use lib.Seq.{sets, sets-eq, getD-drop, getD-take, length-take-le, getD-set-other, getD-set-same}
-use Rattle.layout.specs.Joined.{joined}
 pub use Rattle.big_endian.specs.Laws.{sets-append, sets-more}
 
 -- a part of a list: its length and its entries
@@ -35,9 +34,3 @@ sets-within l i (x ∷ a) zero fits h =
 sets-within l i (x ∷ a) (suc k) fits h =
     let e : i + suc k ≡ suc i + k = omega arith in
     rw e (sets-within (set l i x) (suc i) a k (rw (length-set l i x) (omega arith)) (omega arith))
-
--- equal lists one after another
-pub joined-eq : (n : ℕ) (f g : ℕ → List ℕ) → ((i : ℕ) → i < n → f i ≡ g i) → joined n f ≡ joined n g
-unfolding joined
-joined-eq zero f g h = refl
-joined-eq (suc n) f g h = let e : joined n f ≡ joined n g = joined-eq n f g (λ i lt. h i (omega arith)) in rw (e, h n (le-refl (suc n)))

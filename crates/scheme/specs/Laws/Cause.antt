@@ -45,6 +45,10 @@ pub test-none : (b : Bool) (n : ℕ) → 0 < n → cond b n 0 ≡ 0 → b ≡ fa
 test-none true n h e = absurd (omega arith)
 test-none false n h e = refl
 
+-- no cause in the number of a class
+pub class-fits : (s class : ℕ) → _≡_ {A = ℕ} (cond (outside s class) 11 0) 0 → (1 ≤ class) × (class ≤ s)
+class-fits s class e = outside-false s class (test-none (outside s class) 11 (omega arith) e)
+
 -- an answer by its cause
 pub declined {ℓ} : {A : Type ℓ} (n : ℕ) (x y : A) → (n ≡ 0 → ⊥) → cond (eqb n 0) x y ≡ y
 declined n x y h = ap (λ b. cond b x y) (ne-eqb n 0 h)

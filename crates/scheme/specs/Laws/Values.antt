@@ -10,12 +10,12 @@ use Rattle.setchain.specs.Laws.Sums.{sumTo-eq}
 use Rattle.scheme.specs.declared.Scheme.{Scheme}
 use Rattle.scheme.specs.Access.{cellCount, ruleAt, lowerAt, upperAt, premiumAt}
 use Rattle.scheme.specs.Accepted.{SizeFits, Accepted}
-use Rattle.scheme.specs.Cause.{outside, bandTest, sizeOut, startOut, horizonOut, ruleOut, bandOut, sumOut, premiumOut, causeWhere, causeOf}
+use Rattle.scheme.specs.Cause.{outside, bandTest, sizeOut, startOut, horizonOut, ruleOut, bandOut, sumOut, premiumOut, causeWhere, causeOf, orElse, classCause, yearCause}
 use Rattle.scheme.specs.Rows.{chainOf}
 use Rattle.scheme.specs.Stored.{schemeOf, cleared}
 use Rattle.scheme.specs.Values.{SameValues}
 use Rattle.scheme.specs.Laws.Tables.{any-eq}
-use Rattle.scheme.specs.Laws.Cause.{cond-true}
+use Rattle.scheme.specs.Laws.Cause.{cond-true, by-cause}
 use Rattle.scheme.specs.Laws.Judged.{size-tells, accepted-cause, cause-accepted}
 use Rattle.scheme.specs.Laws.Stored.{stored-at, rule-stored}
 
@@ -79,6 +79,12 @@ module _ {s s′ : Scheme} (v : SameValues s s′) where
 
   pub cause-same : causeOf s ≡ causeOf s′
   cause-same = where-same premiums-same
+
+  pub class-same : (class : ℕ) → classCause s class ≡ classCause s′ class
+  class-same class = ap (λ n. cond (outside n class) 11 0) (v .classes)
+
+  pub year-same : (year : ℕ) → yearCause s year ≡ yearCause s′ year
+  year-same year = ap (λ h. cond (ltb h year) 12 0) (v .horizon)
 
   pub accepted-same : Accepted s → Accepted s′
   accepted-same ok = accepted-cause s′ (sym cause-same ∙ cause-accepted s ok)
@@ -146,6 +152,14 @@ module _ {s s′ : Scheme} where
 
   pub alike-cause : Alike s s′ → causeOf s ≡ causeOf s′
   alike-cause w = alike-where w premiums-same
+
+  -- a cause that is tested after the scheme's own
+  pub alike-next : Alike s s′ → {n n′ : ℕ} → (SameValues s s′ → n ≡ n′) → orElse (causeOf s) n ≡ orElse (causeOf s′) n′
+  alike-next w e = by-cause (alike-cause w) (λ z. e (alike-values w (premiumOut s) z)) (alike-cause w)
+
+  pub alike-back : Alike s s′ → Alike s′ s
+  alike-back (same v) = same (same-back v)
+  alike-back (sizesOut o o′) = sizesOut o′ o
 
 pub cleared-alike : (s : Scheme) → Alike s (cleared s)
 cleared-alike s = by (sizeOut s) refl

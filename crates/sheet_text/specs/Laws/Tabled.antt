@@ -9,7 +9,7 @@ use Rattle.scheme.specs.declared.Scheme.{Scheme}
 use Rattle.scheme.specs.Rows.{chainOf}
 use Rattle.scheme.specs.Laws.Tab.{length-tab}
 use Rattle.layout.specs.Joined.{joined}
-use Rattle.record.specs.Laws.Lists.{joined-eq}
+use Rattle.layout.specs.Laws.Joined.{joined-eq}
 use Rattle.setchain.specs.Years.{lowShare, highShare}
 use Rattle.answers.specs.Answers.{startOf}
 use Rattle.answers.specs.Table.{tableSize, lowTable, highTable}

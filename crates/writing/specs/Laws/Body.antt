@@ -16,7 +16,7 @@ use Rattle.scheme.specs.Stored.{schemeOf}
 use Rattle.layout.specs.Layout.{Layout, lengthOf, rowPlace, bandPlace, premiumPlace, schemeFrom}
 use Rattle.layout.specs.Bytes.{bandBytes, rulesOf, bandsOf, premiumsOf}
 use Rattle.writing.specs.Laws.Lists.{tab-part, joined-parts, getD-joined}
-use Rattle.record.specs.Laws.Lists.{joined-eq}
+use Rattle.layout.specs.Laws.Joined.{joined-eq}
 use Rattle.big_endian.specs.Laws.{put-read, read-put, beAt-eq, length-beBytes}
 use Rattle.writing.specs.Laws.Numbers.{length-band}
 use Rattle.scheme.specs.Laws.Stored.{rule-made, lower-made, upper-made, premium-made}

@@ -1,0 +1,42 @@
+-- The row operation looks at no value beyond s and m (document 01, "Units and the scheme").
+use Prim.Native.Nat.{ℕ, _-_, _<_}
+use mathlib.Core.Path.{_≡_, ap, ap₂}
+use lib.Dec.{ltb}
+use native.Mathlib.Omega.{arith}
+use Rattle.setchain.specs.Sums.{onlyIf}
+use Rattle.setchain.specs.Rows.{IntervalRow}
+use Rattle.scheme.specs.declared.Scheme.{Scheme}
+use Rattle.scheme.specs.Tables.{tab}
+use Rattle.scheme.specs.Cause.{premiumOut, causeOf, classCause}
+use Rattle.scheme.specs.Stored.{cleared}
+use Rattle.scheme.specs.Values.{SameValues}
+use Rattle.scheme.specs.Laws.Cause.{first-none, second-none, class-fits, by-cause}
+use Rattle.scheme.specs.Laws.Values.{Alike, same, alike-values, alike-next, cleared-alike, class-same, row-same}
+use Rattle.rows.specs.declared.RowAnswer.{RowAnswer}
+use Rattle.rows.specs.Rows.{rowCause, rowRefused, rowAt, rowAnswer}
+
+row-at-same : {s s′ : Scheme} → SameValues s s′ → (i : ℕ) → i < s .classes → rowAt s i ≡ rowAt s′ i
+unfolding rowAt
+row-at-same v i l =
+    ap₂ {C = RowAnswer}
+    (λ n r. record { number = 0; lower = tab 32 (λ j. onlyIf (ltb j n) (r .lower j)); upper = tab 32 (λ j. onlyIf (ltb j n) (r .upper j)) })
+    (v .classes) (row-same v i l)
+
+alike-row : {s s′ : Scheme} → Alike s s′ → (class : ℕ) → rowAnswer s class ≡ rowAnswer s′ class
+alike-row {s} {s′} w class =
+    by-cause cause
+    (λ z.
+    let fits = class-fits (s .classes) class (second-none (causeOf s) (classCause s class) z) in
+    row-at-same (alike-values w (premiumOut s) (first-none (causeOf s) (classCause s class) z)) (class - 1) (omega arith))
+    (ap rowRefused cause)
+  where
+    cause : rowCause s class ≡ rowCause s′ class
+    cause = alike-next w (λ v. class-same v class)
+
+-- schemes with the same values have the same rows, declined or not
+pub same-row : {s s′ : Scheme} → SameValues s s′ → (class : ℕ) → rowAnswer s class ≡ rowAnswer s′ class
+same-row v = alike-row (same v)
+
+-- "Values stored beyond s or m are ignored": every scheme, accepted or not, has the same rows as with 0 for them
+pub row-ignored : (s : Scheme) (class : ℕ) → rowAnswer s class ≡ rowAnswer (cleared s) class
+row-ignored s = alike-row (cleared-alike s)
