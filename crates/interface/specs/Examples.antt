@@ -1,9 +1,10 @@
 -- Example A's record (document 01, "Sheet program and examples"), other bytes, and lent buffers of several lengths, computed.
 use Prim.Native.Nat.{ℕ}
-use mathlib.Core.Path.{_≡_, refl}
+use mathlib.Core.Path.{_≡_, refl, ap}
 use mathlib.Core.Bool.{true, false}
-use mathlib.Core.List.{List, [], _∷_}
-use lib.ListN.{length, replicate}
+use mathlib.Core.List.{List, [], _∷_, _++_}
+use lib.ListN.{length, getD, replicate}
+use native.Mathlib.Omega.{arith}
 use Rattle.setchain.specs.Sums.{sumTo, onlyIf}
 use Rattle.setchain.specs.Step.{lowStep, highStep, fillRow, roomBefore}
 use Rattle.scheme.specs.declared.Scheme.{Scheme}
@@ -12,14 +13,16 @@ use Rattle.scheme.specs.Cause.{sizeOut, startOut, horizonOut, ruleOut, bandOut,
 use Rattle.scheme.specs.Stored.{upTo, schemeOf}
 use Rattle.scheme.specs.Examples.{padded}
 use Rattle.scheme.specs.Laws.Cause.{answered, second-cause}
-use Rattle.big_endian.specs.Numbers.{beAt}
+use Rattle.big_endian.specs.Numbers.{beAt, beBytes}
+use Rattle.layout.specs.Joined.{joined}
 use Rattle.layout.specs.Layout.{version1, schemeIn}
 use Rattle.layout.specs.Read.{frameCause, readCause}
 use Rattle.layout.specs.Examples.{exampleA, read-a}
 use Rattle.rows.specs.declared.RowAnswer.{RowAnswer}
 use Rattle.rows.specs.Rows.{rowAt}
 use Rattle.rows.specs.Examples.{answerOf}
-use Rattle.layout.specs.Write.{writeAnswer}
+use Rattle.layout.specs.Bytes.{headerBytes, bytesOf}
+use Rattle.layout.specs.Write.{writeAnswer, writeLeaves}
 use Rattle.ready_schemes.specs.Answer.{readyAnswer}
 use Rattle.states.specs.States.{at}
 use Rattle.one_year.specs.StepAnswer.{payoffOut}
@@ -33,7 +36,7 @@ use Rattle.interface.specs.Figures.{putNumber, putLeaves, boundsNumber, 
 use Rattle.interface.specs.Shares.{sharesNumber}
 use Rattle.interface.specs.Texts.{sheetNumber, sheetLength}
 use Rattle.interface.specs.Rows.{putRowNumber, rowIn, rowNumber, partNumber, ruleRowNumber, bandsNumber, lowerBands, upperBands}
-use Rattle.interface.specs.Records.{checkNumber, recordLength, rewriteNumber, readyNumber}
+use Rattle.interface.specs.Records.{checkNumber, recordLength, rewriteNumber, SameBytes, readyNumber}
 use Rattle.interface.specs.Steps.{payoffOf, stepBuffers, stepNumber, figureOf}
 
 -- buffers of one, two, three, 32 and 33 numbers
@@ -135,6 +138,18 @@ pub rewriting-a :
     × (recordLength inA (replicate 45 0) ≡ 45 ∷ [])
 unfolding writeAnswer frameCause beAt schemeOf upTo tab causeWhere sizeOut startOut horizonOut ruleOut bandOut sumOut premiumOut anyBelow sumTo
 rewriting-a = (refl, after-a _, after-a _, refl)
+
+-- Example A's record written again into 47 bytes: the two past it stay, and they may not change
+pub same-bytes-a :
+    SameBytes 0 exampleA (replicate 47 9) (writeLeaves inA (replicate 47 9)) (recordLength inA (replicate 47 9))
+    × ¬ SameBytes 0 exampleA (replicate 47 9) (exampleA ++ (9 ∷ 8 ∷ [])) (45 ∷ [])
+    × ¬ SameBytes 0 exampleA (replicate 47 9) (exampleA ++ (9 ∷ 9 ∷ [])) (47 ∷ [])
+unfolding writeAnswer writeLeaves bytesOf headerBytes joined beBytes frameCause beAt schemeOf upTo tab causeWhere sizeOut startOut horizonOut ruleOut bandOut sumOut premiumOut anyBelow sumTo
+same-bytes-a = (
+  record { copied = λ z. refl; counted = λ z. refl },
+  λ w. let e : _≡_ {A = ℕ} 8 9 = ap (λ l. getD l 46 0) (w .copied refl) in omega arith,
+  λ w. let e : _≡_ {A = ℕ} 47 45 = ap (λ l. getD l 0 0) (w .counted refl) in omega arith,
+)
 
 -- there is no ready scheme 4, and a base above 2,500,000 is declined; both before the buffers
 pub ready-schemes : (readyNumber 4 2500001 [] two ≡ 14) × (readyNumber 3 2500001 [] two ≡ 15)

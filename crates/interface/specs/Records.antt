@@ -1,6 +1,8 @@
 -- A record checked, a scheme as a record, a record written again, and a ready scheme as a record.
 use Prim.Native.Nat.{ℕ}
-use mathlib.Core.List.{List, [], _∷_}
+use mathlib.Core.Path.{_≡_}
+use mathlib.Core.List.{List, [], _∷_, _++_}
+use lib.ListN.{length, drop}
 use Rattle.scheme.specs.declared.Scheme.{Scheme}
 use Rattle.scheme.specs.Cause.{orElse}
 use Rattle.layout.specs.Layout.{version1, schemeIn}
@@ -24,6 +26,11 @@ recordLength s out = writtenLength (writeAnswer s out) ∷ []
 -- the number for a record written again: the cause of reading comes first
 abbrev pub rewriteNumber : List ℕ → (out length : List ℕ) → ℕ
 rewriteNumber bytes out length = orElse (readCause bytes) (recordNumber (schemeIn version1 bytes) out length)
+
+-- "A record read and rewritten has the same bytes": with the number 0, `out` begins with them and is as it was past them, and the length is theirs
+pub record SameBytes (number : ℕ) (bytes out out′ size′ : List ℕ) : Type 0 where
+  pub copied : number ≡ 0 → out′ ≡ bytes ++ drop (length bytes) out
+  pub counted : number ≡ 0 → size′ ≡ length bytes ∷ []
 
 -- the number for a ready scheme as a record: its own cause, 14 or 15, comes first
 abbrev pub readyNumber : (number base : ℕ) (out length : List ℕ) → ℕ

@@ -4,7 +4,7 @@ ghost use Rattle.layout.specs.Write.{writeLeaves};
 ghost use Rattle.layout.specs.Layout.{schemeIn, version1};
 ghost use Rattle.ready_schemes.specs.Answer.{readyAnswer};
 ghost use Rattle.buffers.specs.Buffers.{filledWhere};
-ghost use Rattle.interface.specs.Records.{checkNumber, readyNumber, recordLength, rewriteNumber};
+ghost use Rattle.interface.specs.Records.{SameBytes, checkNumber, readyNumber, recordLength, rewriteNumber};
 
 mod records;
 
@@ -22,6 +22,7 @@ pub extern "C" fn joguyvi_rewrite(bytes: &[u8], out: &mut [u8], length: &mut [u6
     ensures answer { λ r. ⌜ r ≡ rewriteNumber (now (bytes .entry)) (now (out .entry)) (now (length .entry)) ⌝ }
     ensures leaves { λ r. ⌜ now (out .exit) ≡ filledWhere r (writeLeaves (schemeIn version1 (now (bytes .entry))) (now (out .entry))) (now (out .entry)) ⌝ }
     ensures size { λ r. ⌜ now (length .exit) ≡ filledWhere r (recordLength (schemeIn version1 (now (bytes .entry))) (now (out .entry))) (now (length .entry)) ⌝ }
+    ensures same { λ r. ⌜ SameBytes r (now (bytes .entry)) (now (out .entry)) (now (out .exit)) (now (length .exit)) ⌝ }
 {
     let answer = record::read(bytes);
     let number = answer.number;
