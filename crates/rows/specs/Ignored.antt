@@ -4,7 +4,6 @@ use mathlib.Core.Path.{_≡_, ap, ap₂}
 use lib.Dec.{ltb}
 use native.Mathlib.Omega.{arith}
 use Rattle.setchain.specs.Sums.{onlyIf}
-use Rattle.setchain.specs.Rows.{IntervalRow}
 use Rattle.scheme.specs.declared.Scheme.{Scheme}
 use Rattle.scheme.specs.Tables.{tab}
 use Rattle.scheme.specs.Cause.{premiumOut, causeOf, classCause}

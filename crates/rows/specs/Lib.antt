@@ -1,4 +1,5 @@
--- Read in this order: the entries that cells make and the row operation, worked cases, then that values beyond s and m are ignored.
+-- Read in this order: the entries that cells make and the row operation, then worked cases.
+-- Ignored proves that values beyond s and m are ignored.
 pub mod Rows
 pub mod Examples
 pub mod Laws

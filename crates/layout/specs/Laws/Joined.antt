@@ -6,7 +6,7 @@ use native.Mathlib.Omega.{arith}
 use native.Mathlib.Nat.{le-refl}
 use Rattle.scheme.specs.declared.Scheme.{Scheme}
 use Rattle.scheme.specs.Tables.{tab}
-use Rattle.scheme.specs.Access.{ruleAt, lowerAt, upperAt, premiumAt}
+use Rattle.scheme.specs.Access.{ruleAt}
 use Rattle.scheme.specs.Values.{SameValues}
 use Rattle.scheme.specs.Laws.Tab.{tab-eq}
 use Rattle.big_endian.specs.Numbers.{beBytes}

@@ -1,9 +1,9 @@
 -- Interval rows, payoffs and gains that agree on n states have the same figures: nothing is read of the states from n on.
 use Prim.Native.Nat.{ℕ, zero, suc, min, _+_, _-_, _*_, _/_, _<_}
-use mathlib.Core.Path.{_≡_, refl, ap, ap₂, sym, _∙_}
+use mathlib.Core.Path.{_≡_, refl, ap, ap₂, _∙_}
 use mathlib.Core.Bool.{Bool, _&&_, _||_}
 use lib.Dec.{eqb, ltb}
-use Rattle.setchain.specs.Sums.{sumTo, onlyIf, dot}
+use Rattle.setchain.specs.Sums.{onlyIf, dot}
 use Rattle.setchain.specs.Rows.{ONE, IntervalRow, SetChain}
 use Rattle.setchain.specs.Step.{room, spare, rising, falling, roomBefore, fillRow, lowStep, highStep}
 use Rattle.setchain.specs.Years.{lowYears, highYears}
