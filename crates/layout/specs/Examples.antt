@@ -2,6 +2,7 @@
 use Prim.Native.Nat.{ℕ}
 use mathlib.Core.Path.{_≡_, refl}
 use mathlib.Core.List.{List, [], _∷_, _++_}
+use native.Mathlib.Omega.{arith}
 use lib.ListN.{replicate}
 use Rattle.setchain.specs.Sums.{sumTo}
 use Rattle.scheme.specs.Tables.{tab, anyBelow}
@@ -18,7 +19,7 @@ use Rattle.layout.specs.Read.{frameCause, readCause, readAnswer}
 use Rattle.layout.specs.RuleRow.{ruleRow}
 use Rattle.layout.specs.Reader.{bandAt, bandNumber, bandEnds, openPart, answers, handedOut, endsOf}
 use Rattle.layout.specs.Bytes.{headerBytes, bytesOf}
-use Rattle.layout.specs.Write.{writeNumber, writtenLength, writeAnswer, writeLeaves}
+use Rattle.layout.specs.Write.{writeNumber, writtenLength, writeAnswer, writeLeaves, Reread}
 
 -- its record
 abbrev pub exampleA : List ℕ
@@ -113,3 +114,21 @@ writings = record { length = refl; written = refl; short = refl; left = refl; ca
 -- the number and the value of each answer: 45 bytes written, and cause 13
 pub write-answers : (writeNumber (Written 45) ≡ 0) × (writtenLength (Written 45) ≡ 45) × (writeNumber (Declined 13) ≡ 13) × (writtenLength (Declined 13) ≡ 0)
 write-answers = (refl, refl, refl, refl)
+
+-- example A's record read again has the values of its scheme; a refusal has not, nor has a scheme that starts elsewhere
+pub record Rereadings : Type 0 where
+  pub same : Reread schemeA (readAnswer exampleA)
+  pub refused : Reread schemeA (record { number = 6; scheme = schemeA }) → ⊥
+  pub changed : Reread schemeA (record { number = 0; scheme = noScheme }) → ⊥
+
+pub rereadings : Rereadings
+unfolding noScheme
+rereadings =
+    record {
+      same = rw (answers-read .0) (record {
+        number = refl;
+        values = record { classes = refl; columns = refl; start = refl; horizon = refl; rules = λ i k h l. refl; lowers = λ i k h l. refl; uppers = λ i k h l. refl; premiums = λ i h. refl };
+      });
+      refused = λ h. omega (arith, h .number);
+      changed = λ h. omega (arith, h .values .start);
+    }

@@ -1,6 +1,10 @@
 -- Worked texts: numbers, and lines of Example A.
-use mathlib.Core.Path.{_≡_, refl}
-use mathlib.Core.List.{[], _∷_}
+use Prim.Native.Nat.{ℕ}
+use mathlib.Core.Path.{_≡_, refl, ap, _∙_}
+use mathlib.Core.List.{List, [], _∷_, _++_}
+use native.Mathlib.Omega.{arith}
+use lib.ListN.{length}
+use lib.Seq.{take-at}
 use Rattle.setchain.specs.Sums.{sumTo, onlyIf}
 use Rattle.setchain.specs.Step.{lowStep, highStep, fillRow, roomBefore}
 use Rattle.setchain.specs.Years.{lowYears, highYears}
@@ -11,8 +15,10 @@ use Rattle.layout.specs.Joined.{joined}
 use Rattle.big_endian.specs.Numbers.{beAt}
 use Rattle.scheme.specs.Stored.{upTo, schemeOf}
 use Rattle.layout.specs.Read.{frameCause}
+use Rattle.layout.specs.declared.WriteAnswer.the-variants.{Written}
 use Rattle.layout.specs.Examples.{exampleA}
 use Rattle.sheet_lines.specs.Text.{digitsWithin, twoDigits, decimal}
+use Rattle.sheet_lines.specs.Answer.{TextPromise}
 use Rattle.sheet_lines.specs.Sheet.{classLine, premiumLine, yearLines, totalLine, refusedLine, schemeLine, sheetOf, sheetText}
 
 -- 7 and 42 in two digits
@@ -64,3 +70,15 @@ pub sheet-A : sheetText exampleA
     ≡ 83 ∷ 67 ∷ 72 ∷ 69 ∷ 77 ∷ 69 ∷ 32 ∷ 50 ∷ 32 ∷ 51 ∷ 32 ∷ 50 ∷ 32 ∷ 50 ∷ 10 ∷ 89 ∷ 69 ∷ 65 ∷ 82 ∷ 32 ∷ 48 ∷ 32 ∷ 67 ∷ 76 ∷ 65 ∷ 83 ∷ 83 ∷ 32 ∷ 49 ∷ 32 ∷ 48 ∷ 32 ∷ 48 ∷ 10 ∷ 89 ∷ 69 ∷ 65 ∷ 82 ∷ 32 ∷ 48 ∷ 32 ∷ 67 ∷ 76 ∷ 65 ∷ 83 ∷ 83 ∷ 32 ∷ 50 ∷ 32 ∷ 49 ∷ 48 ∷ 48 ∷ 48 ∷ 48 ∷ 48 ∷ 48 ∷ 48 ∷ 48 ∷ 48 ∷ 32 ∷ 49 ∷ 48 ∷ 48 ∷ 48 ∷ 48 ∷ 48 ∷ 48 ∷ 48 ∷ 48 ∷ 48 ∷ 10 ∷ 89 ∷ 69 ∷ 65 ∷ 82 ∷ 32 ∷ 48 ∷ 32 ∷ 80 ∷ 82 ∷ 69 ∷ 77 ∷ 73 ∷ 85 ∷ 77 ∷ 32 ∷ 49 ∷ 53 ∷ 48 ∷ 48 ∷ 48 ∷ 32 ∷ 49 ∷ 53 ∷ 48 ∷ 48 ∷ 48 ∷ 10 ∷ 89 ∷ 69 ∷ 65 ∷ 82 ∷ 32 ∷ 49 ∷ 32 ∷ 67 ∷ 76 ∷ 65 ∷ 83 ∷ 83 ∷ 32 ∷ 49 ∷ 32 ∷ 56 ∷ 48 ∷ 48 ∷ 48 ∷ 48 ∷ 48 ∷ 48 ∷ 48 ∷ 48 ∷ 32 ∷ 57 ∷ 48 ∷ 48 ∷ 48 ∷ 48 ∷ 48 ∷ 48 ∷ 48 ∷ 48 ∷ 10 ∷ 89 ∷ 69 ∷ 65 ∷ 82 ∷ 32 ∷ 49 ∷ 32 ∷ 67 ∷ 76 ∷ 65 ∷ 83 ∷ 83 ∷ 32 ∷ 50 ∷ 32 ∷ 49 ∷ 48 ∷ 48 ∷ 48 ∷ 48 ∷ 48 ∷ 48 ∷ 48 ∷ 48 ∷ 32 ∷ 50 ∷ 48 ∷ 48 ∷ 48 ∷ 48 ∷ 48 ∷ 48 ∷ 48 ∷ 48 ∷ 10 ∷ 89 ∷ 69 ∷ 65 ∷ 82 ∷ 32 ∷ 49 ∷ 32 ∷ 80 ∷ 82 ∷ 69 ∷ 77 ∷ 73 ∷ 85 ∷ 77 ∷ 32 ∷ 49 ∷ 48 ∷ 53 ∷ 48 ∷ 48 ∷ 32 ∷ 49 ∷ 49 ∷ 48 ∷ 48 ∷ 48 ∷ 10 ∷ 89 ∷ 69 ∷ 65 ∷ 82 ∷ 32 ∷ 50 ∷ 32 ∷ 67 ∷ 76 ∷ 65 ∷ 83 ∷ 83 ∷ 32 ∷ 49 ∷ 32 ∷ 57 ∷ 50 ∷ 48 ∷ 48 ∷ 48 ∷ 48 ∷ 48 ∷ 48 ∷ 48 ∷ 32 ∷ 57 ∷ 57 ∷ 48 ∷ 48 ∷ 48 ∷ 48 ∷ 48 ∷ 48 ∷ 48 ∷ 10 ∷ 89 ∷ 69 ∷ 65 ∷ 82 ∷ 32 ∷ 50 ∷ 32 ∷ 67 ∷ 76 ∷ 65 ∷ 83 ∷ 83 ∷ 32 ∷ 50 ∷ 32 ∷ 49 ∷ 48 ∷ 48 ∷ 48 ∷ 48 ∷ 48 ∷ 48 ∷ 48 ∷ 32 ∷ 56 ∷ 48 ∷ 48 ∷ 48 ∷ 48 ∷ 48 ∷ 48 ∷ 48 ∷ 10 ∷ 89 ∷ 69 ∷ 65 ∷ 82 ∷ 32 ∷ 50 ∷ 32 ∷ 80 ∷ 82 ∷ 69 ∷ 77 ∷ 73 ∷ 85 ∷ 77 ∷ 32 ∷ 49 ∷ 48 ∷ 48 ∷ 53 ∷ 48 ∷ 32 ∷ 49 ∷ 48 ∷ 52 ∷ 48 ∷ 48 ∷ 10 ∷ 84 ∷ 79 ∷ 84 ∷ 65 ∷ 76 ∷ 32 ∷ 50 ∷ 53 ∷ 53 ∷ 48 ∷ 48 ∷ 32 ∷ 50 ∷ 54 ∷ 48 ∷ 48 ∷ 48 ∷ 10 ∷ []
 unfolding sheetText frameCause beAt schemeOf upTo tab causeWhere sizeOut startOut horizonOut ruleOut bandOut sumOut premiumOut anyBelow digitsWithin schemeLine classLine premiumLine yearLines totalLine sheetOf joined lowYears highYears lowStep highStep fillRow roomBefore sumTo onlyIf
 sheet-A = refl
+
+-- the sheet in the first bytes of a slice, and a slice that lacks it
+pub record TextPromises : Type 0 where
+  pub kept : (rest : List ℕ) → TextPromise exampleA (sheetText exampleA ++ rest) (Written (length (sheetText exampleA)))
+  pub broken : TextPromise exampleA [] (Written 0) → ⊥
+
+pub text-promises : TextPromises
+text-promises =
+    record {
+      kept = λ rest e. take-at (sheetText exampleA) rest (length (sheetText exampleA)) refl;
+      broken = λ h. omega (arith, ap length (h refl ∙ sheet-A));
+    }

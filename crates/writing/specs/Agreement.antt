@@ -6,7 +6,9 @@ use native.Mathlib.Omega.{arith}
 use native.Mathlib.Nat.{mul-le-mul}
 use lib.ListN.{length, getD, take, drop, take-append-drop}
 use lib.Seq.{take-add, take-at}
-use Rattle.scheme.specs.Laws.Cause.{second-none}
+use lib.Dec.{ltb}
+use borrow.Author.Tests.{ltb-false}
+use Rattle.scheme.specs.Laws.Cause.{first-none, second-none, test-none}
 use Rattle.scheme.specs.declared.Scheme.{Scheme}
 use Rattle.scheme.specs.Tables.{tab}
 use Rattle.scheme.specs.Access.{ruleAt, lowerAt, upperAt, premiumAt}
@@ -16,24 +18,21 @@ use Rattle.scheme.specs.Laws.Judged.{accepted-cause}
 use Rattle.scheme.specs.Values.{SameValues}
 use Rattle.scheme.specs.Laws.Stored.{made-eq}
 use Rattle.scheme.specs.Laws.Values.{cause-same, cleared-values}
-use Rattle.big_endian.specs.Numbers.{beAt, beBytes}
+use Rattle.big_endian.specs.Numbers.{Bytes, beAt, beBytes}
 use Rattle.scheme.specs.Stored.{schemeOf, cleared}
+use Rattle.layout.specs.declared.WriteAnswer.{WriteAnswer}
 use Rattle.layout.specs.Layout.{version1, lengthOf, rowPlace, bandPlace, premiumPlace, classesIn, columnsIn, schemeIn}
 use Rattle.layout.specs.Bytes.{headerBytes, headerOf, rulesOf, bandsOf, premiumsOf, bytesOf}
 use Rattle.layout.specs.Read.{frameCause, readCause, readAnswer}
-use Rattle.layout.specs.Write.{recordLength, writeLeaves}
+use Rattle.layout.specs.Write.{recordLength, writeCause, writeAnswer, writeLeaves, WritePromise}
 use Rattle.layout.specs.Frame.{Framed}
 use Rattle.writing.specs.Laws.Lists.{tab-part}
 use Rattle.big_endian.specs.Laws.{put-read}
 use Rattle.layout.specs.Laws.Frame.{framed}
 use Rattle.layout.specs.Laws.Read.{read-framed, scheme-next, answer-scheme}
 use Rattle.writing.specs.Laws.Bytes.{length-header, length-bytes}
-use Rattle.writing.specs.Laws.Write.{written}
+use Rattle.writing.specs.Laws.Write.{written, answer-number, answer-value}
 use Rattle.writing.specs.Laws.Body.{body-put, rule-read, lower-read, upper-read, premium-read}
-
--- each entry of the list is a byte
-abbrev pub Bytes : List ℕ → Type 0
-Bytes bytes = (k : ℕ) → getD bytes k 0 < 256
 
 -- the seven bytes of the header, put after read
 header-put : (bytes : List ℕ) → Bytes bytes → Framed bytes → headerOf version1 (schemeIn version1 bytes) ≡ take 7 bytes
@@ -125,6 +124,20 @@ module _ (s : Scheme) (accepted : causeOf s ≡ 0) where
   kept-values out fits =
       let e : readAnswer (take (recordLength s) (writeLeaves s out)) ≡ record { number = 0; scheme = cleared s } = ap readAnswer (written-record out fits) ∙ reread-answer in
       rw e (refl, cleared-values s (ok .size))
+
+-- the answer of a writing keeps its promise
+pub write-kept : (s : Scheme) (out : List ℕ) → WritePromise s (writeLeaves s out) (writeAnswer s out)
+write-kept s out e =
+    let none : writeCause s out ≡ 0 = sym (answer-number s out) ∙ e in
+    let accepted : causeOf s ≡ 0 = first-none (causeOf s) _ none in
+    let fits : recordLength s ≤ length out = ltb-false (length out) (recordLength s) (test-none (ltb (length out) (recordLength s)) 13 (omega arith) (second-none (causeOf s) _ none)) in
+    let kept = kept-values s accepted out fits in
+    rw (answer-value s out none) (record { number = kept .0; values = kept .1 })
+
+-- with what is answered and left
+pub keeps : (s : Scheme) (out : List ℕ) {after : List ℕ} {r : WriteAnswer} → (r ≡ writeAnswer s out) × (after ≡ writeLeaves s out)
+    → (r ≡ writeAnswer s out) × ((after ≡ writeLeaves s out) × WritePromise s after r)
+keeps s out (e, f) = (e, (f, rw (e, f) (write-kept s out)))
 
 -- writing the scheme that was read gives the bytes again
 pub copied : (bytes out : List ℕ) → Bytes bytes → readCause bytes ≡ 0 → length bytes ≤ length out

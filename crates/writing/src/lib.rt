@@ -1,6 +1,6 @@
 // A scheme written as a record.
 ghost use mathlib.Core.Path.{_≡_};
-ghost use Rattle.layout.specs.Write.{writeAnswer, writeLeaves};
+ghost use Rattle.layout.specs.Write.{writeAnswer, writeLeaves, WritePromise};
 pub use layout::WriteAnswer;
 use scheme::Scheme;
 
@@ -8,7 +8,9 @@ mod parts;
 
 // Writes the record of a scheme into the slice, and leaves bytes past it unchanged; declined, all of them.
 pub fn write(scheme: Scheme, out: &mut [u8]) -> WriteAnswer
-    ensures { λ r. ⌜ (r ≡ writeAnswer scheme (now (out .entry))) × (now (out .exit) ≡ writeLeaves scheme (now (out .entry))) ⌝ }
+    ensures answer { λ r. ⌜ r ≡ writeAnswer scheme (now (out .entry)) ⌝ }
+    ensures leaves { λ r. ⌜ now (out .exit) ≡ writeLeaves scheme (now (out .entry)) ⌝ }
+    ensures promise { λ r. ⌜ WritePromise scheme (now (out .exit)) r ⌝ }
 {
     let number = acceptance::cause(scheme);
     if number != 0 {

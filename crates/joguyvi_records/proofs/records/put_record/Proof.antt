@@ -31,7 +31,7 @@ returns-2 c =
     let out = start .args .out .now in
     let w = c .before .before .before .before .write .ensures in
     text-declined (writeNumber (writeAnswer s out)) (writtenLength (writeAnswer s out)) (writeLeaves s out) out (start .args .length .now) (write-only s out (start .pre)) (write-left s out)
-    (c .before .write-number .ensures ∙ ap writeNumber (w .0)) (c .if2 .taken) (w .1)
+    (c .before .write-number .ensures ∙ ap writeNumber (w .0)) (c .if2 .taken) (w .1 .0)
 
 written-length-requires : tie.Need-written-length-requires
 written-length-requires c κs = search needs
@@ -52,7 +52,7 @@ returns-3 c =
     let out = start .args .out .now in
     let w = c .before .before .before .before .before .write .ensures in
     text-written (writeNumber (writeAnswer s out)) (writtenLength (writeAnswer s out)) (writeLeaves s out) out (start .args .length .now) (write-only s out (start .pre)) (write-left s out)
-    (c .before .before .write-number .ensures ∙ ap writeNumber (w .0)) (c .before .if2 .left) (c .before .before .before .before .before .before .before .if1 .left) (c .written-length .ensures ∙ ap writtenLength (w .0)) (w .1)
+    (c .before .before .write-number .ensures ∙ ap writeNumber (w .0)) (c .before .if2 .left) (c .before .before .before .before .before .before .before .if1 .left) (c .written-length .ensures ∙ ap writtenLength (w .0)) (w .1 .0)
 
 pub put-record-spec : {M : Type 1} → statement M
 put-record-spec =
