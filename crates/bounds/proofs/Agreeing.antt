@@ -1,14 +1,13 @@
 -- Interval rows, payoffs and gains that agree on the states of a chain give the same figures, which stay within the payoffs' and the gains' bounds.
 -- Assumes nothing.
 use Prim.Native.Nat.{ℕ, zero, suc, _+_, _*_, _≤_, _<_}
-use mathlib.Core.Path.{_≡_, refl, ap, ap₂, sym, _∙_}
+use mathlib.Core.Path.{_≡_, refl, ap, sym, _∙_}
 use mathlib.Core.Bool.{Bool, true, false}
 use native.Mathlib.Omega.{arith}
 use Rattle.setchain.specs.Rows.{SetChain, SoundChain}
 use Rattle.setchain.specs.Years.{lowYears, highYears}
-use Rattle.step.specs.Lists.{Agree}
-use Rattle.one_year.specs.Figure.{stepFigure}
-use Rattle.step.specs.Laws.Agreeing.{step-same-row, step-same-payoff, step-at-most}
+use Rattle.setchain.specs.Laws.Agreeing.{Agree, agree-refl, low-years-agree, high-years-agree}
+use Rattle.step.specs.Laws.Agreeing.{step-agrees, step-at-most}
 use Rattle.bounds.specs.Years.{yearFigure, yearsFigure}
 
 -- no year and one year more
@@ -24,28 +23,17 @@ years-more false c payoff gain t i = refl
 years-more true c payoff gain t i = refl
 
 -- a year's figure from figures that are known
-pub years-next : (falling : Bool) (c : SetChain) → SoundChain c → (payoff gain f : ℕ → ℕ) (t i : ℕ) → i < c .states
-    → ((j : ℕ) → j < c .states → f j ≡ yearsFigure falling c payoff gain t j)
+pub years-next : (falling : Bool) (c : SetChain) (payoff gain f : ℕ → ℕ) (t i : ℕ) → ((j : ℕ) → j < c .states → f j ≡ yearsFigure falling c payoff gain t j)
     → yearFigure falling c gain f i ≡ yearsFigure falling c payoff gain (suc t) i
-years-next falling c sound payoff gain f t i l h =
-    ap (λ x. gain i + x) (step-same-payoff falling (c .states) (c .row i) (sound i l) f (yearsFigure falling c payoff gain t) h)
-    ∙ sym (years-more falling c payoff gain t i)
+years-next falling c payoff gain f t i h =
+    ap (λ x. gain i + x) (step-agrees falling (agree-refl (c .states) (c .row i)) h) ∙ sym (years-more falling c payoff gain t i)
 
 -- chains, payoffs and gains that agree on n states
-module _ (falling : Bool) (c d : SetChain) (states : d .states ≡ c .states) (sound : SoundChain c)
-    (rows : (i : ℕ) → i < c .states → Agree (c .states) (c .row i) (d .row i))
-    (payoff payoff′ gain gain′ : ℕ → ℕ)
-    (payoffs : (i : ℕ) → i < c .states → payoff i ≡ payoff′ i)
-    (gains : (i : ℕ) → i < c .states → gain i ≡ gain′ i) where
-  pub years-same : (t i : ℕ) → i < c .states → yearsFigure falling c payoff gain t i ≡ yearsFigure falling d payoff′ gain′ t i
-  years-same zero i l = years-none falling c payoff gain i ∙ payoffs i l ∙ sym (years-none falling d payoff′ gain′ i)
-  years-same (suc t) i l =
-      years-more falling c payoff gain t i
-      ∙ ap₂ (λ x y. x + y) (gains i l)
-      (step-same-payoff falling (c .states) (c .row i) (sound i l) (yearsFigure falling c payoff gain t) (yearsFigure falling d payoff′ gain′ t) (years-same t)
-      ∙ step-same-row (c .states) (c .row i) (d .row i) (rows i l) falling (sound i l) (yearsFigure falling d payoff′ gain′ t)
-      ∙ ap (λ n. stepFigure falling n (d .row i) (yearsFigure falling d payoff′ gain′ t)) (sym states))
-      ∙ sym (years-more falling d payoff′ gain′ t i)
+pub years-same : (falling : Bool) {c d : SetChain} → c .states ≡ d .states → ((i : ℕ) → i < c .states → Agree (c .states) (c .row i) (d .row i))
+    → {payoff payoff′ gain gain′ : ℕ → ℕ} → ((i : ℕ) → i < c .states → payoff i ≡ payoff′ i) → ((i : ℕ) → i < c .states → gain i ≡ gain′ i)
+    → (t i : ℕ) → i < c .states → yearsFigure falling c payoff gain t i ≡ yearsFigure falling d payoff′ gain′ t i
+years-same false states rows payoffs gains = low-years-agree states rows payoffs gains
+years-same true states rows payoffs gains = high-years-agree states rows payoffs gains
 
 -- figures grow by no more than the gains
 module _ (falling : Bool) (c : SetChain) (sound : SoundChain c) (payoff gain : ℕ → ℕ) (top rise : ℕ)

@@ -27,6 +27,7 @@ use Rattle.bounds.specs.Start.{Ready, startFigure, startBounds, ShareHel
 use Rattle.answers.specs.Answers.{answerBy, startOf, shareCause, shareAnswer, moneyCause, meanAnswer, totalAnswer}
 use Rattle.answers.specs.Promises.{SharePromise, MeanPromise, TotalPromise}
 use Rattle.answers.specs.Laws.Kept.{share-kept, mean-kept, total-kept}
+use Rattle.setchain.specs.Laws.Agreeing.{agree-refl}
 use Rattle.bounds.proofs.Agreeing.{years-same}
 use Rattle.bounds.proofs.Forming.{zeros}
 
@@ -67,9 +68,7 @@ module _ (s : Scheme) (ok : Accepted s) where
       → ((j : ℕ) → j < 32 → at gain j ≡ g j)
       → startFigure falling s gain payoff t ≡ yearsFigure falling (chainOf s) f g t (startOf s)
   as-functions falling gain payoff g f t p q =
-      years-same falling (chainOf s) (chainOf s) refl (accepted-sound s ok)
-      (λ i l. record { lower = λ j m. refl; upper = λ j m. refl })
-      (at payoff) f (at gain) g (λ j l. p j (below-32 j l)) (λ j l. q j (below-32 j l)) t (startOf s) start-within
+      years-same falling refl (λ i l. agree-refl (s .classes) (chainOf s .row i)) (λ j l. p j (below-32 j l)) (λ j l. q j (below-32 j l)) t (startOf s) start-within
 
   -- the share of a class
   module _ {class : ℕ} {payoff : List ℕ} (held : ShareHeld class payoff) (t : ℕ) where

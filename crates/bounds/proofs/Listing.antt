@@ -12,9 +12,9 @@ use borrow.Author.Tests.{eq-eqb, ne-eqb}
 use Rattle.setchain.specs.Sums.{sumTo, onlyIf}
 use Rattle.setchain.specs.Rows.{ONE, SoundRow}
 use Rattle.setchain.specs.Laws.Sums.{sumTo-eq, onlyIf-true, onlyIf-false, total-start}
-use Rattle.step.specs.Lists.{at, gatheredRow, rulesOf, Agree}
+use Rattle.step.specs.Lists.{at, gatheredRow, rulesOf}
+use Rattle.setchain.specs.Laws.Agreeing.{Agree, agree-sym, sound-agrees}
 use Rattle.bounds.specs.Entries.{lows, rooms, counts, sumOf, listedRow, Listable, RowListed, Storable, Listed}
-use Rattle.step.specs.Laws.Agreeing.{sound-same}
 use Rattle.bounds.proofs.Entering.{listSum}
 
 -- the lists at row i: the rows below it are listed, and of the others there is no entry
@@ -125,11 +125,7 @@ module _ {n : ℕ} {rules lowers uppers entries₀ spare₀ : List ℕ}
                 few = able .few;
                 within = w .within;
                 short = λ j l. omega (arith, w .short j l, w .inside, able .few);
-                sound = λ k l.
-                    let g = listing-agrees h k l in
-                    sound-same n (gatheredRow (rulesOf (length lowers) rules k) lowers uppers) (listedRow entries k)
-                    (record { lower = λ j q. sym (g .lower j q); upper = λ j q. sym (g .upper j q) })
-                    (able .sound k l);
+                sound = λ k l. sound-agrees (agree-sym (listing-agrees h k l)) (able .sound k l);
                 whole = λ k l.
                     omega (
                       arith,

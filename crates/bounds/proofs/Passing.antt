@@ -21,7 +21,8 @@ use Rattle.step.specs.Figure.{rounded, LARGEST}
 use Rattle.bounds.specs.Entries.{lows, rooms, counts, sumOf, listedRow, chainListed, Held}
 use Rattle.bounds.specs.Walk.{leftAt, sumAt, taken, Givable, Given, Walkable, Walked, Settleable, Settled}
 use Rattle.bounds.specs.Years.{Yearly, Formed}
-use Rattle.step.specs.Laws.Agreeing.{step-same-payoff}
+use Rattle.setchain.specs.Laws.Agreeing.{agree-refl}
+use Rattle.step.specs.Laws.Agreeing.{step-agrees}
 use Rattle.bounds.proofs.Giving.{entry-in}
 use Rattle.bounds.proofs.Walking.{sum-fits, walk-figure}
 use Rattle.bounds.proofs.Forming.{zeros}
@@ -226,5 +227,4 @@ module _ {entries spare gain order before : List ℕ} (w : Yearly entries spare 
               (λ j m. small j (omega (arith, front-count)))
               (year-walks .held .whole i (omega (arith, front-count)))
               ∙ ap (λ n. stepFigure falling n (listedRow entries i) (at (take (length gain) before))) front-count
-              ∙ step-same-payoff falling (length gain) (listedRow entries i) (w .held .sound i l) (at (take (length gain) before)) (at before)
-              (λ j m. getD-take (length gain) before j 0 m)
+              ∙ step-agrees falling (agree-refl (length gain) (listedRow entries i)) (λ j m. getD-take (length gain) before j 0 m)

@@ -102,7 +102,7 @@ module _ {entries spare gain order payoff : List ℕ} {t state stride : ℕ} (w 
             placed = placed;
             each = λ i l.
                 subst (λ x. at after i ≡ yearFigure x chain (at gain) (at figures) i) (sym is) (f .each i l)
-                ∙ years-next falling chain (w .held .sound) (at payoff) (at gain) (at figures) u i l (r .each)
+                ∙ years-next falling chain (at payoff) (at gain) (at figures) u i (r .each)
                 ∙ ap (λ k. yearsFigure falling chain (at payoff) (at gain) k i) next;
             noted = subst (λ k. Noted (λ v. yearsFigure falling chain (at payoff) (at gain) v state) 0 stride k before out) again (r .noted);
           }

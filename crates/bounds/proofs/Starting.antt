@@ -98,9 +98,7 @@ module _ (s : Scheme) {entries spare gain payoff : List ℕ} {t : ℕ} (w : Read
   start-years falling u i g =
       ap (yearsFigure falling (chainListed (length (take n gain)) entries) (at payoff) (at (take n gain)) u) g
       ∙ ap (λ k. yearsFigure falling (chainListed k entries) (at payoff) (at (take n gain)) u (startOf s)) gains-count
-      ∙ years-same falling (chainListed n entries) (chainOf s) refl (e .held .sound) (e .agrees)
-      (at payoff) (at payoff) (at (take n gain)) (at gain)
-      (λ j l. refl) (λ j l. getD-take n gain j 0 l) u (startOf s) (omega (arith, w .accepted .start .positive, w .accepted .start .within))
+      ∙ years-same falling refl (e .agrees) (λ j l. refl) (λ j l. getD-take n gain j 0 l) u (startOf s) (omega (arith, w .accepted .start .positive, w .accepted .start .within))
 
   pub start-is : {falling : Bool} {stride count : ℕ} {order figures before after : List ℕ} (i : ℕ) → i ≡ s .start - 1
       → Ran entries (take (s .classes) gain) payoff falling t i stride count order figures before after

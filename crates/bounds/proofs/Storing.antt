@@ -12,10 +12,10 @@ use Rattle.scheme.specs.Accepted.{Accepted}
 use Rattle.scheme.specs.Rows.{chainOf}
 use Rattle.scheme.specs.Laws.Sound.{accepted-sound}
 use Rattle.gathering.specs.Laws.Entries.{lower-is, upper-is}
-use Rattle.step.specs.Lists.{gatheredRow, rulesOf, Agree}
+use Rattle.step.specs.Lists.{gatheredRow, rulesOf}
+use Rattle.setchain.specs.Laws.Agreeing.{Agree, sound-agrees}
 use Rattle.bounds.specs.Entries.{counts, listedRow, Empty, Storable, Listed}
 use Rattle.bounds.specs.Start.{Entered}
-use Rattle.step.specs.Laws.Agreeing.{sound-same}
 
 -- arrays of zeros hold lists with no entry
 pub empty-listed : Empty (replicate 3104 0) (replicate 32 0)
@@ -55,7 +55,7 @@ module _ (s : Scheme) (accepted : Accepted s) where
           stored = omega (arith, accepted .size .classes);
           sound = λ i l.
               subst (λ k. SoundRow (s .classes) (stored k i)) (sym count)
-              (sound-same (s .classes) (chainOf s .row i) (stored (s .columns) i) (rows-back i l) (accepted-sound s accepted i l));
+              (sound-agrees (rows-back i l) (accepted-sound s accepted i l));
           empty = empty;
         }
 

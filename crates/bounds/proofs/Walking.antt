@@ -20,13 +20,14 @@ use Rattle.scheme.specs.Tables.{tab}
 use Rattle.scheme.specs.Laws.Tab.{length-tab, getD-tab}
 use Rattle.order.specs.Order.{Stands, Placed, Arranged}
 use Rattle.order.specs.Laws.Arranging.{arranged-placed}
-use Rattle.step.specs.Lists.{at, rowIn, Agree}
+use Rattle.step.specs.Lists.{at, rowIn}
+use Rattle.setchain.specs.Laws.Agreeing.{Agree, sound-agrees}
 use Rattle.step.specs.Fill.{Filled, Pourable}
 use Rattle.step.specs.Step.{Steppable}
 use Rattle.one_year.specs.Figure.{stepFigure}
 use Rattle.step.specs.Figure.{rounded, LARGEST}
 use Rattle.bounds.specs.Walk.{leftAt, sumAt}
-use Rattle.step.specs.Laws.Agreeing.{sound-same, step-same-row}
+use Rattle.step.specs.Laws.Agreeing.{step-agrees}
 use Rattle.step.specs.Laws.Filling.{Filling, filling-none, filling-more, filling-last}
 use Rattle.step.specs.Laws.Reaching.{step-reached}
 
@@ -204,7 +205,7 @@ module _ (d : Bool) (r : IntervalRow) (payoff order : List ℕ) (spare : ℕ) (s
         uppers = length-tab n (r .upper) ∙ sym lower-size;
         payoffs = sym lower-size;
         rows = refl;
-        sound = subst (λ k. SoundRow k (rowIn lower upper)) (sym lower-size) (sound-same n r (rowIn lower upper) agree sound);
+        sound = subst (λ k. SoundRow k (rowIn lower upper)) (sym lower-size) (sound-agrees agree sound);
         small = λ j l. small j (omega (arith, lower-size));
         arranged = arranged;
       }
@@ -318,4 +319,4 @@ module _ (d : Bool) (r : IntervalRow) (payoff order : List ℕ) (spare : ℕ) (s
           ap (rounded d) (sums-are ∙ ap (λ k. dot k (at (w .row)) (at payoff)) (sym lower-size))
           ∙ step-reached d steppable (s .filled)
           ∙ ap (λ k. stepFigure d k (rowIn lower upper) (at payoff)) lower-size
-          ∙ sym (step-same-row n r (rowIn lower upper) agree d sound (at payoff))
+          ∙ sym (step-agrees d agree (λ j l. refl))

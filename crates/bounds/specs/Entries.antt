@@ -7,7 +7,8 @@ use lib.Dec.{eqb}
 use lib.ListN.{length}
 use Rattle.setchain.specs.Sums.{sumTo, onlyIf}
 use Rattle.setchain.specs.Rows.{ONE, IntervalRow, SoundRow, SetChain, SoundChain}
-use Rattle.step.specs.Lists.{at, gatheredRow, rulesOf, Agree}
+use Rattle.step.specs.Lists.{at, gatheredRow, rulesOf}
+use Rattle.setchain.specs.Laws.Agreeing.{Agree}
 
 -- where the lower ends begin, the rooms and the counts
 abbrev pub lows : ℕ

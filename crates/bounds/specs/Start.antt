@@ -10,7 +10,8 @@ use Rattle.scheme.specs.Accepted.{Accepted}
 use Rattle.scheme.specs.Rows.{chainOf}
 use Rattle.answers.specs.declared.Bounds.{Bounds}
 use Rattle.answers.specs.declared.Bounds.the-variants.{Answered}
-use Rattle.step.specs.Lists.{at, Agree}
+use Rattle.step.specs.Lists.{at}
+use Rattle.setchain.specs.Laws.Agreeing.{Agree}
 use Rattle.bounds.specs.Entries.{listedRow, Held}
 use Rattle.bounds.specs.Years.{yearsFigure, Roomy}
 use Rattle.answers.specs.Answers.{startOf, lowShares, highShares}

@@ -17,11 +17,11 @@ use Rattle.scheme.specs.Laws.Sound.{accepted-sound}
 use Rattle.gathering.specs.Laws.Entries.{lower-is, upper-is}
 use Rattle.scheme.specs.Laws.Tables.{any-false}
 use Rattle.one_year.specs.declared.StepAnswer.{StepAnswer}
-use Rattle.step.specs.Lists.{at, Agree}
+use Rattle.step.specs.Lists.{at}
+use Rattle.setchain.specs.Laws.Agreeing.{Agree, agree-sym, sound-agrees}
 use Rattle.one_year.specs.Figure.{stepFigure}
 use Rattle.one_year.specs.StepAnswer.{payoffOut, stepCause, classRow, Reaches, StepAnswered}
 use Rattle.step.specs.Solve.{rowFromParts, Answerable, Made}
-use Rattle.step.specs.Laws.Agreeing.{same-back, sound-same}
 use Rattle.step.proofs.Solving.{reaches-same, reached-figure}
 
 -- a second test of cause 10 comes after all that the first has
@@ -136,7 +136,7 @@ module _ (s : Scheme) (payoff : List ℕ) (class : ℕ) where
           within = range .1;
           fewClasses = ok .size .classes;
           fewColumns = ok .size .columns;
-          sound = sound-same (s .classes) _ _ (same-back same) (accepted-sound s ok (class - 1) (omega (arith, range)));
+          sound = sound-agrees (agree-sym same) (accepted-sound s ok (class - 1) (omega (arith, range)));
           small = λ j l. omega (arith, payoff-fits j l);
         }
 

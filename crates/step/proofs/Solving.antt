@@ -17,12 +17,12 @@ use Rattle.scheme.specs.Gathered.{gathered}
 use Rattle.scheme.specs.Laws.Tab.{length-tab, getD-tab}
 use Rattle.order.specs.Order.{NotAfter, Arranged, Placed, numbered, sorted}
 use Rattle.order.specs.Laws.Arranging.{numbered-placed, sorted-holds}
-use Rattle.step.specs.Lists.{at, rowIn, gatheredRow, Agree}
+use Rattle.step.specs.Lists.{at, rowIn, gatheredRow}
+use Rattle.setchain.specs.Laws.Agreeing.{Agree, agree-sym, parts-agree, sound-agrees}
 use Rattle.one_year.specs.Figure.{stepFigure}
 use Rattle.step.specs.Figure.{rounded}
 use Rattle.step.specs.Step.{Steppable, Stepped}
 use Rattle.one_year.specs.StepAnswer.{Reaches}
-use Rattle.step.specs.Laws.Agreeing.{same-back, parts-same, sound-same}
 use Rattle.step.specs.Solve.{rowFromParts, Solvable, Solved, Answerable, Made}
 
 -- the sum of part times payoff looks at states below n alone
@@ -34,10 +34,10 @@ pub reaches-same : {d : Bool} {n : ℕ} {r r′ : IntervalRow} {f f′ p p′ : 
     → Agree n r r′ → ((j : ℕ) → j < n → f j ≡ f′ j) → ((j : ℕ) → j < n → p j ≡ p′ j) → Reaches d n r f p v → Reaches d n r′ f′ p′ v
 reaches-same {d} {n} {r} {r′} {f} {f′} {p} {p′} {v} s g e w =
     record {
-      inside = parts-same s e (w .inside);
+      inside = parts-agree s e (w .inside);
       extreme = λ q h.
           subst₂ (NotAfter d) (dot-same n p p′ f f′ e g) (dot-same n q q f f′ (λ j l. refl) g)
-          (w .extreme q (parts-same (same-back s) (λ j l. refl) h));
+          (w .extreme q (parts-agree (agree-sym s) (λ j l. refl) h));
       rounded = w .rounded ∙ ap (rounded d) (dot-same n p p′ f f′ e g);
     }
 
@@ -107,7 +107,7 @@ module _ {rules lowers uppers payoff row : List ℕ} (able : Solvable rules lowe
           rows = able .rows ∙ sym (length-tab n (gathered rules lowers));
           sound =
               subst (λ k. SoundRow k (rowIn low high)) (sym (length-tab n (gathered rules lowers)))
-              (sound-same n _ _ (same-back (tab-same n (gathered rules lowers) (gathered rules uppers))) (able .sound));
+              (sound-agrees (agree-sym (tab-same n (gathered rules lowers) (gathered rules uppers))) (able .sound));
           small = λ j l. able .small j (omega (arith, length-tab n (gathered rules lowers)));
           arranged = by-payoff;
         }

@@ -1,6 +1,5 @@
 -- Lists read as functions of the state: state j is class j + 1.
-use Prim.Native.Nat.{ℕ, _*_, _<_}
-use mathlib.Core.Path.{_≡_}
+use Prim.Native.Nat.{ℕ, _*_}
 use mathlib.Core.List.{List}
 use lib.ListN.{take, drop}
 use Rattle.setchain.specs.Rows.{IntervalRow}
@@ -18,8 +17,3 @@ gatheredRow rules lowers uppers = record { lower = gathered rules lowers; upper 
 -- the rules of state i: eight stand for each class, of which as many count as there are bands
 abbrev pub rulesOf : ℕ → List ℕ → ℕ → List ℕ
 rulesOf columns rules i = take columns (drop (i * 8) rules)
-
--- two rows have the same entries for the first n states
-pub record Agree (n : ℕ) (r q : IntervalRow) : Type 0 where
-  pub lower : (j : ℕ) → j < n → r .lower j ≡ q .lower j
-  pub upper : (j : ℕ) → j < n → r .upper j ≡ q .upper j

@@ -1,11 +1,12 @@
 -- Interval rows, payoffs and gains that agree on n states have the same figures: nothing is read of the states from n on.
 use Prim.Native.Nat.{ℕ, zero, suc, min, _+_, _-_, _*_, _/_, _<_}
-use mathlib.Core.Path.{_≡_, refl, ap, ap₂, _∙_}
+use mathlib.Core.Path.{_≡_, refl, ap, ap₂, sym, _∙_}
+use native.Mathlib.Omega.{arith}
 use mathlib.Core.Bool.{Bool, _&&_, _||_}
 use lib.Dec.{eqb, ltb}
 use Rattle.setchain.specs.Sums.{onlyIf, dot}
-use Rattle.setchain.specs.Rows.{ONE, IntervalRow, SetChain}
-use Rattle.setchain.specs.Step.{room, spare, rising, falling, roomBefore, fillRow, lowStep, highStep}
+use Rattle.setchain.specs.Rows.{ONE, IntervalRow, SoundRow, SetChain}
+use Rattle.setchain.specs.Step.{room, spare, rising, falling, roomBefore, fillRow, lowStep, highStep, Parts}
 use Rattle.setchain.specs.Years.{lowYears, highYears}
 use Rattle.setchain.specs.Laws.Sums.{sumTo-eq}
 
@@ -17,6 +18,30 @@ pub record Agree (n : ℕ) (r q : IntervalRow) : Type 0 where
 -- a row agrees with itself
 pub agree-refl : (n : ℕ) (r : IntervalRow) → Agree n r r
 agree-refl n r = record { lower = λ j l. refl; upper = λ j l. refl }
+
+-- rows that agree, from the other side
+pub agree-sym : {n : ℕ} {r q : IntervalRow} → Agree n r q → Agree n q r
+agree-sym s = record { lower = λ j l. sym (s .lower j l); upper = λ j l. sym (s .upper j l) }
+
+-- the same rows lie inside, also where their parts agree below n
+pub parts-agree : {n : ℕ} {r q : IntervalRow} {p p′ : ℕ → ℕ} → Agree n r q → ((j : ℕ) → j < n → p j ≡ p′ j) → Parts n r p → Parts n q p′
+parts-agree {n} {p = p} {p′ = p′} s e w =
+    record {
+      positive = w .positive;
+      sums = sym (sumTo-eq n p p′ e) ∙ w .sums;
+      above = λ j l. omega (arith, s .lower j l, e j l, w .above j l);
+      below = λ j l. omega (arith, s .upper j l, e j l, w .below j l);
+    }
+
+-- one is sound where the other is
+pub sound-agrees : {n : ℕ} {r q : IntervalRow} → Agree n r q → SoundRow n r → SoundRow n q
+sound-agrees {n} {r} {q} same s =
+    record {
+      ordered = λ j l. omega (arith, same .lower j l, same .upper j l, s .ordered j l);
+      capped = λ j l. omega (arith, same .upper j l, s .capped j l);
+      lowers = omega (arith, sumTo-eq n (r .lower) (q .lower) (same .lower), s .lowers);
+      uppers = omega (arith, sumTo-eq n (r .upper) (q .upper) (same .upper), s .uppers);
+    }
 
 -- rows and payoffs that agree below n
 module _ {n : ℕ} {r q : IntervalRow} (rows : Agree n r q) where

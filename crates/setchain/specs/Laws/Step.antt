@@ -12,7 +12,6 @@ use Rattle.setchain.specs.Laws.Sums.{sumTo-le, sumTo-add, sumTo-scale}
 use Rattle.setchain.specs.Laws.Certificate.{low-certified, high-certified}
 use Rattle.setchain.specs.Laws.Fill.{Strict, Pivot, ahead, pivot, given, given-before, given-after, given-all, positive-count}
 use Rattle.setchain.specs.Laws.Order.{rising-less, rising-strict, falling-strict}
-use Rattle.setchain.specs.Laws.Agreeing.{agree-refl, low-step-agrees, high-step-agrees}
 
 -- along any strict order the fill gives a row inside, filled before a pivot and bare after it
 record Filled (n : ℕ) (r : IntervalRow) (before : ℕ → ℕ → Bool) : Type 0 where
@@ -183,10 +182,3 @@ module _ (n : ℕ) (r : IntervalRow) (sound : SoundRow n r) where
     pub high-step-at-most : (b : ℕ) → ((j : ℕ) → j < n → f j ≤ b) → highStep n r f ≤ b
     unfolding highStep
     high-step-at-most b h = omega (arith, parts-at-most (highRow n r f) b high-parts h)
-
-  -- payoffs of states from n on are ignored
-  pub low-step-same : (f g : ℕ → ℕ) → ((j : ℕ) → j < n → f j ≡ g j) → lowStep n r f ≡ lowStep n r g
-  low-step-same f g agree = low-step-agrees (agree-refl n r) agree
-
-  pub high-step-same : (f g : ℕ → ℕ) → ((j : ℕ) → j < n → f j ≡ g j) → highStep n r f ≡ highStep n r g
-  high-step-same f g agree = high-step-agrees (agree-refl n r) agree
