@@ -1,26 +1,19 @@
 -- What the promises forbid, on Example A (document 01, "Worthless versions"): each bound that is too wide, too tight, or of another class or year breaks its promise.
-use Prim.Native.Nat.{ℕ, _-_, _<_}
+use Prim.Native.Nat.{ℕ}
 use mathlib.Core.Path.{refl}
-use mathlib.Core.List.{List, [], _∷_}
+use mathlib.Core.List.{[], _∷_}
 use native.Mathlib.Omega.{arith}
-use Rattle.setchain.specs.Sums.{sumTo, onlyIf}
 use Rattle.setchain.specs.Rows.{ONE, SoundChain}
-use Rattle.setchain.specs.Step.{roomBefore, fillRow, lowStep, highStep}
-use Rattle.setchain.specs.Years.{lowYears, highYears}
-use Rattle.setchain.specs.Picks.{Matrix, PicksFor}
-use Rattle.setchain.specs.Laws.Fractions.{Proper}
 use Rattle.setchain.specs.Theorems.{exact-proper}
-use Rattle.scheme.specs.Tables.{tab}
 use Rattle.scheme.specs.Access.{premiumAt}
 use Rattle.scheme.specs.Rows.{chainOf}
 use Rattle.scheme.specs.Examples.{schemeA, rows-a}
 use Rattle.scheme.specs.Laws.Judged.{accepted-cause}
 use Rattle.scheme.specs.Laws.Sound.{accepted-sound}
 use Rattle.answers.specs.declared.Bounds.the-variants.{Answered}
-use Rattle.answers.specs.Answers.{shareAnswer, meanAnswer, totalAnswer}
 use Rattle.answers.specs.Promises.{Kept, startShare, startMean, startTotal, SharePromise, MeanPromise, TotalPromise, SheetPromise, TableKept}
-use Rattle.answers.specs.Table.{tableEntry, lowTable, highTable}
-use Rattle.answers.specs.Examples.{DocumentExamples, document-examples, sheets-a}
+use Rattle.answers.specs.Table.{highTable}
+use Rattle.answers.specs.Examples.{document-examples}
 use Rattle.answers.specs.Laws.Kept.{share-kept, mean-kept, total-kept}
 use Rattle.answers.specs.Laws.Pinned.{Pinned, pinned}
 

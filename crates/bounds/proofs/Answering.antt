@@ -18,7 +18,6 @@ use Rattle.scheme.specs.Cause.{outside, causeOf, orElse, classCause, yearCause}
 use Rattle.scheme.specs.Rows.{chainOf}
 use Rattle.scheme.specs.Laws.Cause.{outside-false, declined, answered, first-none, second-none, test-none}
 use Rattle.scheme.specs.Laws.Judged.{accepted-cause}
-use Rattle.scheme.specs.Laws.Sound.{accepted-sound}
 use Rattle.answers.specs.declared.Bounds.{Bounds}
 use Rattle.answers.specs.declared.Bounds.the-variants.{Answered, Refused}
 use Rattle.step.specs.Lists.{at}

@@ -16,7 +16,6 @@ use Rattle.setchain.specs.Rows.{ONE}
 use Rattle.setchain.specs.Years.{sharePayoff}
 use Rattle.setchain.specs.Laws.Sums.{onlyIf-true, onlyIf-false}
 use Rattle.scheme.specs.declared.Scheme.{Scheme}
-use Rattle.scheme.specs.Rows.{chainOf}
 use Rattle.order.specs.Order.{Placed, numbered}
 use Rattle.order.specs.Laws.Arranging.{numbered-placed}
 use Rattle.step.specs.Lists.{at}

@@ -1,13 +1,12 @@
 -- What the sheet's text leaves in a buffer with room for any sheet: the sheet of the whole input.
 -- Assumes nothing.
 use Prim.Native.Nat.{ℕ, _≤_}
-use mathlib.Core.Path.{_≡_, ap, sym, _∙_, subst}
+use mathlib.Core.Path.{_≡_, ap, sym, _∙_}
 use mathlib.Core.List.{List}
 use native.Mathlib.Omega.{arith}
 use native.Mathlib.Nat.{le-trans}
 use lib.ListN.{length, take}
 use Rattle.layout.specs.declared.WriteAnswer.{WriteAnswer}
-use Rattle.layout.specs.declared.WriteAnswer.the-variants.{Written, Declined}
 use Rattle.layout.specs.Write.{writeNumber, writtenLength}
 use Rattle.sheet_lines.specs.Sheet.{sheetText}
 use Rattle.sheet_lines.specs.Answer.{roomFor, sheetAnswer, TextPromise}

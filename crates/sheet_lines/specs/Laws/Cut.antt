@@ -1,5 +1,5 @@
 -- The sheet of 65,536 bytes or more is the refusal that their first bytes bring, so that input may be cut there: a record's length field says at most 65,535 (document 01, "Record").
-use Prim.Native.Nat.{ℕ, _≤_, _<_}
+use Prim.Native.Nat.{ℕ, _≤_}
 use mathlib.Core.Path.{_≡_, refl, ap, sym, _∙_}
 use mathlib.Core.Bool.{Bool, true, false, cond, not, _||_, true≢false}
 use mathlib.Core.List.{List}
