@@ -4,6 +4,8 @@ use Rattle.setchain.specs.Sums.{sumTo}
 use Rattle.scheme.specs.Tables.{anyBelow}
 use Rattle.scheme.specs.Cause.{sizeOut, startOut, horizonOut, ruleOut, bandOut, sumOut, premiumOut, causeWhere}
 use Rattle.scheme.specs.Examples.{schemeA, single}
+use Rattle.answers.specs.declared.Bounds.the-variants.{Answered, Refused}
+use Rattle.answers.specs.Answers.{numberOf, lowOf, highOf}
 use Rattle.answers.specs.Causes.{shareCause, moneyCause, sheetLengthsCause, tableSize, tableLengthsCause}
 
 -- a class above s, a year above the horizon, and both
@@ -35,3 +37,7 @@ pub slice-causes : SliceCauses
 unfolding causeWhere sizeOut startOut horizonOut ruleOut bandOut sumOut premiumOut anyBelow sumTo
 slice-causes =
     record { money = refl; moneyNone = refl; moneyScheme = refl; sheet = refl; sheetYear = refl; sheetNone = refl; size = refl; table = refl; tableNone = refl }
+
+-- the number and the figures of each answer
+pub answer-parts : (numberOf (Answered 3 5) ≡ 0) × (lowOf (Answered 3 5) ≡ 3) × (highOf (Answered 3 5) ≡ 5) × (numberOf (Refused 12) ≡ 12) × (lowOf (Refused 12) ≡ 0) × (highOf (Refused 12) ≡ 0)
+answer-parts = (refl, refl, refl, refl, refl, refl)

@@ -8,6 +8,7 @@ use Rattle.scheme.specs.declared.Scheme.{Scheme}
 use Rattle.scheme.specs.Tables.{anyBelow}
 use Rattle.scheme.specs.Cause.{sizeOut, startOut, horizonOut, ruleOut, bandOut, sumOut, premiumOut, causeWhere, causeOf}
 use Rattle.scheme.specs.Rows.{chainOf}
+use Rattle.scheme.specs.Stored.{noScheme}
 
 -- numbers followed by 0 up to a length
 abbrev pub padded : ℕ → List ℕ → List ℕ
@@ -65,3 +66,12 @@ pub record CausesInOrder : Type 0 where
 pub causes-in-order : CausesInOrder
 unfolding causeWhere sizeOut startOut horizonOut ruleOut bandOut sumOut premiumOut anyBelow sumTo
 causes-in-order = record { rule = refl; band = refl; sums = refl; premium = refl; none = refl }
+
+-- "number only": what stands beside it is 0 in every place
+pub record NoScheme : Type 0 where
+  pub form : (noScheme .classes ≡ 0) × (noScheme .columns ≡ 0) × (noScheme .start ≡ 0) × (noScheme .horizon ≡ 0)
+  pub stored : (noScheme .rules ≡ padded 256 []) × (noScheme .lowers ≡ padded 8 []) × (noScheme .uppers ≡ padded 8 []) × (noScheme .premiums ≡ padded 32 [])
+
+pub no-scheme : NoScheme
+unfolding noScheme
+no-scheme = record { form = (refl, refl, refl, refl); stored = (refl, refl, refl, refl) }
