@@ -16,10 +16,10 @@ use Rattle.big_endian.specs.Numbers.{beAt}
 use Rattle.layout.specs.Joined.{joined}
 use Rattle.layout.specs.Layout.{version1, lengthOf, schemeIn}
 use Rattle.layout.specs.Read.{frameCause, readCause, readAnswer}
-use Rattle.layout.specs.RuleRow.{ruleRow}
-use Rattle.layout.specs.Reader.{bandAt, bandNumber, bandEnds, openPart, answers, handedOut, endsOf}
+use Rattle.layout.specs.RuleRow.{rowCause, ruleRow}
+use Rattle.layout.specs.Reader.{bandAt, bandNumber, bandEnds, openPart, answers, storedBands, handedOut, endsOf}
 use Rattle.layout.specs.Bytes.{headerBytes, bytesOf}
-use Rattle.layout.specs.Write.{writeNumber, writtenLength, writeAnswer, writeLeaves, Reread}
+use Rattle.layout.specs.Write.{writeNumber, writtenLength, writeAnswer, writeLeaves, Reread, WritePromise}
 
 -- its record
 abbrev pub exampleA : List ℕ
@@ -55,6 +55,11 @@ small version length classes start horizon =
     0 ∷ 0 ∷ 0 ∷ 0 ∷ 59 ∷ 154 ∷ 202 ∷ 0 ∷
     0 ∷ 0 ∷ 0 ∷ 10 ∷ []
 
+-- the record of a scheme whose start and horizon differ: 1 and 100
+pub bytes-single : bytesOf version1 (single 1 0 1000000000 10) ≡ small 1 20 1 1 100
+unfolding bytesOf headerBytes joined beBytes tab
+bytes-single = refl
+
 -- several causes at once: "the first that applies is returned"
 pub record CausesInOrder : Type 0 where
   pub noByte : readCause [] ≡ 1
@@ -80,6 +85,16 @@ answers-read = (refl, refl)
 pub rows-a : (ruleRow exampleA 2 ≡ 1 ∷ 2 ∷ 2 ∷ []) × (ruleRow exampleA 3 ≡ []) × (ruleRow (small 1 20 1 1 101) 1 ≡ [])
 unfolding ruleRow frameCause beAt schemeOf upTo tab causeWhere sizeOut startOut horizonOut ruleOut bandOut sumOut premiumOut anyBelow sumTo
 rows-a = (refl, refl, refl)
+
+-- the cause behind an empty part: "where it is accepted the cause was 11"
+pub row-causes : (rowCause exampleA 2 ≡ 0) × (rowCause exampleA 3 ≡ 11) × (rowCause (small 1 20 1 1 101) 3 ≡ 6)
+unfolding frameCause beAt schemeOf upTo tab causeWhere sizeOut startOut horizonOut ruleOut bandOut sumOut premiumOut anyBelow sumTo
+row-causes = (refl, refl, refl)
+
+-- its bands in order
+pub stored-a : storedBands exampleA ≡ Ends 800000000 900000000 ∷ Ends 100000000 200000000 ∷ Ends 0 50000000 ∷ []
+unfolding tab beAt
+stored-a = refl
 
 -- the first 5 answers of a reader over it
 pub bands-a : answers (openPart exampleA) 5 0 ≡ Ends 800000000 900000000 ∷ Ends 100000000 200000000 ∷ Ends 0 50000000 ∷ NoMore ∷ NoMore ∷ []
@@ -115,14 +130,15 @@ writings = record { length = refl; written = refl; short = refl; left = refl; ca
 pub write-answers : (writeNumber (Written 45) ≡ 0) × (writtenLength (Written 45) ≡ 45) × (writeNumber (Declined 13) ≡ 13) × (writtenLength (Declined 13) ≡ 0)
 write-answers = (refl, refl, refl, refl)
 
--- example A's record read again has the values of its scheme; a refusal has not, nor has a scheme that starts elsewhere
+-- example A's record read again has the values of its scheme; a refusal has not, nor has a scheme that starts elsewhere; and no byte is no record
 pub record Rereadings : Type 0 where
   pub same : Reread schemeA (readAnswer exampleA)
   pub refused : Reread schemeA (record { number = 6; scheme = schemeA }) → ⊥
   pub changed : Reread schemeA (record { number = 0; scheme = noScheme }) → ⊥
+  pub nothing : WritePromise schemeA exampleA (Written 0) → ⊥
 
 pub rereadings : Rereadings
-unfolding noScheme
+unfolding noScheme readAnswer frameCause
 rereadings =
     record {
       same = rw (answers-read .0) (record {
@@ -131,4 +147,5 @@ rereadings =
       });
       refused = λ h. omega (arith, h .number);
       changed = λ h. omega (arith, h .values .start);
+      nothing = λ h. omega (arith, h refl .number);
     }
