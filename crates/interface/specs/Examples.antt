@@ -23,6 +23,8 @@ use Rattle.rows.specs.Rows.{rowAt}
 use Rattle.rows.specs.Examples.{answerOf}
 use Rattle.layout.specs.Bytes.{headerBytes, bytesOf}
 use Rattle.layout.specs.Write.{writeAnswer, writeLeaves}
+use Rattle.ready_schemes.specs.Scales.{scale1}
+use Rattle.ready_schemes.specs.Ready.{ruleEntry, premiumEntry, readyScheme}
 use Rattle.ready_schemes.specs.Answer.{readyAnswer}
 use Rattle.states.specs.States.{at}
 use Rattle.one_year.specs.StepAnswer.{payoffOut}
@@ -91,9 +93,9 @@ unfolding putNumber putLeaves frameCause
 low-and-high-a = (refl, refl, after-a _, answered (readCause exampleA) (putLeaves shareA two) two read-a)
 
 -- a share sheet takes two buffers of s numbers; a record is declined before the year
-pub share-sheets : (sharesNumber [] 3 two three ≡ 1) × (sharesNumber exampleA 2 two two ≡ 0) × (sharesNumber exampleA 2 two three ≡ 13)
+pub share-sheets : (sharesNumber [] 3 two three ≡ 1) × (sharesNumber exampleA 2 two two ≡ 0) × (sharesNumber exampleA 2 two three ≡ 13) × (sharesNumber exampleA 2 three two ≡ 13)
 unfolding sheetCause frameCause beAt schemeOf upTo tab causeWhere sizeOut startOut horizonOut ruleOut bandOut sumOut premiumOut anyBelow sumTo
-share-sheets = (refl, after-a _, after-a _)
+share-sheets = (refl, after-a _, after-a _, after-a _)
 
 -- the sheet of no bytes, "REFUSED 1", takes 11 bytes of room and a buffer of one number for its length, 10 with the end of the line
 pub sheets :
@@ -112,9 +114,10 @@ pub row-buffers :
 row-buffers = (refl, refl, refl, refl)
 
 -- Example A, "Class 2: lower 800000000, 100000000; upper 900000000, 250000000."; a record is declined before the class
-pub row-a : (rowNumber [] 3 long long ≡ 1) × (rowIn exampleA 2 ≡ answerOf (800000000 ∷ 100000000 ∷ []) (900000000 ∷ 250000000 ∷ []))
+pub row-a :
+    (rowNumber [] 3 long long ≡ 1) × (rowNumber exampleA 2 long longer ≡ 13) × (rowNumber exampleA 2 longer long ≡ 13) × (rowIn exampleA 2 ≡ answerOf (800000000 ∷ 100000000 ∷ []) (900000000 ∷ 250000000 ∷ []))
 unfolding rowAt onlyIf frameCause beAt schemeOf upTo tab causeWhere sizeOut startOut horizonOut ruleOut bandOut sumOut premiumOut anyBelow sumTo
-row-a = (refl, refl)
+row-a = (refl, after-a _, after-a _, refl)
 
 -- a rule row takes m bytes; a class that there is not is declined before the buffer
 pub rule-row-a : (ruleRowNumber exampleA 2 three ≡ 0) × (ruleRowNumber exampleA 3 two ≡ 11)
@@ -127,17 +130,18 @@ parts = (refl, refl, refl)
 
 -- the bands take two buffers of m numbers; a record is declined before the buffers
 pub bands-a :
-    (bandsNumber [] three two ≡ 1) × (bandsNumber exampleA three three ≡ 0) × (bandsNumber exampleA three two ≡ 13)
+    (bandsNumber [] three two ≡ 1) × (bandsNumber exampleA three three ≡ 0) × (bandsNumber exampleA three two ≡ 13) × (bandsNumber exampleA two three ≡ 13)
     × (lowerBands inA ≡ 800000000 ∷ 100000000 ∷ 0 ∷ []) × (upperBands inA ≡ 900000000 ∷ 200000000 ∷ 50000000 ∷ [])
 unfolding frameCause beAt schemeOf upTo tab
-bands-a = (refl, after-a _, after-a _, refl, refl)
+bands-a = (refl, after-a _, after-a _, after-a _, refl, refl)
 
 -- Example A's record takes 45 bytes and a buffer of one number for its length; what is read is declined before the buffers
 pub rewriting-a :
     (rewriteNumber [] (replicate 45 0) two ≡ 1) × (rewriteNumber exampleA (replicate 45 0) one ≡ 0) × (rewriteNumber exampleA (replicate 45 0) two ≡ 13)
+    × (rewriteNumber exampleA (replicate 44 0) one ≡ 13)
     × (recordLength inA (replicate 45 0) ≡ 45 ∷ [])
 unfolding writeAnswer frameCause beAt schemeOf upTo tab causeWhere sizeOut startOut horizonOut ruleOut bandOut sumOut premiumOut anyBelow sumTo
-rewriting-a = (refl, after-a _, after-a _, refl)
+rewriting-a = (refl, after-a _, after-a _, after-a _, refl)
 
 -- Example A's record written again into 47 bytes: the two past it stay, and they may not change
 pub same-bytes-a :
@@ -152,9 +156,14 @@ same-bytes-a = (
 )
 
 -- there is no ready scheme 4, and a base above 2,500,000 is declined; both before the buffers
-pub ready-schemes : (readyNumber 4 2500001 [] two ≡ 14) × (readyNumber 3 2500001 [] two ≡ 15)
+pub ready-schemes : (readyNumber 4 2500001 [] two ≡ 14) × (readyNumber 3 2500001 [] two ≡ 15) × (readyNumber 1 2500001 [] two ≡ 15) × (readyNumber 2500001 1 [] two ≡ 14)
 unfolding readyAnswer
-ready-schemes = (refl, refl)
+ready-schemes = (refl, refl, refl, refl)
+
+-- ready scheme 1 takes 209 bytes
+pub ready-room : (readyNumber 1 100 (replicate 209 0) one ≡ 0) × (readyNumber 1 100 (replicate 208 0) one ≡ 13)
+unfolding readyAnswer readyScheme ruleEntry premiumEntry scale1 writeAnswer tab causeWhere sizeOut startOut horizonOut ruleOut bandOut sumOut premiumOut anyBelow sumTo
+ready-room = (refl, refl)
 
 -- a step takes a payoff of 32 numbers, a buffer of one for the figure and one of 32 for the row
 pub step-buffers : (stepBuffers long one long ≡ 0) × (stepBuffers two one long ≡ 13) × (stepBuffers long two long ≡ 13) × (stepBuffers long one two ≡ 13)
