@@ -93,7 +93,8 @@ pub fn open<'a>(bytes: &'a [u8]) -> Opened<'a>
 
 // The next band, or no more; the cursor moves on where a band came.
 pub fn next<'a>(r: &mut Reader<'a>) -> Band
-    ensures { λ b. ⌜ (BandAnswered (now (now (r .entry) .bytes)) (now (r .entry) .at) b) × (now (r .exit) .bytes ≡ now (r .entry) .bytes) × (now (r .exit) .at ≡ afterAt (now (now (r .entry) .bytes)) (now (r .entry) .at)) ⌝ }
+    ensures { λ b. ⌜ (BandAnswered (now (now (r .entry) .bytes)) (now (r .entry) .at) b) × (now (r .exit) .bytes ≡ now (r .entry) .bytes)
+        × (now (r .exit) .at ≡ afterAt (now (now (r .entry) .bytes)) (now (r .entry) .at)) ⌝ }
 {
     let bytes = r.bytes;
     let at = r.at;

@@ -115,7 +115,8 @@ row-buffers = (refl, refl, refl, refl)
 
 -- Example A, "Class 2: lower 800000000, 100000000; upper 900000000, 250000000."; a record is declined before the class
 pub row-a :
-    (rowNumber [] 3 long long ≡ 1) × (rowNumber exampleA 2 long longer ≡ 13) × (rowNumber exampleA 2 longer long ≡ 13) × (rowIn exampleA 2 ≡ answerOf (800000000 ∷ 100000000 ∷ []) (900000000 ∷ 250000000 ∷ []))
+    (rowNumber [] 3 long long ≡ 1) × (rowNumber exampleA 2 long longer ≡ 13) × (rowNumber exampleA 2 longer long ≡ 13)
+    × (rowIn exampleA 2 ≡ answerOf (800000000 ∷ 100000000 ∷ []) (900000000 ∷ 250000000 ∷ []))
 unfolding rowAt onlyIf frameCause beAt schemeOf upTo tab causeWhere sizeOut startOut horizonOut ruleOut bandOut sumOut premiumOut anyBelow sumTo
 row-a = (refl, after-a _, after-a _, refl)
 

@@ -1,4 +1,5 @@
--- Read in this order: tables, the scheme's parts, what acceptance asks, the first cause, the code's stages, interval rows, what the cells of one class come to, what a made scheme holds, when two schemes have the same values, worked cases.
+-- Read in this order: tables, the scheme's parts, what acceptance asks, the first cause, the code's stages, interval rows,
+-- what the cells of one class come to, what a made scheme holds, when two schemes have the same values, worked cases.
 -- Ignored proves that values beyond s and m are ignored.
 pub mod Tables
 pub mod Access

@@ -214,7 +214,8 @@ year-one : (lowShare chainA 0 1 1 ≡ 800000000) × (highShare chainA 0 1 1 ≡ 
 unfolding lowYears highYears lowStep highStep fillRow roomBefore sumTo onlyIf
 year-one = (refl, refl, refl, refl)
 
--- "always 0 and ONE for a share" is shut out by closeness: no picks for a year bring the share of class 1 within 1 of 0, or of ONE; and none bring the mean within 1 cent of the lowest premium, or of the highest
+-- "always 0 and ONE for a share" is shut out by closeness: no picks for a year bring the share of class 1 within 1 of 0, or of ONE;
+-- and none bring the mean within 1 cent of the lowest premium, or of the highest
 pub record WorthlessA (ps : List Matrix) : Type 0 where
   pub zero : Near 1 0 (shareInParts 2 0 ps 1) → ⊥
   pub one : Near 1 ONE (shareInParts 2 0 ps 1) → ⊥

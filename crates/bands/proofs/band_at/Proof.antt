@@ -64,10 +64,14 @@ be4-requires-2 c κs = search needs
 
 returns-2 : tie.Need-returns-2
 returns-2 c =
-    let start = c .before .before .before .before .before .before .before .before .before .args in
-    told _ _ (answer-ends _ _ (c .before .before .before .before .count .ensures .0) (c .before .before .count2 .ensures .0)
-    (c .before .be4 .ensures ∙ read-held 4 (start .bytes .now) _ (omega (arith, within (c .before .before))))
-    (c .be42 .ensures ∙ read-held 4 (start .bytes .now) _ (omega (arith, within (c .before .before)))) (stood (c .before .before .before .before .before .before)))
+    let at-columns = c .before .before in
+    let at-classes = at-columns .before .before in
+    let stands = at-classes .before .before in
+    let start = stands .before .before .before .args in
+    told _ _
+    (answer-ends _ _ (at-classes .count .ensures .0) (at-columns .count2 .ensures .0)
+    (c .before .be4 .ensures ∙ read-held 4 (start .bytes .now) _ (omega (arith, within at-columns)))
+    (c .be42 .ensures ∙ read-held 4 (start .bytes .now) _ (omega (arith, within at-columns))) (stood stands))
 
 pub band-at-spec : {M : Type 1} → statement M
 band-at-spec =

@@ -14,7 +14,8 @@ returns c =
     let start = c .before .before .before .before in
     let bytes = start .args .bytes .now in
     let out = start .args .out .now in
-    text-out (writeNumber (sheetAnswer bytes out)) (writtenLength (sheetAnswer bytes out)) (sheetLeaves bytes out) out (start .args .length .now) (sheet-only bytes out) (sheet-left bytes out) (c .if1 .taken)
+    text-out (writeNumber (sheetAnswer bytes out)) (writtenLength (sheetAnswer bytes out)) (sheetLeaves bytes out) out (start .args .length .now) (sheet-only bytes out) (sheet-left bytes out)
+    (c .if1 .taken)
 
 sheet-requires : tie.Need-sheet-requires
 sheet-requires c κs = search needs
@@ -48,12 +49,15 @@ same-length-3 c = search needs
 
 returns-3 : tie.Need-returns-3
 returns-3 c =
-    let start = c .before .before .before .before .before .before .before .before .before .before .before in
+    let at-number = c .before .before in
+    let at-call = at-number .before .before .before in
+    let at-size = at-call .before .before in
+    let start = at-size .before .before .before .before in
     let bytes = start .args .bytes .now in
     let out = start .args .out .now in
-    let w = c .before .before .before .before .before .sheet .ensures in
+    let w = at-call .sheet .ensures in
     text-written (writeNumber (sheetAnswer bytes out)) (writtenLength (sheetAnswer bytes out)) (sheetLeaves bytes out) out (start .args .length .now) (sheet-only bytes out) (sheet-left bytes out)
-    (c .before .before .write-number .ensures ∙ ap writeNumber (w .0)) (c .before .if2 .left) (c .before .before .before .before .before .before .before .if1 .left) (c .written-length .ensures ∙ ap writtenLength (w .0)) (w .1 .0)
+    (at-number .write-number .ensures ∙ ap writeNumber (w .0)) (c .before .if2 .left) (at-size .if1 .left) (c .written-length .ensures ∙ ap writtenLength (w .0)) (w .1 .0)
 
 pub joguyvi-sheet-spec : {M : Type 1} → statement M
 joguyvi-sheet-spec =

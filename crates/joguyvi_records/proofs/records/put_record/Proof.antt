@@ -47,12 +47,15 @@ same-length-3 c = search needs
 
 returns-3 : tie.Need-returns-3
 returns-3 c =
-    let start = c .before .before .before .before .before .before .before .before .before .before in
+    let at-number = c .before .before in
+    let at-call = at-number .before .before .before in
+    let at-size = at-call .before .before in
+    let start = at-size .before .before .before in
     let s = start .args .scheme in
     let out = start .args .out .now in
-    let w = c .before .before .before .before .before .write .ensures in
+    let w = at-call .write .ensures in
     text-written (writeNumber (writeAnswer s out)) (writtenLength (writeAnswer s out)) (writeLeaves s out) out (start .args .length .now) (write-only s out (start .pre)) (write-left s out)
-    (c .before .before .write-number .ensures ∙ ap writeNumber (w .0)) (c .before .if2 .left) (c .before .before .before .before .before .before .before .if1 .left) (c .written-length .ensures ∙ ap writtenLength (w .0)) (w .1 .0)
+    (at-number .write-number .ensures ∙ ap writeNumber (w .0)) (c .before .if2 .left) (at-size .if1 .left) (c .written-length .ensures ∙ ap writtenLength (w .0)) (w .1 .0)
 
 pub put-record-spec : {M : Type 1} → statement M
 put-record-spec =
