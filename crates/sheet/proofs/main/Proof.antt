@@ -1,7 +1,7 @@
 -- `main` lends buffers that are large enough for any input and any sheet.
 -- Assumes nothing.
 use Prim.Native.Nat.{ℕ}
-use mathlib.Core.Path.{sym, _∙_}
+use mathlib.Core.Path.{sym}
 use native.Mathlib.Omega.{arith}
 use lib.ListN.{length-replicate}
 use lib.Seq.{length-take-le}
@@ -33,10 +33,9 @@ slice-aggregate-compose-2 c = search needs
 compose-requires : tie.Need-compose-requires
 compose-requires c κs =
     let read = c .before .before .before .before .read-all .ensures in
-    let input = read .size ∙ length-replicate {A = ℕ} 65536 0 in
     record {
       within = omega (arith, read .within, read .size);
-      enough = omega (arith, input);
+      enough = omega (arith, read .size, length-replicate {A = ℕ} 65536 0);
       room = omega (arith, length-replicate {A = ℕ} 132862 0);
     }
 
