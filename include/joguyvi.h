@@ -60,7 +60,8 @@ uint8_t joguyvi_sheet(const uint8_t *bytes, size_t bytes_length,
 uint8_t joguyvi_check(const uint8_t *bytes, size_t bytes_length);
 
 /* A record read and written again into `out`, from the front on, and its
- * length into `length`, of 1 number. Room for any record: 455 bytes. */
+ * length into `length`, of 1 number: the bytes written are those read. Room
+ * for any record: 455 bytes. */
 uint8_t joguyvi_rewrite(const uint8_t *bytes, size_t bytes_length,
                         uint8_t *out, size_t out_length,
                         uint64_t *length, size_t length_length);

@@ -1,4 +1,6 @@
--- `hand_out` is safe and ends: a walk of its MIR, by hand. The reader is passed on to `next` for good, at its own lifetimes, shares and name, and the band that `next` answers to `shown_band`. All that the proof knows of the two is that each meets its contract.
+-- `hand_out` is safe and ends: a walk of its MIR, by hand.
+-- The reader is passed on to `next` for good, at its own lifetimes, shares and name, and the band that `next` answers to `shown_band`.
+-- All that the proof knows of the two is that each meets its contract.
 use mathlib.Core.Path.{_≡_, refl}
 use Prim.Native.Nat.{ℕ}
 use mathlib.Core.List.{List, [], _∷_}

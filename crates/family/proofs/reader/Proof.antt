@@ -1,4 +1,5 @@
--- `reader` is safe and ends: a walk of its MIR, by hand. The reader that `open` answers is put into a local, which is lent to `hand_out` nine times, each for a lifetime ν that the walk makes within the slice's own, and is taken back once ν has ended (`round`). All that the proof knows of the callees is that each meets its contract.
+-- `reader` is safe and ends: a walk of its MIR, by hand. All that the proof knows of the callees is that each meets its contract.
+-- The reader that `open` answers is put into a local, which is lent to `hand_out` nine times, each for a lifetime ν that the walk makes within the slice's own, and is taken back once ν has ended (`round`).
 -- In a local MIR erases the lifetime of a struct's type, so the values are shown to have the types at `erased`: what a struct owns does not say the lifetime's name.
 use mathlib.Core.Path.{_≡_, refl, ap}
 use Prim.Native.Nat.{ℕ, _<_, _^_}
