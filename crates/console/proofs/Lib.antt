@@ -1,1 +1,2 @@
-pub mod Filling
+-- The laws by which reading is proved.
+pub mod Reading

@@ -4,23 +4,23 @@ use mathlib.Core.List.{List, [], _∷_}
 use native.Mathlib.Omega.{arith}
 use Prim.Native.Nat.{ℕ}
 use lib.ListN.{getD}
-use Rattle.console.specs.Input.{Filled}
+use Rattle.console.specs.Input.{ReadInto}
 
 -- the buffer before
 abbrev before : List ℕ
 before = 7 ∷ 7 ∷ 7 ∷ 7 ∷ []
 
 -- any two bytes behind the first; not a changed first, not a changed last, not more than fit, not another length
-pub record FilledExamples : Type 0 where
-  pub two : (a b : ℕ) → Filled 1 before (7 ∷ a ∷ b ∷ 7 ∷ []) 2
-  pub full : (a b c : ℕ) → Filled 1 before (7 ∷ a ∷ b ∷ c ∷ []) 3
-  pub firstLost : Filled 1 before (8 ∷ 7 ∷ 7 ∷ 7 ∷ []) 2 → ⊥
-  pub restLost : Filled 1 before (7 ∷ 7 ∷ 7 ∷ 8 ∷ []) 2 → ⊥
-  pub tooMany : Filled 1 before before 4 → ⊥
-  pub longer : Filled 1 before (7 ∷ 7 ∷ 7 ∷ 7 ∷ 7 ∷ []) 4 → ⊥
+pub record ReadIntoExamples : Type 0 where
+  pub two : (a b : ℕ) → ReadInto 1 before (7 ∷ a ∷ b ∷ 7 ∷ []) 2
+  pub full : (a b c : ℕ) → ReadInto 1 before (7 ∷ a ∷ b ∷ c ∷ []) 3
+  pub firstLost : ReadInto 1 before (8 ∷ 7 ∷ 7 ∷ 7 ∷ []) 2 → ⊥
+  pub restLost : ReadInto 1 before (7 ∷ 7 ∷ 7 ∷ 8 ∷ []) 2 → ⊥
+  pub tooMany : ReadInto 1 before before 4 → ⊥
+  pub longer : ReadInto 1 before (7 ∷ 7 ∷ 7 ∷ 7 ∷ 7 ∷ []) 4 → ⊥
 
-pub filled-examples : FilledExamples
-filled-examples =
+pub read-into-examples : ReadIntoExamples
+read-into-examples =
     record {
       two = λ a b. record { size = refl; within = omega arith; front = refl; rest = refl };
       full = λ a b c. record { size = refl; within = omega arith; front = refl; rest = refl };

@@ -4,7 +4,7 @@ use libc::STDIN_FILENO;
 use libc::STDOUT_FILENO;
 ghost use Prim.Native.Nat.{_≤_};
 ghost use lib.ListN.{length};
-ghost use Rattle.console.specs.Input.{Filled};
+ghost use Rattle.console.specs.Input.{ReadInto};
 
 // Bytes as they are, to standard output. False where a write failed or took nothing: some of them may be written then.
 pub fn bytes(text: &[u8]) -> bool {
@@ -52,7 +52,7 @@ fn fetch(chunk: &mut [u8]) -> Input {
 // One read more, put into the buffer behind the first `done` bytes. The end of the input brings none.
 fn more(buffer: &mut [u8], done: usize) -> Input
     requires { ⌜ done ≤ length (now buffer) ⌝ }
-    ensures { λ r. ⌜ Filled done (now (buffer .entry)) (now (buffer .exit)) (r .length) ⌝ }
+    ensures { λ r. ⌜ ReadInto done (now (buffer .entry)) (now (buffer .exit)) (r .length) ⌝ }
 {
     let mut chunk = io::buffer();
     let read = fetch(&mut chunk);
@@ -66,7 +66,7 @@ fn more(buffer: &mut [u8], done: usize) -> Input
 
 // All of standard input, or as much of it as the buffer holds; bytes past it stay as they were.
 pub fn read_all(buffer: &mut [u8]) -> Input
-    ensures { λ r. ⌜ Filled 0 (now (buffer .entry)) (now (buffer .exit)) (r .length) ⌝ }
+    ensures { λ r. ⌜ ReadInto 0 (now (buffer .entry)) (now (buffer .exit)) (r .length) ⌝ }
 {
     let mut done: usize = 0;
     while done < buffer.len() {

@@ -36,10 +36,11 @@ bandIn bytes column =
 unfoldable pub bandAt : List ℕ → (cursor : ℕ) → Band
 bandAt bytes cursor = cond (stored bytes cursor) (bandIn bytes cursor) NoMore
 
--- the number of that answer, and its values: 1 and the ends of the column's band where it is stored, otherwise 0 and none
+-- the number of that answer: 1 where the column's band is stored, otherwise 0
 abbrev pub bandNumber : List ℕ → (cursor : ℕ) → ℕ
 bandNumber bytes cursor = cond (stored bytes cursor) 1 0
 
+-- its values: the ends of the column's band where it is stored, otherwise none
 abbrev pub bandEnds : List ℕ → (cursor : ℕ) → List ℕ
 bandEnds bytes cursor = cond (stored bytes cursor) (endsOf (bandIn bytes cursor)) []
 

@@ -8,6 +8,7 @@ use native.Mathlib.Omega.{arith}
 use lib.ListN.{replicate, getD-replicate, length-replicate, List·getD-eq-default}
 use Rattle.setchain.specs.Sums.{sumTo, onlyIf}
 use Rattle.setchain.specs.Rows.{ONE}
+use Rattle.setchain.specs.Laws.Sums.{below-two}
 use Rattle.setchain.specs.Step.{roomBefore, fillRow, lowStep, highStep}
 use Rattle.scheme.specs.Tables.{tab, anyBelow}
 use Rattle.scheme.specs.Cause.{sizeOut, startOut, horizonOut, ruleOut, bandOut, sumOut, premiumOut, causeWhere}
@@ -40,23 +41,11 @@ limits-a = (refl, refl)
 abbrev fourFifths : List ℕ
 fourFifths = 800000000 ∷ 200000000 ∷ replicate 30 0
 
-above-a : (j : ℕ) → j < 2 → classRow schemeA 2 .lower j * ONE ≤ at fourFifths j * ONE
-unfolding sumTo onlyIf
-above-a zero lt = omega arith
-above-a (suc zero) lt = omega arith
-above-a (suc (suc j)) lt = absurd (omega arith)
-
-below-a : (j : ℕ) → j < 2 → at fourFifths j * ONE ≤ classRow schemeA 2 .upper j * ONE
-unfolding sumTo onlyIf
-below-a zero lt = omega arith
-below-a (suc zero) lt = omega arith
-below-a (suc (suc j)) lt = absurd (omega arith)
-
 pub reaches-a : Reaches false 2 (classRow schemeA 2) (at thirtyTen) (at fourFifths) 26
 unfolding sumTo onlyIf
 reaches-a =
     record {
-      inside = record { positive = omega arith; sums = refl; above = above-a; below = below-a };
+      inside = record { positive = omega arith; sums = refl; above = below-two (λ j. classRow schemeA 2 .lower j * ONE ≤ at fourFifths j * ONE) (omega arith) (omega arith); below = below-two (λ j. at fourFifths j * ONE ≤ classRow schemeA 2 .upper j * ONE) (omega arith) (omega arith) };
       extreme = λ p inside. omega (arith, inside .sums, inside .above 0 (omega arith));
       rounded = refl;
     }

@@ -5,6 +5,7 @@ use mathlib.Core.List.{[], _∷_, _++_}
 use lib.ListN.{replicate}
 use native.Mathlib.Omega.{arith}
 use Rattle.setchain.specs.Sums.{sumTo}
+use Rattle.setchain.specs.Laws.Sums.{below-two}
 use Rattle.scheme.specs.declared.Scheme.{Scheme}
 use Rattle.scheme.specs.Tables.{anyBelow, tab}
 use Rattle.scheme.specs.Access.{ruleAt, lowerAt, upperAt, premiumAt}
@@ -77,15 +78,10 @@ pub cleared-a : cleared strayA ≡ schemeA
 unfolding schemeOf upTo tab
 cleared-a = refl
 
--- what holds for two classes, and for three columns
-two : (P : ℕ → Type 0) → P 0 → P 1 → (i : ℕ) → i < 2 → P i
-two P a b zero l = a
-two P a b (suc zero) l = b
-two P a b (suc (suc i)) l = absurd (omega arith)
-
+-- what holds for three columns
 three : (P : ℕ → Type 0) → P 0 → P 1 → P 2 → (k : ℕ) → k < 3 → P k
 three P a b c zero l = a
-three P a b c (suc k) l = two (λ j. P (suc j)) b c k (omega arith)
+three P a b c (suc k) l = below-two (λ j. P (suc j)) b c k (omega arith)
 
 -- and its values are Example A's
 pub beyond-a : SameValues strayA schemeA
@@ -96,11 +92,11 @@ beyond-a =
       start = refl;
       horizon = refl;
       rules = λ i k l g.
-          two (λ j. ruleAt strayA j k ≡ ruleAt schemeA j k)
+          below-two (λ j. ruleAt strayA j k ≡ ruleAt schemeA j k)
           (three (λ q. ruleAt strayA 0 q ≡ ruleAt schemeA 0 q) refl refl refl k g)
           (three (λ q. ruleAt strayA 1 q ≡ ruleAt schemeA 1 q) refl refl refl k g)
           i l;
       lowers = λ i k l g. three (λ q. lowerAt strayA i q ≡ lowerAt schemeA i q) refl refl refl k g;
       uppers = λ i k l g. three (λ q. upperAt strayA i q ≡ upperAt schemeA i q) refl refl refl k g;
-      premiums = λ i l. two (λ j. premiumAt strayA j ≡ premiumAt schemeA j) refl refl i l;
+      premiums = λ i l. below-two (λ j. premiumAt strayA j ≡ premiumAt schemeA j) refl refl i l;
     }

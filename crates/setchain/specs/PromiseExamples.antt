@@ -3,7 +3,6 @@ use Prim.Native.Nat.{ℕ, zero, suc, _+_, _*_, _≤_, _<_}
 use mathlib.Core.Path.{_≡_, refl}
 use mathlib.Core.List.{List, [], _∷_}
 use native.Mathlib.Omega.{arith}
-use native.Mathlib.Nat.{mul-le-mul-right}
 use Rattle.setchain.specs.Sums.{sumTo, onlyIf}
 use Rattle.setchain.specs.Fractions.{Fraction, whole, sumFractions}
 use Rattle.setchain.specs.Rows.{ONE, IntervalRow, Row, Inside, SoundRow, SoundChain}
@@ -11,8 +10,8 @@ use Rattle.setchain.specs.Picks.{Matrix, InsideEach, none, also, PicksFo
 use Rattle.setchain.specs.Promise.{shareInParts, Between, Near}
 use Rattle.setchain.specs.Step.{roomBefore, fillRow, lowStep, highStep}
 use Rattle.setchain.specs.Years.{lowYears, highYears, lowShare, highShare, lowMean, highMean}
-use Rattle.setchain.specs.Laws.Fractions.{Proper}
-use Rattle.setchain.specs.Theorems.{share-promise, mean-promise, exact-proper}
+use Rattle.setchain.specs.Laws.Sums.{below-two}
+use Rattle.setchain.specs.Theorems.{low-to-bound, bound-to-high, share-promise, mean-promise, exact-proper}
 use Rattle.setchain.specs.Examples.{from, chainA, premiumA}
 
 -- a numerator over a denominator
@@ -73,12 +72,6 @@ picksA = firstYear ∷ secondYear ∷ []
 abbrev outsideYear : Matrix
 outsideYear i = elim i [ zero ↦ pair 1 1 0 | suc k ↦ pair 3 2 1 ]
 
--- a fact at both of two states is one at each state below 2
-both : (P : ℕ → Type 0) → P 0 → P 1 → (i : ℕ) → i < 2 → P i
-both P p q zero l = p
-both P p q (suc zero) l = q
-both P p q (suc (suc i)) l = absurd (omega arith)
-
 -- a row over two states, entry by entry
 module _ (r : IntervalRow) (m a b : ℕ) where
   inside-two : 1 ≤ m → a + b ≡ m → r .lower 0 * m ≤ a * ONE → a * ONE ≤ r .upper 0 * m → r .lower 1 * m ≤ b * ONE → b * ONE ≤ r .upper 1 * m
@@ -88,8 +81,8 @@ module _ (r : IntervalRow) (m a b : ℕ) where
       record {
         positive = positive;
         sums = omega arith;
-        above = both (λ j. r .lower j * m ≤ from (a ∷ b ∷ []) j * ONE) above₀ above₁;
-        below = both (λ j. from (a ∷ b ∷ []) j * ONE ≤ r .upper j * m) below₀ below₁;
+        above = below-two (λ j. r .lower j * m ≤ from (a ∷ b ∷ []) j * ONE) above₀ above₁;
+        below = below-two (λ j. from (a ∷ b ∷ []) j * ONE ≤ r .upper j * m) below₀ below₁;
       }
 
 -- what lies inside: rows over 1, 5, 20 and 7, also where an entry is at an end; and what does not: a row that does not sum to M, entries below a lower and above an upper end, and no row over 0
@@ -136,8 +129,8 @@ picks-examples =
       two = record {
         years = refl;
         inside =
-            also (both (λ i. Inside 2 (chainA .row i) (firstYear i)) (inside-examples .overOne) (inside-examples .overFive))
-            (also (both (λ i. Inside 2 (chainA .row i) (secondYear i)) (inside-examples .overTwenty) (inside-examples .overSeven)) none);
+            also (below-two (λ i. Inside 2 (chainA .row i) (firstYear i)) (inside-examples .overOne) (inside-examples .overFive))
+            (also (below-two (λ i. Inside 2 (chainA .row i) (secondYear i)) (inside-examples .overTwenty) (inside-examples .overSeven)) none);
       };
       notOne = λ h. omega (arith, h .years);
       notThree = λ h. omega (arith, h .years);
@@ -150,20 +143,20 @@ picks-examples =
     no-last (also inside rest) = no-outside rest
 
 -- the value of a fraction whose denominator is not 0
-pub record Value (x : Fraction) (num den : ℕ) : Type 0 where
+pub record HasValue (x : Fraction) (num den : ℕ) : Type 0 where
   pub proper : 0 < x .den
   pub same : x .num * den ≡ num * x .den
 
 -- the exact figures that these picks bring from class 2: four fifths and one fifth after a year, then 163 and 12 of 175; the mean 72,400 / 7 cents, and the total 15,000 + 11,000 cents
 pub record ExactA : Type 0 where
-  pub share1 : Value (exactShare 2 0 picksA 1) 163 175
-  pub share2 : Value (exactShare 2 1 picksA 1) 12 175
-  pub yearOne : Value (exactShare 2 0 (firstYear ∷ []) 1) 4 5
-  pub yearNone : Value (exactShare 2 1 [] 1) 1 1
-  pub yearNoneElsewhere : Value (exactShare 2 0 [] 1) 0 1
-  pub parts : Value (shareInParts 2 0 (firstYear ∷ []) 1) 800000000 1
-  pub mean : Value (exactMean 2 premiumA picksA 1) 72400 7
-  pub total : Value (exactTotal 2 premiumA picksA 1) 26000 1
+  pub share1 : HasValue (exactShare 2 0 picksA 1) 163 175
+  pub share2 : HasValue (exactShare 2 1 picksA 1) 12 175
+  pub yearOne : HasValue (exactShare 2 0 (firstYear ∷ []) 1) 4 5
+  pub yearNone : HasValue (exactShare 2 1 [] 1) 1 1
+  pub yearNoneElsewhere : HasValue (exactShare 2 0 [] 1) 0 1
+  pub parts : HasValue (shareInParts 2 0 (firstYear ∷ []) 1) 800000000 1
+  pub mean : HasValue (exactMean 2 premiumA picksA 1) 72400 7
+  pub total : HasValue (exactTotal 2 premiumA picksA 1) 26000 1
 
 pub exact-a : ExactA
 unfolding exactTotal exactMean product sumFractions onlyIf
@@ -179,23 +172,15 @@ exact-a =
       total = record { proper = omega arith; same = refl };
     }
 
--- a figure from low to high is not near a bound that lies more than t below low, or more than t above high
-module _ {t bound low high : ℕ} {x : Fraction} (proper : Proper x) (between : Between low high x) (near : Near t bound x) where
-  pub far-below : bound + t < low → ⊥
-  far-below far = omega (arith, between .least, near .under, mul-le-mul-right (x .den) far)
-
-  pub far-above : high + t < bound → ⊥
-  far-above far = omega (arith, between .most, near .over, mul-le-mul-right (x .den) far)
-
 sound-a : SoundChain chainA
 unfolding sumTo
-sound-a = both (λ i. SoundRow 2 (chainA .row i)) first second
+sound-a = below-two (λ i. SoundRow 2 (chainA .row i)) first second
   where
     first : SoundRow 2 (chainA .row 0)
     first =
         record {
-          ordered = both (λ j. chainA .row 0 .lower j ≤ chainA .row 0 .upper j) (omega arith) (omega arith);
-          capped = both (λ j. chainA .row 0 .upper j ≤ ONE) (omega arith) (omega arith);
+          ordered = below-two (λ j. chainA .row 0 .lower j ≤ chainA .row 0 .upper j) (omega arith) (omega arith);
+          capped = below-two (λ j. chainA .row 0 .upper j ≤ ONE) (omega arith) (omega arith);
           lowers = omega arith;
           uppers = omega arith;
         }
@@ -203,8 +188,8 @@ sound-a = both (λ i. SoundRow 2 (chainA .row i)) first second
     second : SoundRow 2 (chainA .row 1)
     second =
         record {
-          ordered = both (λ j. chainA .row 1 .lower j ≤ chainA .row 1 .upper j) (omega arith) (omega arith);
-          capped = both (λ j. chainA .row 1 .upper j ≤ ONE) (omega arith) (omega arith);
+          ordered = below-two (λ j. chainA .row 1 .lower j ≤ chainA .row 1 .upper j) (omega arith) (omega arith);
+          capped = below-two (λ j. chainA .row 1 .upper j ≤ ONE) (omega arith) (omega arith);
           lowers = omega arith;
           uppers = omega arith;
         }
@@ -228,8 +213,8 @@ worthless-a ps picks =
     let share = share-promise chainA sound-a 0 1 .contains ps picks 1 (omega arith) in
     let mean = mean-promise chainA sound-a premiumA 1 .contains ps picks 1 (omega arith) in
     record {
-      zero = λ near. far-below (proper .0) share near (omega (arith, year-one .0));
-      one = λ near. far-above (proper .0) share near (omega (arith, year-one .1));
-      lowest = λ near. far-below (proper .1) mean near (omega (arith, year-one .2));
-      highest = λ near. far-above (proper .1) mean near (omega (arith, year-one .3));
+      zero = λ near. omega (arith, low-to-bound (proper .0) share near, year-one .0);
+      one = λ near. omega (arith, bound-to-high (proper .0) share near, year-one .1);
+      lowest = λ near. omega (arith, low-to-bound (proper .1) mean near, year-one .2);
+      highest = λ near. omega (arith, bound-to-high (proper .1) mean near, year-one .3);
     }

@@ -4,7 +4,7 @@ use mathlib.Core.Path.{sym, subst}
 use mathlib.Core.List.{List}
 use lib.ListN.{length}
 use native.Mathlib.Omega.{arith}
-use native.Mathlib.Nat.{le-refl, le-of-eq, mul-pos, mul-le-mul-right}
+use native.Mathlib.Nat.{le-refl, le-of-eq, mul-pos, mul-le-mul-right, le-of-mul-le-mul-right}
 use Rattle.setchain.specs.Fractions.{Fraction, whole, _≼_}
 use Rattle.setchain.specs.Rows.{SetChain, SoundChain}
 use Rattle.setchain.specs.Years.{lowYears, highYears, nothing, sharePayoff, lowShare, highShare, lowMean, highMean, lowTotal, highTotal}
@@ -23,6 +23,14 @@ near-high t b x h k = record { under = omega arith; over = omega (arith, mul-le-
   where
     cover : (t b : ℕ) → b ≤ b - t + t
     cover t b = omega arith
+
+-- a figure from low to high that is near a bound: low lies at most t above the bound, and the bound at most t above high
+module _ {t bound low high : ℕ} {x : Fraction} (proper : Proper x) (between : Between low high x) (near : Near t bound x) where
+  pub low-to-bound : low ≤ bound + t
+  low-to-bound = le-of-mul-le-mul-right {k = x .den} (omega (arith, between .least, near .under)) proper
+
+  pub bound-to-high : bound ≤ high + t
+  bound-to-high = le-of-mul-le-mul-right {k = x .den} (omega (arith, between .most, near .over)) proper
 
 module _ (c : SetChain) (sound : SoundChain c) where
   -- from the recursion's value to any figure of the same value

@@ -13,9 +13,9 @@ use Rattle.sheet_lines.specs.Answer.{roomFor, sheetAnswer, TextPromise}
 use Rattle.sheet_lines.specs.Laws.Room.{roomy}
 use Rattle.sheet_lines.specs.Laws.Cut.{cut-text}
 use Rattle.sheet_text.specs.Laws.Answer.{answer-written}
-use Rattle.sheet.specs.Program.{Buffers, Composed}
+use Rattle.sheet.specs.Program.{ComposePre, ComposePost}
 
-module _ {input : List ℕ} {n : ℕ} {out : List ℕ} (w : Buffers input n out) where
+module _ {input : List ℕ} {n : ℕ} {out : List ℕ} (w : ComposePre input n out) where
   -- no sheet is declined for want of room
   enough : roomFor (take n input) ≤ length out
   enough = le-trans (roomy (take n input) .most) (w .room)
@@ -24,7 +24,7 @@ module _ {input : List ℕ} {n : ℕ} {out : List ℕ} (w : Buffers input n out)
     answered : writeNumber r ≡ 0
     answered = ap writeNumber answer ∙ answer-written (take n input) out enough .0
 
-    pub composed : {after : List ℕ} → length after ≡ length out → TextPromise (take n input) after r → Composed input n after (writtenLength r)
+    pub composed : {after : List ℕ} → length after ≡ length out → TextPromise (take n input) after r → ComposePost input n after (writtenLength r)
     composed same promise =
         record {
           within = omega (arith, same, ap writtenLength answer ∙ answer-written (take n input) out enough .1, roomy (take n input) .enough, enough);

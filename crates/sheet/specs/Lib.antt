@@ -1,2 +1,3 @@
--- What the program's core takes, and what it leaves to be printed.
+-- What the program's core takes and leaves to be printed, then worked cases.
 pub mod Program
+pub mod Examples

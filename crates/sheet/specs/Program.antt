@@ -7,13 +7,13 @@ use Rattle.big_endian.specs.Numbers.{Bytes}
 use Rattle.sheet_lines.specs.Sheet.{sheetText}
 
 -- the n bytes that were read, in a buffer of one byte more than a record's length field can say, and a buffer with room for any sheet
-pub record Buffers (input : List ℕ) (n : ℕ) (out : List ℕ) : Type 0 where
+pub record ComposePre (input : List ℕ) (n : ℕ) (out : List ℕ) : Type 0 where
   pub within : n ≤ length input
   pub enough : 65536 ≤ length input
   pub room : 132862 ≤ length out
 
 -- what is printed, the first r bytes of the buffer afterwards
-pub record Composed (input : List ℕ) (n : ℕ) (after : List ℕ) (r : ℕ) : Type 0 where
+pub record ComposePost (input : List ℕ) (n : ℕ) (after : List ℕ) (r : ℕ) : Type 0 where
   pub within : r ≤ length after
   -- it is the sheet of the bytes that were read
   pub text : take r after ≡ sheetText (take n input)

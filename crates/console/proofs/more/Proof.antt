@@ -1,7 +1,7 @@
 -- `more` puts what one read brought behind the bytes that are there, and changes no other.
 -- Assumes nothing.
 use borrow.Author.Needs.{needs}
-use Rattle.console.proofs.Filling.{filled-copy}
+use Rattle.console.proofs.Reading.{read-copied}
 use Rattle.console.proofs.more.Statement.{statement}
 use Rattle.console.proofs.more.Tie as tie
 
@@ -34,7 +34,7 @@ returns c =
     let at-copy = c .before .before in
     let at-smaller = at-copy .before .before .before in
     let start = at-smaller .before .before .before .before .before .before in
-    rw (at-copy .copy .ensures) (filled-copy (start .args .buffer .now) (start .args .done) _ (at-smaller .smaller .result) (start .pre) (at-smaller .smaller .ensures .1))
+    rw (at-copy .copy .ensures) (read-copied (start .args .buffer .now) (start .args .done) _ (at-smaller .smaller .result) (start .pre) (at-smaller .smaller .ensures .1))
 
 pub more-spec : {M : Type 1} → statement M
 more-spec =

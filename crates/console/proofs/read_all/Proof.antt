@@ -4,19 +4,19 @@ use Prim.Native.Nat.{_-_}
 use mathlib.Core.Path.{_∙_}
 use native.Mathlib.Omega.{arith}
 use lib.ListN.{length}
-use Rattle.console.specs.Input.{Filled}
-use Rattle.console.proofs.Filling.{filled-none, filled-more}
+use Rattle.console.specs.Input.{ReadInto}
+use Rattle.console.proofs.Reading.{read-none, read-more}
 use Rattle.console.proofs.read_all.Statement.{statement}
 use Rattle.console.proofs.read_all.Tie as tie
 
 abbrev Inv-loop : tie.InvT-loop
-Inv-loop buffer₀ done₀ buffer done = Filled 0 buffer₀ buffer done
+Inv-loop buffer₀ done₀ buffer done = ReadInto 0 buffer₀ buffer done
 
 abbrev μ-loop : tie.MeasureT-loop
 μ-loop buffer₀ done₀ buffer done = length buffer - done
 
 loop-holds : tie.Need-loop-holds Inv-loop μ-loop
-loop-holds c = filled-none 0 _
+loop-holds c = read-none 0 _
 
 more-requires : tie.Need-more-requires Inv-loop μ-loop
 more-requires c κs = omega arith
@@ -31,7 +31,7 @@ returns : tie.Need-returns Inv-loop μ-loop
 returns c =
     let at-more = c .before .before .before .before in
     let at-loop = at-more .before .before .before in
-    filled-more (at-loop .loop .inv) (at-more .more .ensures) (omega arith)
+    read-more (at-loop .loop .inv) (at-more .more .ensures) (omega arith)
 
 add-done : tie.Need-add-done Inv-loop μ-loop
 add-done c =
@@ -48,7 +48,7 @@ loop-again : tie.Need-loop-again Inv-loop μ-loop
 loop-again c =
     let at-more = c .before .before .before .before .before in
     let at-loop = at-more .before .before .before in
-    filled-more (at-loop .loop .inv) (at-more .more .ensures) (omega arith)
+    read-more (at-loop .loop .inv) (at-more .more .ensures) (omega arith)
 
 same-length-2 : tie.Need-same-length-2 Inv-loop μ-loop
 same-length-2 c = c .before .loop .inv .size

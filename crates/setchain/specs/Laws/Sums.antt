@@ -47,6 +47,12 @@ eqb-flip a b = by (ℕ-discrete a b)
 pub below-pred : (P : ℕ → Type 0) (n : ℕ) → ((j : ℕ) → j < suc n → P j) → (j : ℕ) → j < n → P j
 below-pred P n h j l = h j (le-step l)
 
+-- a fact at each of two indices
+pub below-two : (P : ℕ → Type 0) → P 0 → P 1 → (j : ℕ) → j < 2 → P j
+below-two P p q zero l = p
+below-two P p q (suc zero) l = q
+below-two P p q (suc (suc j)) l = absurd (omega arith)
+
 pub sumTo-eq : (n : ℕ) (f g : ℕ → ℕ) → ((j : ℕ) → j < n → f j ≡ g j) → sumTo n f ≡ sumTo n g
 unfolding sumTo
 sumTo-eq zero f g h = refl

@@ -41,31 +41,27 @@ told-room enough fits = record { fits = omega arith }
 -- any bytes
 module _ (bytes : List ℕ) where
   -- what `sheet` ensures
-  abbrev Answered : (out after : List ℕ) → WriteAnswer → Type 0
-  Answered out after r = (r ≡ sheetAnswer bytes out) × ((after ≡ sheetLeaves bytes out) × TextPromise bytes after r)
+  abbrev Ensured : (out after : List ℕ) → WriteAnswer → Type 0
+  Ensured out after r = (r ≡ sheetAnswer bytes out) × ((after ≡ sheetLeaves bytes out) × TextPromise bytes after r)
 
-  keeps : (out : List ℕ) {after : List ℕ} {r : WriteAnswer} → r ≡ sheetAnswer bytes out → after ≡ sheetLeaves bytes out → Answered out after r
+  keeps : (out : List ℕ) {after : List ℕ} {r : WriteAnswer} → r ≡ sheetAnswer bytes out → after ≡ sheetLeaves bytes out → Ensured out after r
   keeps out e f = (e, (f, rw (e, f) (text-kept bytes out)))
 
   -- the answer for bytes with a cause, and without
   pub sheet-refused : {n : ℕ} {out after : List ℕ} {r : WriteAnswer} → n ≡ readCause bytes → (n ≡ 0 → ⊥) → Told 11 (refusedLine n) out after r
-      → Answered out after r
+      → Ensured out after r
   unfolding sheetAnswer sheetLeaves
   sheet-refused {out = out} e some told =
       let cause : readCause bytes ≡ 0 → ⊥ = λ z. some (e ∙ z) in
       keeps out (rw (text-refused bytes cause, room-refused bytes cause, ← e) (told .answer)) (rw (text-refused bytes cause, room-refused bytes cause, ← e) (told .leaves))
 
   pub sheet-accepted : {s : Scheme} {out after : List ℕ} {r : WriteAnswer} → readCause bytes ≡ 0 → s ≡ schemeIn version1 bytes → Told (roomOf s) (sheetOf s) out after r
-      → Answered out after r
+      → Ensured out after r
   unfolding sheetAnswer sheetLeaves
   sheet-accepted {out = out} none e told =
       keeps out (rw (text-accepted bytes none, room-accepted bytes none, ← e) (told .answer)) (rw (text-accepted bytes none, room-accepted bytes none, ← e) (told .leaves))
 
   -- the number and the value of the answer
-  pub answer-short : (out : List ℕ) → length out < roomFor bytes → writeNumber (sheetAnswer bytes out) ≡ 13
-  unfolding sheetAnswer
-  answer-short out short = rw (lt-ltb (length out) (roomFor bytes) short)
-
   pub answer-written : (out : List ℕ) → roomFor bytes ≤ length out → (writeNumber (sheetAnswer bytes out) ≡ 0) × (writtenLength (sheetAnswer bytes out) ≡ length (sheetText bytes))
   unfolding sheetAnswer
   answer-written out enough = (rw (le-ltb (length out) (roomFor bytes) enough), rw (le-ltb (length out) (roomFor bytes) enough))

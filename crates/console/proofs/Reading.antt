@@ -11,14 +11,14 @@ use lib.ListN.{length, take, drop, length-append}
 use lib.Seq.{sets, length-sets, sets-eq, length-take-le, take-at, drop-at, drop-drop}
 use Rattle.big_endian.specs.Numbers.{partPut}
 use Rattle.big_endian.specs.Laws.{part-held}
-use Rattle.console.specs.Input.{Filled}
+use Rattle.console.specs.Input.{ReadInto}
 
 -- nothing read
-pub filled-none : (done : ℕ) (buffer : List ℕ) → Filled done buffer buffer 0
-filled-none done buffer = record { size = refl; within = omega arith; front = refl; rest = refl }
+pub read-none : (done : ℕ) (buffer : List ℕ) → ReadInto done buffer buffer 0
+read-none done buffer = record { size = refl; within = omega arith; front = refl; rest = refl }
 
 -- a list laid behind the first `done` bytes
-laid : (buffer : List ℕ) (done : ℕ) (text : List ℕ) → done + length text ≤ length buffer → Filled done buffer (sets buffer done text) (length text)
+laid : (buffer : List ℕ) (done : ℕ) (text : List ℕ) → done + length text ≤ length buffer → ReadInto done buffer (sets buffer done text) (length text)
 laid buffer done text fits =
     let first : length (take done buffer) ≡ done = length-take-le done buffer (omega arith) in
     let is : sets buffer done text ≡ take done buffer ++ text ++ drop (done + length text) buffer = sets-eq text buffer done fits in
@@ -30,20 +30,20 @@ laid buffer done text fits =
     }
 
 -- a chunk's first bytes copied there
-pub filled-copy : (buffer : List ℕ) (done : ℕ) (chunk : List ℕ) (count : ℕ) → done ≤ length buffer → count ≤ length buffer - done
-    → Filled done buffer (partPut count chunk 0 buffer done) count
+pub read-copied : (buffer : List ℕ) (done : ℕ) (chunk : List ℕ) (count : ℕ) → done ≤ length buffer → count ≤ length buffer - done
+    → ReadInto done buffer (partPut count chunk 0 buffer done) count
 unfolding partPut
-filled-copy buffer done chunk count inside fits = by (decLe count (length chunk))
+read-copied buffer done chunk count inside fits = by (decLe count (length chunk))
   where
-    by : Dec (count ≤ length chunk) → Filled done buffer (partPut count chunk 0 buffer done) count
-    by (yes held) = subst (λ n. Filled done buffer (partPut count chunk 0 buffer done) n) (length-take-le count chunk held)
+    by : Dec (count ≤ length chunk) → ReadInto done buffer (partPut count chunk 0 buffer done) count
+    by (yes held) = subst (λ n. ReadInto done buffer (partPut count chunk 0 buffer done) n) (length-take-le count chunk held)
         (rw (part-held count chunk 0 buffer done (omega arith) (omega arith)) (laid buffer done (take count chunk) (omega (arith, length-take-le count chunk held))))
     by (no out) = rw (lt-leb (0 + count) (length chunk) (omega arith)) (record { size = refl; within = fits; front = refl; rest = refl })
 
 -- one read more, after `done` bytes from the front on
-pub filled-more : {before buffer after : List ℕ} {done count sum : ℕ} → Filled 0 before buffer done → Filled done buffer after count → done + count ≡ sum → Filled 0 before after sum
-filled-more {before} {buffer} {after} {done} {count} w v is =
-    subst (Filled 0 before after) is
+pub read-more : {before buffer after : List ℕ} {done count sum : ℕ} → ReadInto 0 before buffer done → ReadInto done buffer after count → done + count ≡ sum → ReadInto 0 before after sum
+read-more {before} {buffer} {after} {done} {count} w v is =
+    subst (ReadInto 0 before after) is
     (let behind : drop done buffer ≡ drop done before = rw zero-add at (w .rest) in
     record {
       size = v .size ∙ w .size;
