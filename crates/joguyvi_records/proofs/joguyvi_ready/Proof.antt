@@ -21,9 +21,11 @@ returns c =
 
 put-record-requires : tie.Need-put-record-requires
 put-record-requires c κs =
+    let at-if1 = c .before .before in
+    let at-ready = c .before .before .before in
     let start = c .before .before .before .before .before .before in
-    let is = c .before .before .before .ready .ensures in
-    let none = c .before .before .if1 .left in
+    let is = at-ready .ready .ensures in
+    let none = at-if1 .if1 .left in
     ap (λ r. causeOf (r .scheme)) is ∙ cause-accepted _ (answered-accepted (start .args .number) (start .args .base) (sym (ap (λ r. r .number) is) ∙ none))
 
 same-length : tie.Need-same-length
@@ -34,11 +36,14 @@ same-length-2 c = search needs
 
 returns-2 : tie.Need-returns-2
 returns-2 c =
+    let at-put-record = c .before .before .before .before in
+    let at-if1 = c .before .before .before .before .before .before .before in
+    let at-ready = c .before .before .before .before .before .before .before .before in
     let start = c .before .before .before .before .before .before .before .before .before .before .before in
     let a = readyAnswer (start .args .number) (start .args .base) in
-    let is = c .before .before .before .before .before .before .before .before .ready .ensures in
-    let none = c .before .before .before .before .before .before .before .if1 .left in
-    record-passed (a .number) (a .scheme) (start .args .out .now) (start .args .length .now) _ (sym (ap (λ r. r .number) is) ∙ none) (ap (λ r. r .scheme) is) (c .before .before .before .before .put-record .ensures)
+    let is = at-ready .ready .ensures in
+    let none = at-if1 .if1 .left in
+    record-passed (a .number) (a .scheme) (start .args .out .now) (start .args .length .now) _ (sym (ap (λ r. r .number) is) ∙ none) (ap (λ r. r .scheme) is) (at-put-record .put-record .ensures)
 
 pub joguyvi-ready-spec : {M : Type 1} → statement M
 joguyvi-ready-spec =

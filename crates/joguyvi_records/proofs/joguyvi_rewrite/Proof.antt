@@ -26,10 +26,12 @@ returns c =
 
 put-record-requires : tie.Need-put-record-requires
 put-record-requires c κs =
+    let at-if1 = c .before .before in
+    let at-read = c .before .before .before in
     let start = c .before .before .before .before .before .before .before in
     let bytes = start .args .bytes .now in
-    let is = c .before .before .before .read .ensures in
-    let none = c .before .before .if1 .left in
+    let is = at-read .read .ensures in
+    let none = at-if1 .if1 .left in
     ap causeOf (read-in bytes is none) ∙ second-none (frameCause bytes) (causeOf (schemeIn version1 bytes)) (read-passed bytes is none)
 
 same-length : tie.Need-same-length
@@ -40,14 +42,17 @@ same-length-2 c = search needs
 
 returns-2 : tie.Need-returns-2
 returns-2 c =
+    let at-put-record = c .before .before .before .before in
+    let at-if1 = c .before .before .before .before .before .before .before in
+    let at-read = c .before .before .before .before .before .before .before .before in
     let entry = c .before .before .before .before .before .before .before .before .before .before .before in
     let bytes = entry .before .args .bytes .now in
     let out = entry .before .args .out .now in
     let size = entry .before .args .length .now in
-    let is = c .before .before .before .before .before .before .before .before .read .ensures in
-    let none = c .before .before .before .before .before .before .before .if1 .left in
+    let is = at-read .read .ensures in
+    let none = at-if1 .if1 .left in
     let passed = read-passed bytes is none in
-    let told = record-passed (readCause bytes) (schemeIn version1 bytes) out size _ passed (read-in bytes is none) (c .before .before .before .before .put-record .ensures) in
+    let told = record-passed (readCause bytes) (schemeIn version1 bytes) out size _ passed (read-in bytes is none) (at-put-record .put-record .ensures) in
     (told .0, (told .1 .0, (told .1 .1, same-passed bytes out size (λ k. omega (arith, entry .shared-slice-known .given k)) passed told)))
 
 pub joguyvi-rewrite-spec : {M : Type 1} → statement M

@@ -20,15 +20,20 @@ read-requires c κs = search needs
 
 returns : tie.Need-returns
 returns c =
-    let start = c .before .before .before .before .before .args in
-    let s = schemeIn version1 (start .bytes .now) in
-    pair-stopped (lowerBands s) (upperBands s) _ _ (buffersCause (columnsIn (start .bytes .now)) (start .lower .now) (start .upper .now)) (read-cause (start .bytes .now) (c .before .read .ensures)) (c .if1 .taken)
+    let start = c .before .before .before .before .before in
+    let s = schemeIn version1 (start .args .bytes .now) in
+    pair-stopped (lowerBands s) (upperBands s) _ _
+    (buffersCause (columnsIn (start .args .bytes .now)) (start .args .lower .now) (start .args .upper .now))
+    (read-cause (start .args .bytes .now) (c .before .read .ensures)) (c .if1 .taken)
 
 put-bands-requires : tie.Need-put-bands-requires
 put-bands-requires c κs =
-    let bytes = c .before .before .before .before .before .before .before .args .bytes .now in
-    let is = c .before .before .before .read .ensures in
-    let none = c .before .before .if1 .left in
+    let at-if1 = c .before .before in
+    let at-read = at-if1 .before in
+    let start = at-read .before .before .before .before in
+    let bytes = start .args .bytes .now in
+    let is = at-read .read .ensures in
+    let none = at-if1 .if1 .left in
     accepted-cause _ (ap causeOf (read-in bytes is none) ∙ second-none (frameCause bytes) (causeOf (schemeIn version1 bytes)) (read-passed bytes is none)) .size .columns
 
 same-length : tie.Need-same-length
@@ -39,12 +44,16 @@ same-length-2 c = search needs
 
 returns-2 : tie.Need-returns-2
 returns-2 c =
-    let start = c .before .before .before .before .before .before .before .before .before .before .before .before .args in
-    let bytes = start .bytes .now in
-    let is = c .before .before .before .before .before .before .before .before .read .ensures in
-    let none = c .before .before .before .before .before .before .before .if1 .left in
+    let at-put-bands = c .before .before .before .before in
+    let at-if1 = at-put-bands .before .before .before in
+    let at-read = at-if1 .before in
+    let start = at-read .before .before .before .before in
+    let bytes = start .args .bytes .now in
+    let is = at-read .read .ensures in
+    let none = at-if1 .if1 .left in
     let s = schemeIn version1 bytes in
-    pair-passed (lowerBands s) (upperBands s) (start .lower .now) (start .upper .now) (read-passed bytes is none) (bands-same bytes _ _ _ (read-in bytes is none) (c .before .before .before .before .put-bands .ensures))
+    pair-passed (lowerBands s) (upperBands s) (start .args .lower .now) (start .args .upper .now) (read-passed bytes is none)
+    (bands-same bytes _ _ _ (read-in bytes is none) (at-put-bands .put-bands .ensures))
 
 pub joguyvi-bands-spec : {M : Type 1} → statement M
 joguyvi-bands-spec =

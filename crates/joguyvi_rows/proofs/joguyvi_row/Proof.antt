@@ -15,9 +15,9 @@ read-requires c κs = search needs
 
 returns : tie.Need-returns
 returns c =
-    let start = c .before .before .before .before .before .args in
-    let row = rowIn (start .bytes .now) (start .class) in
-    pair-stopped (row .lower) (row .upper) _ _ (putRowNumber row (start .lower .now) (start .upper .now)) (read-cause (start .bytes .now) (c .before .read .ensures)) (c .if1 .taken)
+    let start = c .before .before .before .before .before in
+    let row = rowIn (start .args .bytes .now) (start .args .class) in
+    pair-stopped (row .lower) (row .upper) _ _ (putRowNumber row (start .args .lower .now) (start .args .upper .now)) (read-cause (start .args .bytes .now) (c .before .read .ensures)) (c .if1 .taken)
 
 row-requires : tie.Need-row-requires
 row-requires c κs = search needs
@@ -33,13 +33,17 @@ same-length-2 c = search needs
 
 returns-2 : tie.Need-returns-2
 returns-2 c =
-    let start = c .before .before .before .before .before .before .before .before .before .before .before .before .before .args in
-    let bytes = start .bytes .now in
-    let is = c .before .before .before .before .before .before .before .before .before .read .ensures in
-    let none = c .before .before .before .before .before .before .before .before .if1 .left in
-    let row = rowIn bytes (start .class) in
-    pair-passed (row .lower) (row .upper) (start .lower .now) (start .upper .now) (read-passed bytes is none)
-    (row-same _ row _ _ (c .before .before .before .before .before .before .before .row .ensures ∙ ap (λ s. rowAnswer s (start .class)) (read-in bytes is none)) (c .before .before .before .before .put-row .ensures))
+    let at-put-row = c .before .before .before .before in
+    let at-row = at-put-row .before .before .before in
+    let at-if1 = at-row .before in
+    let at-read = at-if1 .before in
+    let start = at-read .before .before .before .before in
+    let bytes = start .args .bytes .now in
+    let is = at-read .read .ensures in
+    let none = at-if1 .if1 .left in
+    let row = rowIn bytes (start .args .class) in
+    pair-passed (row .lower) (row .upper) (start .args .lower .now) (start .args .upper .now) (read-passed bytes is none)
+    (row-same _ row _ _ (at-row .row .ensures ∙ ap (λ s. rowAnswer s (start .args .class)) (read-in bytes is none)) (at-put-row .put-row .ensures))
 
 pub joguyvi-row-spec : {M : Type 1} → statement M
 joguyvi-row-spec =

@@ -10,7 +10,9 @@ cause-requires : tie.Need-cause-requires
 cause-requires c κs = search needs
 
 returns : tie.Need-returns
-returns c = rule-row-stopped (c .before .before .before .before .args .bytes .now) (c .before .before .before .before .args .class) (c .before .before .before .before .args .out .now) (c .before .cause .ensures) (c .if1 .taken)
+returns c =
+    let start = c .before .before .before .before in
+    rule-row-stopped (start .args .bytes .now) (start .args .class) (start .args .out .now) (c .before .cause .ensures) (c .if1 .taken)
 
 rule-row-requires : tie.Need-rule-row-requires
 rule-row-requires c κs = search needs
@@ -23,8 +25,13 @@ same-length c = search needs
 
 returns-2 : tie.Need-returns-2
 returns-2 c =
-    let start = c .before .before .before .before .before .before .before .before .before .args in
-    rule-row-passed (start .bytes .now) (start .class) (start .out .now) (sym (c .before .before .before .before .before .before .cause .ensures) ∙ c .before .before .before .before .before .if1 .left) (part-same (start .out .now) (c .before .before .before .before .rule-row .ensures) (c .before .before .put-part .ensures))
+    let at-put-part = c .before .before in
+    let at-rule-row = at-put-part .before .before in
+    let at-if1 = at-rule-row .before in
+    let at-cause = at-if1 .before in
+    let start = at-cause .before .before .before in
+    rule-row-passed (start .args .bytes .now) (start .args .class) (start .args .out .now) (sym (at-cause .cause .ensures) ∙ at-if1 .if1 .left)
+    (part-same (start .args .out .now) (at-rule-row .rule-row .ensures) (at-put-part .put-part .ensures))
 
 pub joguyvi-rule-row-spec : {M : Type 1} → statement M
 joguyvi-rule-row-spec =

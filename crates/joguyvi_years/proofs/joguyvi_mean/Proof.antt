@@ -15,7 +15,9 @@ read-requires c κs = search needs
 returns : tie.Need-returns
 returns c =
     let start = c .before .before .before .before in
-    bounds-stopped (λ s. meanAnswer s (start .args .year)) (MeanKept (schemeIn version1 (start .args .bytes .now)) (start .args .year)) (start .args .bytes .now) (start .args .out .now) (mean-promised (start .args .bytes .now) (start .args .year) (start .args .out .now)) (c .before .read .ensures) (c .if1 .taken)
+    bounds-stopped (λ s. meanAnswer s (start .args .year)) (MeanKept (schemeIn version1 (start .args .bytes .now)) (start .args .year))
+    (start .args .bytes .now) (start .args .out .now) (mean-promised (start .args .bytes .now) (start .args .year) (start .args .out .now))
+    (c .before .read .ensures) (c .if1 .taken)
 
 mean-requires : tie.Need-mean-requires
 mean-requires c κs = search needs
@@ -28,8 +30,14 @@ same-length c = search needs
 
 returns-2 : tie.Need-returns-2
 returns-2 c =
+    let at-put-bounds = c .before .before in
+    let at-mean = c .before .before .before in
+    let at-if1 = c .before .before .before .before .before in
+    let at-read = c .before .before .before .before .before .before in
     let start = c .before .before .before .before .before .before .before .before .before in
-    bounds-passed (λ s. meanAnswer s (start .args .year)) (MeanKept (schemeIn version1 (start .args .bytes .now)) (start .args .year)) (start .args .bytes .now) (start .args .out .now) (mean-promised (start .args .bytes .now) (start .args .year) (start .args .out .now)) (c .before .before .before .before .before .before .read .ensures) (c .before .before .before .before .before .if1 .left) (c .before .before .before .mean .ensures .0) (c .before .before .put-bounds .ensures)
+    bounds-passed (λ s. meanAnswer s (start .args .year)) (MeanKept (schemeIn version1 (start .args .bytes .now)) (start .args .year))
+    (start .args .bytes .now) (start .args .out .now) (mean-promised (start .args .bytes .now) (start .args .year) (start .args .out .now))
+    (at-read .read .ensures) (at-if1 .if1 .left) (at-mean .mean .ensures .0) (at-put-bounds .put-bounds .ensures)
 
 pub joguyvi-mean-spec : {M : Type 1} → statement M
 joguyvi-mean-spec =

@@ -15,7 +15,10 @@ read-requires c κs = search needs
 returns : tie.Need-returns
 returns c =
     let start = c .before .before .before .before in
-    bounds-stopped (λ s. shareAnswer s (start .args .class) (start .args .year)) (ShareKept (schemeIn version1 (start .args .bytes .now)) (start .args .class) (start .args .year)) (start .args .bytes .now) (start .args .out .now) (share-promised (start .args .bytes .now) (start .args .year) (start .args .out .now) (start .args .class)) (c .before .read .ensures) (c .if1 .taken)
+    bounds-stopped (λ s. shareAnswer s (start .args .class) (start .args .year))
+    (ShareKept (schemeIn version1 (start .args .bytes .now)) (start .args .class) (start .args .year)) (start .args .bytes .now)
+    (start .args .out .now) (share-promised (start .args .bytes .now) (start .args .year) (start .args .out .now) (start .args .class))
+    (c .before .read .ensures) (c .if1 .taken)
 
 share-requires : tie.Need-share-requires
 share-requires c κs = search needs
@@ -28,8 +31,15 @@ same-length c = search needs
 
 returns-2 : tie.Need-returns-2
 returns-2 c =
+    let at-put-bounds = c .before .before in
+    let at-share = c .before .before .before in
+    let at-if1 = c .before .before .before .before .before in
+    let at-read = c .before .before .before .before .before .before in
     let start = c .before .before .before .before .before .before .before .before .before in
-    bounds-passed (λ s. shareAnswer s (start .args .class) (start .args .year)) (ShareKept (schemeIn version1 (start .args .bytes .now)) (start .args .class) (start .args .year)) (start .args .bytes .now) (start .args .out .now) (share-promised (start .args .bytes .now) (start .args .year) (start .args .out .now) (start .args .class)) (c .before .before .before .before .before .before .read .ensures) (c .before .before .before .before .before .if1 .left) (c .before .before .before .share .ensures .0) (c .before .before .put-bounds .ensures)
+    bounds-passed (λ s. shareAnswer s (start .args .class) (start .args .year))
+    (ShareKept (schemeIn version1 (start .args .bytes .now)) (start .args .class) (start .args .year)) (start .args .bytes .now)
+    (start .args .out .now) (share-promised (start .args .bytes .now) (start .args .year) (start .args .out .now) (start .args .class))
+    (at-read .read .ensures) (at-if1 .if1 .left) (at-share .share .ensures .0) (at-put-bounds .put-bounds .ensures)
 
 pub joguyvi-share-spec : {M : Type 1} → statement M
 joguyvi-share-spec =

@@ -24,8 +24,11 @@ same-length-2 c = search needs
 
 returns-2 : tie.Need-returns-2
 returns-2 c =
+    let at-share-sheet = c .before .before .before .before in
+    let at-if1 = c .before .before .before .before .before .before .before in
+    let at-read = c .before .before .before .before .before .before .before .before in
     let start = c .before .before .before .before .before .before .before .before .before .before .before .before in
-    shares-passed (start .args .bytes .now) (start .args .low .now) (start .args .high .now) (start .args .year) (c .before .before .before .before .before .before .before .before .read .ensures) (c .before .before .before .before .before .before .before .if1 .left) (c .before .before .before .before .share-sheet .ensures)
+    shares-passed (start .args .bytes .now) (start .args .low .now) (start .args .high .now) (start .args .year) (at-read .read .ensures) (at-if1 .if1 .left) (at-share-sheet .share-sheet .ensures)
 
 pub joguyvi-share-sheet-spec : {M : Type 1} → statement M
 joguyvi-share-sheet-spec =

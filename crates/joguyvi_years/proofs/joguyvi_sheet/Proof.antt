@@ -28,10 +28,11 @@ same-length c = search needs
 
 returns-2 : tie.Need-returns-2
 returns-2 c =
+    let at-sheet = c .before .before .before .before in
     let start = c .before .before .before .before .before .before .before .before .before .before in
     let bytes = start .args .bytes .now in
     let out = start .args .out .now in
-    let w = c .before .before .before .before .sheet .ensures in
+    let w = at-sheet .sheet .ensures in
     text-declined (writeNumber (sheetAnswer bytes out)) (writtenLength (sheetAnswer bytes out)) (sheetLeaves bytes out) out (start .args .length .now) (sheet-only bytes out) (sheet-left bytes out)
     (c .before .write-number .ensures ∙ ap writeNumber (w .0)) (c .if2 .taken) (w .1 .0)
 

@@ -32,7 +32,8 @@ slice-aggregate-compose-2 c = search needs
 
 compose-requires : tie.Need-compose-requires
 compose-requires c κs =
-    let read = c .before .before .before .before .read-all .ensures in
+    let at-read-all = c .before .before .before .before in
+    let read = at-read-all .read-all .ensures in
     record {
       within = omega (arith, read .within, read .size);
       enough = omega (arith, read .size, length-replicate {A = ℕ} 65536 0);

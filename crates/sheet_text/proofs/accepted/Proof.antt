@@ -22,25 +22,38 @@ add-room : tie.Need-add-room
 add-room c = search needs
 
 mul-room-2 : tie.Need-mul-room-2
-mul-room-2 c = omega (arith, room-coded (c .before .before .before .args .scheme) (c .before .before .before .pre), room-at-most (c .before .before .before .args .scheme) (c .before .before .before .pre))
+mul-room-2 c =
+    omega
+    (arith, room-coded (c .before .before .before .args .scheme) (c .before .before .before .pre), room-at-most (c .before .before .before .args .scheme) (c .before .before .before .pre))
 
 add-room-2 : tie.Need-add-room-2
-add-room-2 c = omega (arith, room-coded (c .before .before .before .args .scheme) (c .before .before .before .pre), room-at-most (c .before .before .before .args .scheme) (c .before .before .before .pre))
+add-room-2 c =
+    omega
+    (arith, room-coded (c .before .before .before .args .scheme) (c .before .before .before .pre), room-at-most (c .before .before .before .args .scheme) (c .before .before .before .pre))
 
 add-room-3 : tie.Need-add-room-3
-add-room-3 c = omega (arith, room-coded (c .before .before .before .args .scheme) (c .before .before .before .pre), room-at-most (c .before .before .before .args .scheme) (c .before .before .before .pre))
+add-room-3 c =
+    omega
+    (arith, room-coded (c .before .before .before .args .scheme) (c .before .before .before .pre), room-at-most (c .before .before .before .args .scheme) (c .before .before .before .pre))
 
 returns : tie.Need-returns
-returns c = told-declined (omega (arith, room-coded (c .before .before .before .before .args .scheme) (c .before .before .before .before .pre)))
+returns c =
+    let start = c .before .before .before .before in
+    told-declined (omega (arith, room-coded (start .args .scheme) (start .pre)))
 
 put-sheet-requires : tie.Need-put-sheet-requires
-put-sheet-requires c κs = (told-room (omega (arith, room-coded (c .before .before .before .before .before .args .scheme) (c .before .before .before .before .before .pre))) (sheet-within (c .before .before .before .before .before .args .scheme) (c .before .before .before .before .before .pre) .fits), c .before .before .before .before .before .pre)
+put-sheet-requires c κs =
+    let start = c .before .before .before .before .before in
+    (told-room (omega (arith, room-coded (start .args .scheme) (start .pre))) (sheet-within (start .args .scheme) (start .pre) .fits), start .pre)
 
 same-length : tie.Need-same-length
 same-length c = search needs
 
 returns-2 : tie.Need-returns-2
-returns-2 c = told-written (omega (arith, room-coded (c .before .before .before .before .before .before .before .before .args .scheme) (c .before .before .before .before .before .before .before .before .pre))) (sheet-within (c .before .before .before .before .before .before .before .before .args .scheme) (c .before .before .before .before .before .before .before .before .pre) .fits) (c .before .before .put-sheet .ensures)
+returns-2 c =
+    let at-put-sheet = c .before .before in
+    let start = at-put-sheet .before .before .before .before .before .before in
+    told-written (omega (arith, room-coded (start .args .scheme) (start .pre))) (sheet-within (start .args .scheme) (start .pre) .fits) (at-put-sheet .put-sheet .ensures)
 
 pub accepted-spec : {M : Type 1} → statement M
 accepted-spec =

@@ -16,7 +16,10 @@ same-length : tie.Need-same-length
 same-length c = search needs
 
 returns-2 : tie.Need-returns-2
-returns-2 c = told-written (omega arith) (refused-line-within _ (c .before .before .before .before .before .before .pre) .fits) (c .before .before .refused-line .ensures)
+returns-2 c =
+    let at-refused-line = c .before .before in
+    let start = at-refused-line .before .before .before .before in
+    told-written (omega arith) (refused-line-within _ (start .pre) .fits) (at-refused-line .refused-line .ensures)
 
 pub refused-spec : {M : Type 1} → statement M
 refused-spec = tie.close (tie.spec returns refused-line-requires same-length returns-2)

@@ -15,23 +15,32 @@ number : (c : tie.After-read) → c .read .result .number ≡ readCause (c .befo
 number c = ap (λ r. r .number) (c .read .ensures) ∙ read-number _
 
 -- without a cause the answer's scheme is the bytes' scheme
-none : (c : tie.Else1) → readCause (c .before .before .before .before .args .bytes .now) ≡ 0
+none : (c : tie.Else1) → let start = c .before .before .before .before in
+    readCause (start .args .bytes .now) ≡ 0
 none c = sym (number (c .before)) ∙ c .if1 .left
 
-scheme-in : (c : tie.Else1) → c .before .read .result .scheme ≡ schemeIn version1 (c .before .before .before .before .args .bytes .now)
+scheme-in : (c : tie.Else1) → let start = c .before .before .before .before in
+    c .before .read .result .scheme ≡ schemeIn version1 (start .args .bytes .now)
 scheme-in c = ap (λ r. r .scheme) (c .before .read .ensures) ∙ read-scheme _ (none c)
 
 read-requires : tie.Need-read-requires
 read-requires c κs = search needs
 
 refused-requires : tie.Need-refused-requires
-refused-requires c κs = omega (arith, number (c .before .before), read-cause-most (c .before .before .before .before .before .args .bytes .now))
+refused-requires c κs =
+    let at-place = c .before .before in
+    let start = at-place .before .before .before in
+    omega (arith, number at-place, read-cause-most (start .args .bytes .now))
 
 same-length : tie.Need-same-length
 same-length c = search needs
 
 returns : tie.Need-returns
-returns c = sheet-refused _ (number (c .before .before .before .before .before)) (c .before .before .before .before .if1 .taken) (c .before .before .refused .ensures)
+returns c =
+    let at-refused = c .before .before in
+    let at-if1 = at-refused .before .before in
+    let at-place = at-if1 .before in
+    sheet-refused _ (number at-place) (at-if1 .if1 .taken) (at-refused .refused .ensures)
 
 accepted-requires : tie.Need-accepted-requires
 accepted-requires c κs = rw (scheme-in (c .before)) (read-accepted _ (none (c .before)))
@@ -40,7 +49,10 @@ same-length-2 : tie.Need-same-length-2
 same-length-2 c = search needs
 
 returns-2 : tie.Need-returns-2
-returns-2 c = sheet-accepted _ (none (c .before .before .before .before)) (scheme-in (c .before .before .before .before)) (c .before .before .accepted .ensures)
+returns-2 c =
+    let at-accepted = c .before .before in
+    let at-place = at-accepted .before .before in
+    sheet-accepted _ (none at-place) (scheme-in at-place) (at-accepted .accepted .ensures)
 
 pub sheet-spec : {M : Type 1} → statement M
 sheet-spec =

@@ -26,10 +26,11 @@ same-length c = search needs
 
 returns-2 : tie.Need-returns-2
 returns-2 c =
+    let at-write = c .before .before .before .before in
     let start = c .before .before .before .before .before .before .before .before .before in
     let s = start .args .scheme in
     let out = start .args .out .now in
-    let w = c .before .before .before .before .write .ensures in
+    let w = at-write .write .ensures in
     text-declined (writeNumber (writeAnswer s out)) (writtenLength (writeAnswer s out)) (writeLeaves s out) out (start .args .length .now) (write-only s out (start .pre)) (write-left s out)
     (c .before .write-number .ensures ∙ ap writeNumber (w .0)) (c .if2 .taken) (w .1 .0)
 

@@ -17,20 +17,34 @@ count-requires c κs = search needs
 sizes-cause-requires : tie.Need-sizes-cause-requires
 sizes-cause-requires c κs = search needs
 
-cause : (c : tie.After-sizes-cause) → c .sizes-cause .result ≡ buffersCause (c .before .before .before .before .args .scheme .columns) (c .before .before .before .before .args .lower .now) (c .before .before .before .before .args .upper .now)
-cause c = c .sizes-cause .ensures ∙ ap (λ m. buffersCause m (c .before .before .before .before .args .lower .now) (c .before .before .before .before .args .upper .now)) (c .before .count .ensures)
+cause : (c : tie.After-sizes-cause) → let start = c .before .before .before .before in
+    c .sizes-cause .result ≡ buffersCause (start .args .scheme .columns) (start .args .lower .now) (start .args .upper .now)
+cause c =
+    let start = c .before .before .before .before in
+    c .sizes-cause .ensures ∙ ap (λ m. buffersCause m (start .args .lower .now) (start .args .upper .now)) (c .before .count .ensures)
 
-sizes : (c : tie.Else1) → (length (c .before .before .before .before .before .args .lower .now) ≡ c .before .before .before .before .before .args .scheme .columns) × (length (c .before .before .before .before .before .args .upper .now) ≡ c .before .before .before .before .before .args .scheme .columns)
-sizes c = pair-sizes (c .before .before .before .before .before .args .scheme .columns) (c .before .before .before .before .before .args .lower .now) (c .before .before .before .before .before .args .upper .now) (sym (cause (c .before)) ∙ c .if1 .left)
+sizes : (c : tie.Else1) → let start = c .before .before .before .before .before in
+    (length (start .args .lower .now) ≡ start .args .scheme .columns) × (length (start .args .upper .now) ≡ start .args .scheme .columns)
+sizes c =
+    let start = c .before .before .before .before .before in
+    pair-sizes (start .args .scheme .columns) (start .args .lower .now) (start .args .upper .now) (sym (cause (c .before)) ∙ c .if1 .left)
 
 returns : tie.Need-returns
-returns c = pair-left (lowerBands (c .before .before .before .before .before .args .scheme)) (upperBands (c .before .before .before .before .before .args .scheme)) _ _ (cause (c .before)) (c .if1 .taken)
+returns c =
+    let start = c .before .before .before .before .before in
+    pair-left (lowerBands (start .args .scheme)) (upperBands (start .args .scheme)) _ _ (cause (c .before)) (c .if1 .taken)
 
 copy-ends-requires : tie.Need-copy-ends-requires
-copy-ends-requires c κs = omega (arith, sizes (c .before .before .before) .0, c .before .before .before .before .before .before .before .before .pre)
+copy-ends-requires c κs =
+    let at-place = c .before .before .before in
+    let start = at-place .before .before .before .before .before in
+    omega (arith, sizes at-place .0, start .pre)
 
 copy-ends-requires-2 : tie.Need-copy-ends-requires-2
-copy-ends-requires-2 c κs = omega (arith, sizes (c .before .before .before .before .before .before .before) .1, c .before .before .before .before .before .before .before .before .before .before .before .before .pre)
+copy-ends-requires-2 c κs =
+    let at-place = c .before .before .before .before .before .before .before in
+    let start = at-place .before .before .before .before .before in
+    omega (arith, sizes at-place .1, start .pre)
 
 same-length : tie.Need-same-length
 same-length c = search needs
@@ -40,10 +54,15 @@ same-length-2 c = search needs
 
 returns-2 : tie.Need-returns-2
 returns-2 c =
-    let s = c .before .before .before .before .before .before .before .before .before .before .before .before .before .before .before .args .scheme in
-    pair-filled (lowerBands s) (upperBands s) (c .before .before .before .before .before .before .before .before .before .before .before .before .before .before .before .args .lower .now) (c .before .before .before .before .before .before .before .before .before .before .before .before .before .before .before .args .upper .now) (cause (c .before .before .before .before .before .before .before .before .before .before .before)) (c .before .before .before .before .before .before .before .before .before .before .if1 .left)
-    (c .before .before .before .before .before .before .copy-ends .ensures ∙ ap (λ n. tab n (λ k. getD (s .lowers) k 0)) (sizes (c .before .before .before .before .before .before .before .before .before .before) .0))
-    (c .before .before .copy-ends2 .ensures ∙ ap (λ n. tab n (λ k. getD (s .uppers) k 0)) (sizes (c .before .before .before .before .before .before .before .before .before .before) .1))
+    let at-copy-ends2 = c .before .before in
+    let at-copy-ends = at-copy-ends2 .before .before .before .before in
+    let at-if1 = at-copy-ends .before .before .before .before in
+    let at-place = at-if1 .before in
+    let start = at-place .before .before .before .before in
+    let s = start .args .scheme in
+    pair-filled (lowerBands s) (upperBands s) (start .args .lower .now) (start .args .upper .now) (cause at-place) (at-if1 .if1 .left)
+    (at-copy-ends .copy-ends .ensures ∙ ap (λ n. tab n (λ k. getD (s .lowers) k 0)) (sizes at-if1 .0))
+    (at-copy-ends2 .copy-ends2 .ensures ∙ ap (λ n. tab n (λ k. getD (s .uppers) k 0)) (sizes at-if1 .1))
 
 pub put-bands-spec : {M : Type 1} → statement M
 put-bands-spec =

@@ -9,7 +9,9 @@ returns : tie.Need-returns
 returns c = part-empty (c .before .before .before .args .part .now) (c .before .before .before .args .out .now) (c .if1 .taken)
 
 returns-2 : tie.Need-returns-2
-returns-2 c = part-out (c .before .before .before .before .args .part .now) (c .before .before .before .before .args .out .now) (c .before .if1 .left) (c .if2 .taken)
+returns-2 c =
+    let start = c .before .before .before .before in
+    part-out (start .args .part .now) (start .args .out .now) (c .before .if1 .left) (c .if2 .taken)
 
 copy-requires : tie.Need-copy-requires
 copy-requires c κs = search needs
@@ -18,7 +20,12 @@ same-length : tie.Need-same-length
 same-length c = search needs
 
 returns-3 : tie.Need-returns-3
-returns-3 c = part-copied (c .before .before .before .before .before .before .before .before .args .part .now) (c .before .before .before .before .before .before .before .before .args .out .now) (c .before .before .before .before .before .if1 .left) (c .before .before .before .before .if2 .left) (c .before .before .copy .ensures)
+returns-3 c =
+    let at-copy = c .before .before in
+    let at-if2 = at-copy .before .before in
+    let at-if1 = at-if2 .before in
+    let start = at-if1 .before .before .before in
+    part-copied (start .args .part .now) (start .args .out .now) (at-if1 .if1 .left) (at-if2 .if2 .left) (at-copy .copy .ensures)
 
 pub put-part-spec : {M : Type 1} → statement M
 put-part-spec =

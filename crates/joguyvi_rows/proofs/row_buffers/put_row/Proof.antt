@@ -18,14 +18,24 @@ sizes-cause-requires c κs = search needs
 or-else-requires : tie.Need-or-else-requires
 or-else-requires c κs = search needs
 
-cause : (c : tie.After-or-else) → c .or-else .result ≡ putRowNumber (c .before .before .before .before .args .answer) (c .before .before .before .before .args .lower .now) (c .before .before .before .before .args .upper .now)
-cause c = c .or-else .ensures ∙ ap (orElse (c .before .before .before .before .args .answer .number)) (c .before .sizes-cause .ensures)
+cause : (c : tie.After-or-else) → let start = c .before .before .before .before in
+    c .or-else .result ≡ putRowNumber (start .args .answer) (start .args .lower .now) (start .args .upper .now)
+cause c =
+    let start = c .before .before .before .before in
+    c .or-else .ensures ∙ ap (orElse (start .args .answer .number)) (c .before .sizes-cause .ensures)
 
-sizes : (c : tie.Else1) → (length (c .before .before .before .before .before .args .lower .now) ≡ 32) × (length (c .before .before .before .before .before .args .upper .now) ≡ 32)
-sizes c = pair-sizes 32 (c .before .before .before .before .before .args .lower .now) (c .before .before .before .before .before .args .upper .now) (second-none (c .before .before .before .before .before .args .answer .number) (buffersCause 32 (c .before .before .before .before .before .args .lower .now) (c .before .before .before .before .before .args .upper .now)) (sym (cause (c .before)) ∙ c .if1 .left))
+sizes : (c : tie.Else1) → let start = c .before .before .before .before .before in
+    (length (start .args .lower .now) ≡ 32) × (length (start .args .upper .now) ≡ 32)
+sizes c =
+    let start = c .before .before .before .before .before in
+    pair-sizes 32 (start .args .lower .now) (start .args .upper .now)
+    (second-none (start .args .answer .number) (buffersCause 32 (start .args .lower .now) (start .args .upper .now))
+    (sym (cause (c .before)) ∙ c .if1 .left))
 
 returns : tie.Need-returns
-returns c = pair-left (c .before .before .before .before .before .args .answer .lower) (c .before .before .before .before .before .args .answer .upper) _ _ (cause (c .before)) (c .if1 .taken)
+returns c =
+    let start = c .before .before .before .before .before in
+    pair-left (start .args .answer .lower) (start .args .answer .upper) _ _ (cause (c .before)) (c .if1 .taken)
 
 copy-row-requires : tie.Need-copy-row-requires
 copy-row-requires c κs = search needs
@@ -41,11 +51,15 @@ same-length-2 c = search needs
 
 returns-2 : tie.Need-returns-2
 returns-2 c =
-    let start = c .before .before .before .before .before .before .before .before .before .before .before .before .before .before .before .args in
-    let fit = sizes (c .before .before .before .before .before .before .before .before .before .before) in
-    pair-filled (start .answer .lower) (start .answer .upper) (start .lower .now) (start .upper .now) (cause (c .before .before .before .before .before .before .before .before .before .before .before)) (c .before .before .before .before .before .before .before .before .before .before .if1 .left)
-    (c .before .before .before .before .before .before .copy-row .ensures ∙ row-copied (start .answer .lower) (start .lower .now) (fit .0))
-    (c .before .before .copy-row2 .ensures ∙ row-copied (start .answer .upper) (start .upper .now) (fit .1))
+    let at-copy-row2 = c .before .before in
+    let at-copy-row = at-copy-row2 .before .before .before .before in
+    let at-if1 = at-copy-row .before .before .before .before in
+    let at-place = at-if1 .before in
+    let start = at-place .before .before .before .before in
+    let fit = sizes at-if1 in
+    pair-filled (start .args .answer .lower) (start .args .answer .upper) (start .args .lower .now) (start .args .upper .now) (cause at-place) (at-if1 .if1 .left)
+    (at-copy-row .copy-row .ensures ∙ row-copied (start .args .answer .lower) (start .args .lower .now) (fit .0))
+    (at-copy-row2 .copy-row2 .ensures ∙ row-copied (start .args .answer .upper) (start .args .upper .now) (fit .1))
 
 pub put-row-spec : {M : Type 1} → statement M
 put-row-spec =

@@ -23,9 +23,12 @@ or-else-requires-2 c κs = search needs
 
 returns : tie.Need-returns
 returns c =
+    let at-or-else = c .before .before in
+    let at-size-cause2 = at-or-else .before in
+    let at-size-cause = at-size-cause2 .before in
     c .or-else2 .ensures
     ∙ ap₂ orElse (c .before .size-cause3 .ensures)
-    (c .before .before .or-else .ensures ∙ ap₂ orElse (c .before .before .before .before .size-cause .ensures) (c .before .before .before .size-cause2 .ensures))
+    (at-or-else .or-else .ensures ∙ ap₂ orElse (at-size-cause .size-cause .ensures) (at-size-cause2 .size-cause2 .ensures))
 
 pub buffers-cause-spec : {M : Type 1} → statement M
 buffers-cause-spec =

@@ -21,16 +21,24 @@ buffers-cause-requires c κs = search needs
 or-else-requires : tie.Need-or-else-requires
 or-else-requires c κs = search needs
 
-cause : (c : tie.After-or-else) → c .or-else .result ≡ orElse (c .before .before .before .before .before .args .answer .number) (stepBuffers (c .before .before .before .before .before .args .payoff .now) (c .before .before .before .before .before .args .figure .now) (c .before .before .before .before .before .args .row .now))
-cause c = c .or-else .ensures ∙ ap (orElse (c .before .before .before .before .before .args .answer .number)) (c .before .buffers-cause .ensures)
+cause : (c : tie.After-or-else) → let start = c .before .before .before .before .before in
+    c .or-else .result ≡ orElse (start .args .answer .number) (stepBuffers (start .args .payoff .now) (start .args .figure .now) (start .args .row .now))
+cause c =
+    let start = c .before .before .before .before .before in
+    c .or-else .ensures ∙ ap (orElse (start .args .answer .number)) (c .before .buffers-cause .ensures)
 
-sizes : (c : tie.Else1) → (length (c .before .before .before .before .before .before .args .figure .now) ≡ 1) × (length (c .before .before .before .before .before .before .args .row .now) ≡ 32)
+sizes : (c : tie.Else1) → let start = c .before .before .before .before .before .before in
+    (length (start .args .figure .now) ≡ 1) × (length (start .args .row .now) ≡ 32)
 sizes c =
-    let start = c .before .before .before .before .before .before .args in
-    step-sizes (start .payoff .now) (start .figure .now) (start .row .now) (second-none (start .answer .number) (stepBuffers (start .payoff .now) (start .figure .now) (start .row .now)) (sym (cause (c .before)) ∙ c .if1 .left))
+    let start = c .before .before .before .before .before .before in
+    step-sizes (start .args .payoff .now) (start .args .figure .now) (start .args .row .now)
+    (second-none (start .args .answer .number) (stepBuffers (start .args .payoff .now) (start .args .figure .now) (start .args .row .now))
+    (sym (cause (c .before)) ∙ c .if1 .left))
 
 returns : tie.Need-returns
-returns c = pair-left (c .before .before .before .before .before .before .args .answer .figure ∷ []) (c .before .before .before .before .before .before .args .answer .row) _ _ (cause (c .before)) (c .if1 .taken)
+returns c =
+    let start = c .before .before .before .before .before .before in
+    pair-left (start .args .answer .figure ∷ []) (start .args .answer .row) _ _ (cause (c .before)) (c .if1 .taken)
 
 slice-write-figure : tie.Need-slice-write-figure
 slice-write-figure c = omega (arith, sizes c .0)
@@ -46,10 +54,13 @@ same-length-2 c = search needs
 
 returns-2 : tie.Need-returns-2
 returns-2 c =
-    let start = c .before .before .before .before .before .before .before .before .before .before .before .args in
-    let fit = sizes (c .before .before .before .before .before) in
-    pair-filled (start .answer .figure ∷ []) (start .answer .row) (start .figure .now) (start .row .now) (cause (c .before .before .before .before .before .before)) (c .before .before .before .before .before .if1 .left)
-    (one (start .figure .now) (start .answer .figure) (fit .0)) (c .before .before .copy-row .ensures ∙ row-copied (start .answer .row) (start .row .now) (fit .1))
+    let at-copy-row = c .before .before in
+    let at-if1 = at-copy-row .before .before .before in
+    let at-place = at-if1 .before in
+    let start = at-place .before .before .before .before .before in
+    let fit = sizes at-if1 in
+    pair-filled (start .args .answer .figure ∷ []) (start .args .answer .row) (start .args .figure .now) (start .args .row .now) (cause at-place) (at-if1 .if1 .left)
+    (one (start .args .figure .now) (start .args .answer .figure) (fit .0)) (at-copy-row .copy-row .ensures ∙ row-copied (start .args .answer .row) (start .args .row .now) (fit .1))
 
 pub put-step-spec : {M : Type 1} → statement M
 put-step-spec =

@@ -10,8 +10,9 @@ read-requires c κs = search needs
 
 returns : tie.Need-returns
 returns c =
-    let start = c .before .before .before .before .before .before .args in
-    step-stopped (start .high) (start .bytes .now) (start .payoff .now) (start .class) (start .figure .now) (start .row .now) (c .before .read .ensures) (c .if1 .taken)
+    let start = c .before .before .before .before .before .before in
+    step-stopped (start .args .high) (start .args .bytes .now) (start .args .payoff .now) (start .args .class) (start .args .figure .now)
+    (start .args .row .now) (c .before .read .ensures) (c .if1 .taken)
 
 payoff-of-requires : tie.Need-payoff-of-requires
 payoff-of-requires c κs = search needs
@@ -30,8 +31,15 @@ same-length-2 c = search needs
 
 returns-2 : tie.Need-returns-2
 returns-2 c =
-    let start = c .before .before .before .before .before .before .before .before .before .before .before .before .before .before .before .args in
-    step-passed (start .high) (start .bytes .now) (start .payoff .now) (start .class) (start .figure .now) (start .row .now) (c .before .before .before .before .before .before .before .before .before .before .read .ensures) (c .before .before .before .before .before .before .before .before .before .if1 .left) (c .before .before .before .before .before .before .before .before .payoff-of .ensures) (c .before .before .before .before .before .before .before .answer-of .ensures) (c .before .before .before .before .put-step .ensures)
+    let at-put-step = c .before .before .before .before in
+    let at-answer-of = at-put-step .before .before .before in
+    let at-payoff-of = at-answer-of .before in
+    let at-if1 = at-payoff-of .before in
+    let at-read = at-if1 .before in
+    let start = at-read .before .before .before .before .before in
+    step-passed (start .args .high) (start .args .bytes .now) (start .args .payoff .now) (start .args .class) (start .args .figure .now)
+    (start .args .row .now) (at-read .read .ensures) (at-if1 .if1 .left) (at-payoff-of .payoff-of .ensures) (at-answer-of .answer-of .ensures)
+    (at-put-step .put-step .ensures)
 
 pub step-spec : {M : Type 1} → statement M
 step-spec =

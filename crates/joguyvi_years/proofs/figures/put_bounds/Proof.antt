@@ -32,7 +32,11 @@ same-length : tie.Need-same-length
 same-length c = search needs
 
 returns-3 : tie.Need-returns-3
-returns-3 c = put-both _ _ (c .before .before .before .before .number-of .ensures) (c .before .before .before .if1 .left) (c .before .before .if2 .left) (c .before .low-of .ensures) (c .high-of .ensures)
+returns-3 c =
+    let at-if2 = c .before .before in
+    let at-if1 = at-if2 .before in
+    let at-number-of = at-if1 .before in
+    put-both _ _ (at-number-of .number-of .ensures) (at-if1 .if1 .left) (at-if2 .if2 .left) (c .before .low-of .ensures) (c .high-of .ensures)
 
 pub put-bounds-spec : {M : Type 1} → statement M
 put-bounds-spec =

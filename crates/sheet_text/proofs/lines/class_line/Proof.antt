@@ -15,13 +15,22 @@ put-word-requires : tie.Need-put-word-requires
 unfolding classLine
 put-word-requires c κs =
     let start = c .before .before .before .args in
-    room-first (field (start .year)) (room-first classWord (room-first (field (suc (start .j))) (room-first (endsText (start .low) (start .high)) (ends-room (classHead (start .year) (start .j)) (start .low) (start .high) (c .before .before .before .pre .0)))))
+    room-first (field (start .year))
+    (room-first classWord
+    (room-first (field (suc (start .j)))
+    (room-first (endsText (start .low) (start .high))
+    (ends-room (classHead (start .year) (start .j)) (start .low) (start .high) (c .before .before .before .pre .0)))))
 
 put-field-requires : tie.Need-put-field-requires
 unfolding classLine
 put-field-requires c κs =
-    let start = c .before .before .before .before .before .before .before .args in
-    room-next (c .before .before .before .put-word .ensures) (room-first classWord (room-first (field (suc (start .j))) (room-first (endsText (start .low) (start .high)) (ends-room (classHead (start .year) (start .j)) (start .low) (start .high) (c .before .before .before .before .before .before .before .pre .0)))))
+    let at-put-word = c .before .before .before in
+    let start = at-put-word .before .before .before .before in
+    room-next (at-put-word .put-word .ensures)
+    (room-first classWord
+    (room-first (field (suc (start .args .j)))
+    (room-first (endsText (start .args .low) (start .args .high))
+    (ends-room (classHead (start .args .year) (start .args .j)) (start .args .low) (start .args .high) (start .pre .0)))))
 
 slice-aggregate-put-word-2 : tie.Need-slice-aggregate-put-word-2
 slice-aggregate-put-word-2 c = search needs
@@ -29,8 +38,13 @@ slice-aggregate-put-word-2 c = search needs
 put-word-requires-2 : tie.Need-put-word-requires-2
 unfolding classLine
 put-word-requires-2 c κs =
-    let start = c .before .before .before .before .before .before .before .before .before .before .before .before .args in
-    room-next (put-then (c .before .before .before .before .before .before .before .before .put-word .ensures) (c .before .before .before .before .put-field .ensures)) (room-first (field (suc (start .j))) (room-first (endsText (start .low) (start .high)) (ends-room (classHead (start .year) (start .j)) (start .low) (start .high) (c .before .before .before .before .before .before .before .before .before .before .before .before .pre .0))))
+    let at-put-field = c .before .before .before .before in
+    let at-put-word = at-put-field .before .before .before .before in
+    let start = at-put-word .before .before .before .before in
+    room-next (put-then (at-put-word .put-word .ensures) (at-put-field .put-field .ensures))
+    (room-first (field (suc (start .args .j)))
+    (room-first (endsText (start .args .low) (start .args .high))
+    (ends-room (classHead (start .args .year) (start .args .j)) (start .args .low) (start .args .high) (start .pre .0))))
 
 add-put-field : tie.Need-add-put-field
 add-put-field c = search needs
@@ -38,14 +52,27 @@ add-put-field c = search needs
 put-field-requires-2 : tie.Need-put-field-requires-2
 unfolding classLine
 put-field-requires-2 c κs =
-    let start = c .before .before .before .before .before .before .before .before .before .before .before .before .before .before .before .before .args in
-    class-field-room (start .j) (room-next (put-then (put-then (c .before .before .before .before .before .before .before .before .before .before .before .before .put-word .ensures) (c .before .before .before .before .before .before .before .before .put-field .ensures)) (c .before .before .before .put-word2 .ensures)) (room-first (endsText (start .low) (start .high)) (ends-room (classHead (start .year) (start .j)) (start .low) (start .high) (c .before .before .before .before .before .before .before .before .before .before .before .before .before .before .before .before .pre .0))))
+    let at-put-word2 = c .before .before .before in
+    let at-put-field = at-put-word2 .before .before .before .before .before in
+    let at-put-word = at-put-field .before .before .before .before in
+    let start = at-put-word .before .before .before .before in
+    class-field-room (start .args .j)
+    (room-next (put-then (put-then (at-put-word .put-word .ensures) (at-put-field .put-field .ensures)) (at-put-word2 .put-word2 .ensures))
+    (room-first (endsText (start .args .low) (start .args .high))
+    (ends-room (classHead (start .args .year) (start .args .j)) (start .args .low) (start .args .high) (start .pre .0))))
 
 ends-requires : tie.Need-ends-requires
 unfolding classLine
 ends-requires c κs =
-    let start = c .before .before .before .before .before .before .before .before .before .before .before .before .before .before .before .before .before .before .before .before .args in
-    room-next (put-then (put-then (put-then (c .before .before .before .before .before .before .before .before .before .before .before .before .before .before .before .before .put-word .ensures) (c .before .before .before .before .before .before .before .before .before .before .before .before .put-field .ensures)) (c .before .before .before .before .before .before .before .put-word2 .ensures)) (class-field-put (start .j) (c .before .before .before .put-field2 .ensures))) (ends-room (classHead (start .year) (start .j)) (start .low) (start .high) (c .before .before .before .before .before .before .before .before .before .before .before .before .before .before .before .before .before .before .before .before .pre .0))
+    let at-put-field2 = c .before .before .before in
+    let at-put-word2 = at-put-field2 .before .before .before .before in
+    let at-put-field = at-put-word2 .before .before .before .before .before in
+    let at-put-word = at-put-field .before .before .before .before in
+    let start = at-put-word .before .before .before .before in
+    room-next
+    (put-then (put-then (put-then (at-put-word .put-word .ensures) (at-put-field .put-field .ensures)) (at-put-word2 .put-word2 .ensures))
+    (class-field-put (start .args .j) (at-put-field2 .put-field2 .ensures)))
+    (ends-room (classHead (start .args .year) (start .args .j)) (start .args .low) (start .args .high) (start .pre .0))
 
 same-length : tie.Need-same-length
 same-length c = search needs
@@ -53,8 +80,17 @@ same-length c = search needs
 returns : tie.Need-returns
 unfolding classLine
 returns c =
-    let start = c .before .before .before .before .before .before .before .before .before .before .before .before .before .before .before .before .before .before .before .before .before .before .before .args in
-    ends-put (classHead (start .year) (start .j)) (start .low) (start .high) (put-then (put-then (put-then (put-then (c .before .before .before .before .before .before .before .before .before .before .before .before .before .before .before .before .before .before .before .put-word .ensures) (c .before .before .before .before .before .before .before .before .before .before .before .before .before .before .before .put-field .ensures)) (c .before .before .before .before .before .before .before .before .before .before .put-word2 .ensures)) (class-field-put (start .j) (c .before .before .before .before .before .before .put-field2 .ensures))) (c .before .before .ends .ensures))
+    let at-ends = c .before .before in
+    let at-put-field2 = at-ends .before .before .before .before in
+    let at-put-word2 = at-put-field2 .before .before .before .before in
+    let at-put-field = at-put-word2 .before .before .before .before .before in
+    let at-put-word = at-put-field .before .before .before .before in
+    let start = at-put-word .before .before .before .before in
+    ends-put (classHead (start .args .year) (start .args .j)) (start .args .low) (start .args .high)
+    (put-then
+    (put-then (put-then (put-then (at-put-word .put-word .ensures) (at-put-field .put-field .ensures)) (at-put-word2 .put-word2 .ensures))
+    (class-field-put (start .args .j) (at-put-field2 .put-field2 .ensures)))
+    (at-ends .ends .ensures))
 
 pub class-line-spec : {M : Type 1} → statement M
 class-line-spec =

@@ -9,16 +9,27 @@ put-field-requires : tie.Need-put-field-requires
 put-field-requires c κs = room-first (field (c .before .before .args .high)) (room-first newline (c .before .before .pre))
 
 put-field-requires-2 : tie.Need-put-field-requires-2
-put-field-requires-2 c κs = room-next (c .before .before .before .put-field .ensures) (room-first newline (c .before .before .before .before .before .before .pre))
+put-field-requires-2 c κs =
+    let at-put-field = c .before .before .before in
+    let start = at-put-field .before .before .before in
+    room-next (at-put-field .put-field .ensures) (room-first newline (start .pre))
 
 put-newline-requires : tie.Need-put-newline-requires
-put-newline-requires c κs = room-next (put-then (c .before .before .before .before .before .before .before .put-field .ensures) (c .before .before .before .put-field2 .ensures)) (c .before .before .before .before .before .before .before .before .before .before .pre)
+put-newline-requires c κs =
+    let at-put-field2 = c .before .before .before in
+    let at-put-field = at-put-field2 .before .before .before .before in
+    let start = at-put-field .before .before .before in
+    room-next (put-then (at-put-field .put-field .ensures) (at-put-field2 .put-field2 .ensures)) (start .pre)
 
 same-length : tie.Need-same-length
 same-length c = search needs
 
 returns : tie.Need-returns
-returns c = put-then (put-then (c .before .before .before .before .before .before .before .before .before .before .put-field .ensures) (c .before .before .before .before .before .before .put-field2 .ensures)) (c .before .before .put-newline .ensures)
+returns c =
+    let at-put-newline = c .before .before in
+    let at-put-field2 = at-put-newline .before .before .before .before in
+    let at-put-field = at-put-field2 .before .before .before .before in
+    put-then (put-then (at-put-field .put-field .ensures) (at-put-field2 .put-field2 .ensures)) (at-put-newline .put-newline .ensures)
 
 pub ends-spec : {M : Type 1} → statement M
 ends-spec =

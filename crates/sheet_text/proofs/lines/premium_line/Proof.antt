@@ -14,13 +14,20 @@ put-word-requires : tie.Need-put-word-requires
 unfolding premiumLine
 put-word-requires c κs =
     let start = c .before .before .before .args in
-    room-first (field (start .year)) (room-first premiumWord (room-first (endsText (start .low) (start .high)) (ends-room (premiumHead (start .year)) (start .low) (start .high) (c .before .before .before .pre))))
+    room-first (field (start .year))
+    (room-first premiumWord
+    (room-first (endsText (start .low) (start .high))
+    (ends-room (premiumHead (start .year)) (start .low) (start .high) (c .before .before .before .pre))))
 
 put-field-requires : tie.Need-put-field-requires
 unfolding premiumLine
 put-field-requires c κs =
-    let start = c .before .before .before .before .before .before .before .args in
-    room-next (c .before .before .before .put-word .ensures) (room-first premiumWord (room-first (endsText (start .low) (start .high)) (ends-room (premiumHead (start .year)) (start .low) (start .high) (c .before .before .before .before .before .before .before .pre))))
+    let at-put-word = c .before .before .before in
+    let start = at-put-word .before .before .before .before in
+    room-next (at-put-word .put-word .ensures)
+    (room-first premiumWord
+    (room-first (endsText (start .args .low) (start .args .high))
+    (ends-room (premiumHead (start .args .year)) (start .args .low) (start .args .high) (start .pre))))
 
 slice-aggregate-put-word-2 : tie.Need-slice-aggregate-put-word-2
 slice-aggregate-put-word-2 c = search needs
@@ -28,14 +35,22 @@ slice-aggregate-put-word-2 c = search needs
 put-word-requires-2 : tie.Need-put-word-requires-2
 unfolding premiumLine
 put-word-requires-2 c κs =
-    let start = c .before .before .before .before .before .before .before .before .before .before .before .before .args in
-    room-next (put-then (c .before .before .before .before .before .before .before .before .put-word .ensures) (c .before .before .before .before .put-field .ensures)) (room-first (endsText (start .low) (start .high)) (ends-room (premiumHead (start .year)) (start .low) (start .high) (c .before .before .before .before .before .before .before .before .before .before .before .before .pre)))
+    let at-put-field = c .before .before .before .before in
+    let at-put-word = at-put-field .before .before .before .before in
+    let start = at-put-word .before .before .before .before in
+    room-next (put-then (at-put-word .put-word .ensures) (at-put-field .put-field .ensures))
+    (room-first (endsText (start .args .low) (start .args .high))
+    (ends-room (premiumHead (start .args .year)) (start .args .low) (start .args .high) (start .pre)))
 
 ends-requires : tie.Need-ends-requires
 unfolding premiumLine
 ends-requires c κs =
-    let start = c .before .before .before .before .before .before .before .before .before .before .before .before .before .before .before .before .args in
-    room-next (put-then (put-then (c .before .before .before .before .before .before .before .before .before .before .before .before .put-word .ensures) (c .before .before .before .before .before .before .before .before .put-field .ensures)) (c .before .before .before .put-word2 .ensures)) (ends-room (premiumHead (start .year)) (start .low) (start .high) (c .before .before .before .before .before .before .before .before .before .before .before .before .before .before .before .before .pre))
+    let at-put-word2 = c .before .before .before in
+    let at-put-field = at-put-word2 .before .before .before .before .before in
+    let at-put-word = at-put-field .before .before .before .before in
+    let start = at-put-word .before .before .before .before in
+    room-next (put-then (put-then (at-put-word .put-word .ensures) (at-put-field .put-field .ensures)) (at-put-word2 .put-word2 .ensures))
+    (ends-room (premiumHead (start .args .year)) (start .args .low) (start .args .high) (start .pre))
 
 same-length : tie.Need-same-length
 same-length c = search needs
@@ -43,8 +58,14 @@ same-length c = search needs
 returns : tie.Need-returns
 unfolding premiumLine
 returns c =
-    let start = c .before .before .before .before .before .before .before .before .before .before .before .before .before .before .before .before .before .before .before .args in
-    ends-put (premiumHead (start .year)) (start .low) (start .high) (put-then (put-then (put-then (c .before .before .before .before .before .before .before .before .before .before .before .before .before .before .before .put-word .ensures) (c .before .before .before .before .before .before .before .before .before .before .before .put-field .ensures)) (c .before .before .before .before .before .before .put-word2 .ensures)) (c .before .before .ends .ensures))
+    let at-ends = c .before .before in
+    let at-put-word2 = at-ends .before .before .before .before in
+    let at-put-field = at-put-word2 .before .before .before .before .before in
+    let at-put-word = at-put-field .before .before .before .before in
+    let start = at-put-word .before .before .before .before in
+    ends-put (premiumHead (start .args .year)) (start .args .low) (start .args .high)
+    (put-then (put-then (put-then (at-put-word .put-word .ensures) (at-put-field .put-field .ensures)) (at-put-word2 .put-word2 .ensures))
+    (at-ends .ends .ensures))
 
 pub premium-line-spec : {M : Type 1} → statement M
 premium-line-spec =

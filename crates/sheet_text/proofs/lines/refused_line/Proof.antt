@@ -15,18 +15,29 @@ put-word-requires c κs = room-first (field (c .before .before .before .args .nu
 
 put-field-requires : tie.Need-put-field-requires
 unfolding refusedLine
-put-field-requires c κs = room-next (c .before .before .before .put-word .ensures) (room-first newline (c .before .before .before .before .before .before .before .pre))
+put-field-requires c κs =
+    let at-put-word = c .before .before .before in
+    let start = at-put-word .before .before .before .before in
+    room-next (at-put-word .put-word .ensures) (room-first newline (start .pre))
 
 put-newline-requires : tie.Need-put-newline-requires
 unfolding refusedLine
-put-newline-requires c κs = room-next (put-then (c .before .before .before .before .before .before .before .put-word .ensures) (c .before .before .before .put-field .ensures)) (c .before .before .before .before .before .before .before .before .before .before .before .pre)
+put-newline-requires c κs =
+    let at-put-field = c .before .before .before in
+    let at-put-word = at-put-field .before .before .before .before in
+    let start = at-put-word .before .before .before .before in
+    room-next (put-then (at-put-word .put-word .ensures) (at-put-field .put-field .ensures)) (start .pre)
 
 same-length : tie.Need-same-length
 same-length c = search needs
 
 returns : tie.Need-returns
 unfolding refusedLine
-returns c = put-then (put-then (c .before .before .before .before .before .before .before .before .before .before .put-word .ensures) (c .before .before .before .before .before .before .put-field .ensures)) (c .before .before .put-newline .ensures)
+returns c =
+    let at-put-newline = c .before .before in
+    let at-put-field = at-put-newline .before .before .before .before in
+    let at-put-word = at-put-field .before .before .before .before in
+    put-then (put-then (at-put-word .put-word .ensures) (at-put-field .put-field .ensures)) (at-put-newline .put-newline .ensures)
 
 pub refused-line-spec : {M : Type 1} → statement M
 refused-line-spec =

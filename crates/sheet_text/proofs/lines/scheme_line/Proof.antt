@@ -13,7 +13,9 @@ put-word-requires : tie.Need-put-word-requires
 unfolding schemeLine
 put-word-requires c κs =
     let scheme = c .before .before .before .args .scheme in
-    room-first (field (scheme .classes)) (room-first (field (scheme .columns)) (room-first (field (scheme .start)) (room-first (field (scheme .horizon)) (room-first newline (c .before .before .before .pre)))))
+    room-first (field (scheme .classes))
+    (room-first (field (scheme .columns))
+    (room-first (field (scheme .start)) (room-first (field (scheme .horizon)) (room-first newline (c .before .before .before .pre)))))
 
 cast-put-field : tie.Need-cast-put-field
 cast-put-field c = search needs
@@ -21,8 +23,10 @@ cast-put-field c = search needs
 put-field-requires : tie.Need-put-field-requires
 unfolding schemeLine
 put-field-requires c κs =
-    let scheme = c .before .before .before .before .before .before .before .before .args .scheme in
-    room-next (c .before .before .before .before .put-word .ensures) (room-first (field (scheme .columns)) (room-first (field (scheme .start)) (room-first (field (scheme .horizon)) (room-first newline (c .before .before .before .before .before .before .before .before .pre)))))
+    let at-put-word = c .before .before .before .before in
+    let start = at-put-word .before .before .before .before in
+    let scheme = start .args .scheme in
+    room-next (at-put-word .put-word .ensures) (room-first (field (scheme .columns)) (room-first (field (scheme .start)) (room-first (field (scheme .horizon)) (room-first newline (start .pre)))))
 
 cast-put-field-2 : tie.Need-cast-put-field-2
 cast-put-field-2 c = search needs
@@ -30,8 +34,12 @@ cast-put-field-2 c = search needs
 put-field-requires-2 : tie.Need-put-field-requires-2
 unfolding schemeLine
 put-field-requires-2 c κs =
-    let scheme = c .before .before .before .before .before .before .before .before .before .before .before .before .before .args .scheme in
-    room-next (put-then (c .before .before .before .before .before .before .before .before .before .put-word .ensures) (c .before .before .before .before .put-field .ensures)) (room-first (field (scheme .start)) (room-first (field (scheme .horizon)) (room-first newline (c .before .before .before .before .before .before .before .before .before .before .before .before .before .pre))))
+    let at-put-field = c .before .before .before .before in
+    let at-put-word = at-put-field .before .before .before .before .before in
+    let start = at-put-word .before .before .before .before in
+    let scheme = start .args .scheme in
+    room-next (put-then (at-put-word .put-word .ensures) (at-put-field .put-field .ensures))
+    (room-first (field (scheme .start)) (room-first (field (scheme .horizon)) (room-first newline (start .pre))))
 
 cast-put-field-3 : tie.Need-cast-put-field-3
 cast-put-field-3 c = search needs
@@ -39,8 +47,13 @@ cast-put-field-3 c = search needs
 put-field-requires-3 : tie.Need-put-field-requires-3
 unfolding schemeLine
 put-field-requires-3 c κs =
-    let scheme = c .before .before .before .before .before .before .before .before .before .before .before .before .before .before .before .before .before .before .args .scheme in
-    room-next (put-then (put-then (c .before .before .before .before .before .before .before .before .before .before .before .before .before .before .put-word .ensures) (c .before .before .before .before .before .before .before .before .before .put-field .ensures)) (c .before .before .before .before .put-field2 .ensures)) (room-first (field (scheme .horizon)) (room-first newline (c .before .before .before .before .before .before .before .before .before .before .before .before .before .before .before .before .before .before .pre)))
+    let at-put-field2 = c .before .before .before .before in
+    let at-put-field = at-put-field2 .before .before .before .before .before in
+    let at-put-word = at-put-field .before .before .before .before .before in
+    let start = at-put-word .before .before .before .before in
+    let scheme = start .args .scheme in
+    room-next (put-then (put-then (at-put-word .put-word .ensures) (at-put-field .put-field .ensures)) (at-put-field2 .put-field2 .ensures))
+    (room-first (field (scheme .horizon)) (room-first newline (start .pre)))
 
 cast-put-field-4 : tie.Need-cast-put-field-4
 cast-put-field-4 c = search needs
@@ -48,20 +61,63 @@ cast-put-field-4 c = search needs
 put-field-requires-4 : tie.Need-put-field-requires-4
 unfolding schemeLine
 put-field-requires-4 c κs =
-    room-next (put-then (put-then (put-then (c .before .before .before .before .before .before .before .before .before .before .before .before .before .before .before .before .before .before .before .put-word .ensures) (c .before .before .before .before .before .before .before .before .before .before .before .before .before .before .put-field .ensures)) (c .before .before .before .before .before .before .before .before .before .put-field2 .ensures)) (c .before .before .before .before .put-field3 .ensures)) (room-first newline (c .before .before .before .before .before .before .before .before .before .before .before .before .before .before .before .before .before .before .before .before .before .before .before .pre))
+    let at-put-field3 = c .before .before .before .before in
+    let at-put-field2 = at-put-field3 .before .before .before .before .before in
+    let at-put-field = at-put-field2 .before .before .before .before .before in
+    let at-put-word = at-put-field .before .before .before .before .before in
+    let start = at-put-word .before .before .before .before in
+    room-next
+    (put-then (put-then (put-then (at-put-word .put-word .ensures) (at-put-field .put-field .ensures)) (at-put-field2 .put-field2 .ensures))
+    (at-put-field3 .put-field3 .ensures))
+    (room-first newline (start .pre))
 
 put-newline-requires : tie.Need-put-newline-requires
 unfolding schemeLine
 put-newline-requires c κs =
-    room-next (put-then (put-then (put-then (put-then (c .before .before .before .before .before .before .before .before .before .before .before .before .before .before .before .before .before .before .before .before .before .before .before .put-word .ensures) (c .before .before .before .before .before .before .before .before .before .before .before .before .before .before .before .before .before .before .put-field .ensures)) (c .before .before .before .before .before .before .before .before .before .before .before .before .before .put-field2 .ensures)) (c .before .before .before .before .before .before .before .before .put-field3 .ensures)) (c .before .before .before .put-field4 .ensures)) (c .before .before .before .before .before .before .before .before .before .before .before .before .before .before .before .before .before .before .before .before .before .before .before .before .before .before .before .pre)
+    let at-put-field4 = c .before .before .before in
+    let at-put-field3 = at-put-field4 .before .before .before .before .before in
+    let at-put-field2 = at-put-field3 .before .before .before .before .before in
+    let at-put-field = at-put-field2 .before .before .before .before .before in
+    let at-put-word = at-put-field .before .before .before .before .before in
+    let start = at-put-word .before .before .before .before in
+    room-next
+    (put-then
+    (put-then (put-then (put-then (at-put-word .put-word .ensures) (at-put-field .put-field .ensures)) (at-put-field2 .put-field2 .ensures))
+    (at-put-field3 .put-field3 .ensures))
+    (at-put-field4 .put-field4 .ensures))
+    (start .pre)
 
 same-length : tie.Need-same-length
-same-length c = put-kept (put-then (put-then (put-then (put-then (put-then (c .before .before .before .before .before .before .before .before .before .before .before .before .before .before .before .before .before .before .before .before .before .before .before .before .before .before .put-word .ensures) (c .before .before .before .before .before .before .before .before .before .before .before .before .before .before .before .before .before .before .before .before .before .put-field .ensures)) (c .before .before .before .before .before .before .before .before .before .before .before .before .before .before .before .before .put-field2 .ensures)) (c .before .before .before .before .before .before .before .before .before .before .before .put-field3 .ensures)) (c .before .before .before .before .before .before .put-field4 .ensures)) (c .before .before .put-newline .ensures))
+same-length c =
+    let at-put-newline = c .before .before in
+    let at-put-field4 = at-put-newline .before .before .before .before in
+    let at-put-field3 = at-put-field4 .before .before .before .before .before in
+    let at-put-field2 = at-put-field3 .before .before .before .before .before in
+    let at-put-field = at-put-field2 .before .before .before .before .before in
+    let at-put-word = at-put-field .before .before .before .before .before in
+    put-kept
+    (put-then
+    (put-then
+    (put-then (put-then (put-then (at-put-word .put-word .ensures) (at-put-field .put-field .ensures)) (at-put-field2 .put-field2 .ensures))
+    (at-put-field3 .put-field3 .ensures))
+    (at-put-field4 .put-field4 .ensures))
+    (at-put-newline .put-newline .ensures))
 
 returns : tie.Need-returns
 unfolding schemeLine
 returns c =
-    put-then (put-then (put-then (put-then (put-then (c .before .before .before .before .before .before .before .before .before .before .before .before .before .before .before .before .before .before .before .before .before .before .before .before .before .before .put-word .ensures) (c .before .before .before .before .before .before .before .before .before .before .before .before .before .before .before .before .before .before .before .before .before .put-field .ensures)) (c .before .before .before .before .before .before .before .before .before .before .before .before .before .before .before .before .put-field2 .ensures)) (c .before .before .before .before .before .before .before .before .before .before .before .put-field3 .ensures)) (c .before .before .before .before .before .before .put-field4 .ensures)) (c .before .before .put-newline .ensures)
+    let at-put-newline = c .before .before in
+    let at-put-field4 = at-put-newline .before .before .before .before in
+    let at-put-field3 = at-put-field4 .before .before .before .before .before in
+    let at-put-field2 = at-put-field3 .before .before .before .before .before in
+    let at-put-field = at-put-field2 .before .before .before .before .before in
+    let at-put-word = at-put-field .before .before .before .before .before in
+    put-then
+    (put-then
+    (put-then (put-then (put-then (at-put-word .put-word .ensures) (at-put-field .put-field .ensures)) (at-put-field2 .put-field2 .ensures))
+    (at-put-field3 .put-field3 .ensures))
+    (at-put-field4 .put-field4 .ensures))
+    (at-put-newline .put-newline .ensures)
 
 pub scheme-line-spec : {M : Type 1} → statement M
 scheme-line-spec =

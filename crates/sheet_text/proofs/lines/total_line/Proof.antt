@@ -12,18 +12,27 @@ slice-aggregate-put-word c = search needs
 
 put-word-requires : tie.Need-put-word-requires
 unfolding totalLine
-put-word-requires c κs = room-first (endsText (c .before .before .before .args .low) (c .before .before .before .args .high)) (ends-room totalWord (c .before .before .before .args .low) (c .before .before .before .args .high) (c .before .before .before .pre))
+put-word-requires c κs =
+    room-first (endsText (c .before .before .before .args .low) (c .before .before .before .args .high))
+    (ends-room totalWord (c .before .before .before .args .low) (c .before .before .before .args .high) (c .before .before .before .pre))
 
 ends-requires : tie.Need-ends-requires
 unfolding totalLine
-ends-requires c κs = room-next (c .before .before .before .put-word .ensures) (ends-room totalWord (c .before .before .before .before .before .before .before .args .low) (c .before .before .before .before .before .before .before .args .high) (c .before .before .before .before .before .before .before .pre))
+ends-requires c κs =
+    let at-put-word = c .before .before .before in
+    let start = at-put-word .before .before .before .before in
+    room-next (at-put-word .put-word .ensures) (ends-room totalWord (start .args .low) (start .args .high) (start .pre))
 
 same-length : tie.Need-same-length
 same-length c = search needs
 
 returns : tie.Need-returns
 unfolding totalLine
-returns c = ends-put totalWord (c .before .before .before .before .before .before .before .before .before .before .args .low) (c .before .before .before .before .before .before .before .before .before .before .args .high) (put-then (c .before .before .before .before .before .before .put-word .ensures) (c .before .before .ends .ensures))
+returns c =
+    let at-ends = c .before .before in
+    let at-put-word = at-ends .before .before .before .before in
+    let start = at-put-word .before .before .before .before in
+    ends-put totalWord (start .args .low) (start .args .high) (put-then (at-put-word .put-word .ensures) (at-ends .ends .ensures))
 
 pub total-line-spec : {M : Type 1} → statement M
 total-line-spec =

@@ -25,19 +25,29 @@ add-size-3 : tie.Need-add-size-3
 add-size-3 c = omega (arith, table-at-most (c .before .before .before .args .scheme) (c .before .before .before .pre .1))
 
 array-borrow-prefix-low : tie.Need-array-borrow-prefix-low
-array-borrow-prefix-low c = table-at-most (c .before .before .before .before .args .scheme) (c .before .before .before .before .pre .1)
+array-borrow-prefix-low c =
+    let start = c .before .before .before .before in
+    table-at-most (start .args .scheme) (start .pre .1)
 
 slice-aggregate-filled : tie.Need-slice-aggregate-filled
-slice-aggregate-filled c = sym (zeros-part 3334 _ (table-at-most (c .before .before .before .before .before .args .scheme) (c .before .before .before .before .before .pre .1)))
+slice-aggregate-filled c =
+    let start = c .before .before .before .before .before in
+    sym (zeros-part 3334 _ (table-at-most (start .args .scheme) (start .pre .1)))
 
 array-borrow-prefix-high : tie.Need-array-borrow-prefix-high
-array-borrow-prefix-high c = table-at-most (c .before .before .before .before .before .args .scheme) (c .before .before .before .before .before .pre .1)
+array-borrow-prefix-high c =
+    let start = c .before .before .before .before .before in
+    table-at-most (start .args .scheme) (start .pre .1)
 
 slice-aggregate-filled-2 : tie.Need-slice-aggregate-filled-2
-slice-aggregate-filled-2 c = sym (zeros-part 3334 _ (table-at-most (c .before .before .before .before .before .before .args .scheme) (c .before .before .before .before .before .before .pre .1)))
+slice-aggregate-filled-2 c =
+    let start = c .before .before .before .before .before .before in
+    sym (zeros-part 3334 _ (table-at-most (start .args .scheme) (start .pre .1)))
 
 filled-requires : tie.Need-filled-requires
-filled-requires c κs = (c .before .before .before .before .before .before .pre .0, c .before .before .before .before .before .before .pre .1, zeros-part 3334 _ (table-at-most (c .before .before .before .before .before .before .args .scheme) (c .before .before .before .before .before .before .pre .1)) ∙ omega arith, zeros-part 3334 _ (table-at-most (c .before .before .before .before .before .before .args .scheme) (c .before .before .before .before .before .before .pre .1)) ∙ omega arith)
+filled-requires c κs =
+    let start = c .before .before .before .before .before .before in
+    (start .pre .0, start .pre .1, zeros-part 3334 _ (table-at-most (start .args .scheme) (start .pre .1)) ∙ omega arith, zeros-part 3334 _ (table-at-most (start .args .scheme) (start .pre .1)) ∙ omega arith)
 
 same-length : tie.Need-same-length
 same-length c = search needs

@@ -52,7 +52,9 @@ put-pairs-slice-write-out : (t : ℕ) → put-pairs-lts.Need-slice-write-out (
   put-pairs-below t,
   put-pairs.Post,
 ) (put-pairs-at t) put-pairs.Post
-put-pairs-slice-write-out t c = digits-room-one _ _ (omega arith) (omega arith) (c .before .before .before .before .pre .1)
+put-pairs-slice-write-out t c =
+    let start = c .before .before .before .before in
+    digits-room-one _ _ (omega arith) (omega arith) (start .pre .1)
 
 put-pairs-add-result : (t : ℕ) → put-pairs-lts.Need-add-result (
   digit-reads.Asked,
@@ -62,7 +64,9 @@ put-pairs-add-result : (t : ℕ) → put-pairs-lts.Need-add-result (
   put-pairs-below t,
   put-pairs.Post,
 ) (put-pairs-at t) put-pairs.Post
-put-pairs-add-result t c = omega (arith, digits-room-one (c .before .before .before .before .args .pairs) (c .before .before .before .before .args .x) (omega arith) (omega arith) (c .before .before .before .before .pre .1))
+put-pairs-add-result t c =
+    let start = c .before .before .before .before in
+    omega (arith, digits-room-one (start .args .pairs) (start .args .x) (omega arith) (omega arith) (start .pre .1))
 
 put-pairs-same-length : (t : ℕ) → put-pairs-lts.Need-same-length (
   digit-reads.Asked,
@@ -72,7 +76,9 @@ put-pairs-same-length : (t : ℕ) → put-pairs-lts.Need-same-length (
   put-pairs-below t,
   put-pairs.Post,
 ) (put-pairs-at t) put-pairs.Post
-put-pairs-same-length t c = length-set (c .before .before .before .before .args .out .now) (c .before .before .before .before .args .at) (c .digit .result)
+put-pairs-same-length t c =
+    let start = c .before .before .before .before in
+    length-set (start .args .out .now) (start .args .at) (c .digit .result)
 
 put-pairs-returns-2 : (t : ℕ) → put-pairs-lts.Need-returns-2 (
   digit-reads.Asked,
@@ -92,7 +98,9 @@ put-pairs-put-two-requires : (t : ℕ) → put-pairs-lts.Need-put-two-requires (
   put-pairs-below t,
   put-pairs.Post,
 ) (put-pairs-at t) put-pairs.Post
-put-pairs-put-two-requires t c κs = (omega arith, digits-room-two _ _ (omega arith) (omega arith) (omega arith) (c .before .before .before .before .before .pre .1))
+put-pairs-put-two-requires t c κs =
+    let start = c .before .before .before .before .before in
+    (omega arith, digits-room-two _ _ (omega arith) (omega arith) (omega arith) (start .pre .1))
 
 put-pairs-same-length-2 : (t : ℕ) → put-pairs-lts.Need-same-length-2 (
   digit-reads.Asked,
@@ -132,7 +140,9 @@ put-pairs-put-pairs-requires : (t : ℕ) → put-pairs-lts.Need-put-pairs-requir
   put-pairs-below t,
   put-pairs.Post,
 ) (put-pairs-at t) put-pairs.Post
-put-pairs-put-pairs-requires t c κs = (omega arith, digits-room _ _ (omega arith) (omega arith) (c .before .before .before .before .before .pre .1))
+put-pairs-put-pairs-requires t c κs =
+    let start = c .before .before .before .before .before in
+    (omega arith, digits-room _ _ (omega arith) (omega arith) (start .pre .1))
 
 put-pairs-put-two-requires-2 : (t : ℕ) → put-pairs-lts.Need-put-two-requires-2 (
   digit-reads.Asked,
@@ -142,7 +152,10 @@ put-pairs-put-two-requires-2 : (t : ℕ) → put-pairs-lts.Need-put-two-requires
   put-pairs-below t,
   put-pairs.Post,
 ) (put-pairs-at t) put-pairs.Post
-put-pairs-put-two-requires-2 t c κs = (omega arith, digits-room-more _ _ (omega arith) (omega arith) (c .before .before .before .before .before .before .before .before .before .pre .1) (c .before .before .before .put-pairs .ensures))
+put-pairs-put-two-requires-2 t c κs =
+    let at-put-pairs = c .before .before .before in
+    let start = at-put-pairs .before .before .before .before .before .before in
+    (omega arith, digits-room-more _ _ (omega arith) (omega arith) (start .pre .1) (at-put-pairs .put-pairs .ensures))
 
 put-pairs-same-length-3 : (t : ℕ) → put-pairs-lts.Need-same-length-3 (
   digit-reads.Asked,
@@ -152,7 +165,10 @@ put-pairs-same-length-3 : (t : ℕ) → put-pairs-lts.Need-same-length-3 (
   put-pairs-below t,
   put-pairs.Post,
 ) (put-pairs-at t) put-pairs.Post
-put-pairs-same-length-3 t c = c .before .before .put-two2 .kept .0 ∙ c .before .before .before .before .before .before .put-pairs .kept .0
+put-pairs-same-length-3 t c =
+    let at-put-two2 = c .before .before in
+    let at-put-pairs = at-put-two2 .before .before .before .before in
+    at-put-two2 .put-two2 .kept .0 ∙ at-put-pairs .put-pairs .kept .0
 
 put-pairs-returns-4 : (t : ℕ) → put-pairs-lts.Need-returns-4 (
   digit-reads.Asked,
@@ -162,7 +178,10 @@ put-pairs-returns-4 : (t : ℕ) → put-pairs-lts.Need-returns-4 (
   put-pairs-below t,
   put-pairs.Post,
 ) (put-pairs-at t) put-pairs.Post
-put-pairs-returns-4 t c = digits-put-more _ _ (omega arith) (omega arith) (c .before .before .before .before .before .before .put-pairs .ensures) (c .before .before .put-two2 .ensures)
+put-pairs-returns-4 t c =
+    let at-put-two2 = c .before .before in
+    let at-put-pairs = at-put-two2 .before .before .before .before in
+    digits-put-more _ _ (omega arith) (omega arith) (at-put-pairs .put-pairs .ensures) (at-put-two2 .put-two2 .ensures)
 
 pub +put-pairs-spec : {M : Type 1} → statement M
 +put-pairs-spec = close μ-put-pairs λ t. put-pairs-lts.spec (

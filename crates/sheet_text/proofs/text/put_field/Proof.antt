@@ -16,10 +16,16 @@ put-number-requires : tie.Need-put-number-requires
 put-number-requires c κs = room-next (put-one (c .before .before .args .out .now) (c .before .before .args .at) 32) (c .before .before .pre)
 
 same-length : tie.Need-same-length
-same-length c = c .before .before .put-number .kept .0 ∙ length-set (c .before .before .before .before .before .args .out .now) (c .before .before .before .before .before .args .at) 32
+same-length c =
+    let at-put-number = c .before .before in
+    let start = at-put-number .before .before .before in
+    at-put-number .put-number .kept .0 ∙ length-set (start .args .out .now) (start .args .at) 32
 
 returns : tie.Need-returns
-returns c = put-then (put-one (c .before .before .before .before .before .args .out .now) (c .before .before .before .before .before .args .at) 32) (c .before .before .put-number .ensures)
+returns c =
+    let at-put-number = c .before .before in
+    let start = at-put-number .before .before .before in
+    put-then (put-one (start .args .out .now) (start .args .at) 32) (at-put-number .put-number .ensures)
 
 pub put-field-spec : {M : Type 1} → statement M
 put-field-spec =

@@ -35,7 +35,9 @@ loop-less c = omega arith
 loop-again : tie.Need-loop-again Inv-loop μ-loop
 loop-again c = (
   omega arith,
-  rw (c .before .before .loop .inv .1) (word-more (c .before .before .before .args .word .now) (c .before .before .before .args .out .now) (c .before .before .before .args .at) (c .before .before .loop .k) (omega arith)),
+  rw (c .before .before .loop .inv .1)
+  (word-more (c .before .before .before .args .word .now) (c .before .before .before .args .out .now) (c .before .before .before .args .at)
+  (c .before .before .loop .k) (omega arith)),
 )
 
 add-result : tie.Need-add-result Inv-loop μ-loop

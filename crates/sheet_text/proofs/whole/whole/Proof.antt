@@ -20,44 +20,69 @@ add-n c = search needs
 
 scheme-line-requires : tie.Need-scheme-line-requires
 scheme-line-requires c κs =
-    let start = c .before .before .before .before .before .before .args in
-    room-first (joined (start .scheme .horizon + 1) (yearText (start .low .now) (start .high .now) (start .scheme .classes))) (room-first (totalText (start .low .now) (start .high .now) (start .scheme .horizon + 1) (start .scheme .classes)) (sheet-room _ (c .before .before .before .before .before .before .pre .2) (c .before .before .before .before .before .before .pre .3) (c .before .before .before .before .before .before .pre .0)))
+    let start = c .before .before .before .before .before .before in
+    room-first (joined (start .args .scheme .horizon + 1) (yearText (start .args .low .now) (start .args .high .now) (start .args .scheme .classes)))
+    (room-first (totalText (start .args .low .now) (start .args .high .now) (start .args .scheme .horizon + 1) (start .args .scheme .classes))
+    (sheet-room _ (start .pre .2) (start .pre .3) (start .pre .0)))
 
 all-years-requires : tie.Need-all-years-requires
 all-years-requires c κs =
-    let start = c .before .before .before .before .before .before .before .before .before .before .args in (
-      room-next (c .before .before .before .scheme-line .ensures) (room-first (totalText (start .low .now) (start .high .now) (start .scheme .horizon + 1) (start .scheme .classes)) (sheet-room _ (c .before .before .before .before .before .before .before .before .before .before .pre .2) (c .before .before .before .before .before .before .before .before .before .before .pre .3) (c .before .before .before .before .before .before .before .before .before .before .pre .0))),
-      omega (arith, c .before .before .before .before .before .before .before .before .before .before .pre .1 .classes),
-      omega (arith, low-size (start .scheme) (c .before .before .before .before .before .before .before .before .before .before .pre .2)),
-      omega (arith, high-size (start .scheme) (c .before .before .before .before .before .before .before .before .before .before .pre .3)),
+    let at-scheme-line = c .before .before .before in
+    let start = at-scheme-line .before .before .before .before .before .before .before in
+    (
+      room-next (at-scheme-line .scheme-line .ensures)
+      (room-first (totalText (start .args .low .now) (start .args .high .now) (start .args .scheme .horizon + 1) (start .args .scheme .classes))
+      (sheet-room _ (start .pre .2) (start .pre .3) (start .pre .0))),
+      omega (arith, start .pre .1 .classes),
+      omega (arith, low-size (start .args .scheme) (start .pre .2)),
+      omega (arith, high-size (start .args .scheme) (start .pre .3)),
     )
 
 add-last : tie.Need-add-last
 add-last c = search needs
 
 mul-last : tie.Need-mul-last
-mul-last c = omega (arith, low-size (c .before .before .before .before .before .before .before .before .before .before .before .before .before .args .scheme) (c .before .before .before .before .before .before .before .before .before .before .before .before .before .pre .2), high-size (c .before .before .before .before .before .before .before .before .before .before .before .before .before .args .scheme) (c .before .before .before .before .before .before .before .before .before .before .before .before .before .pre .3))
+mul-last c =
+    let start = c .before .before .before .before .before .before .before .before .before .before .before .before .before in
+    omega (arith, low-size (start .args .scheme) (start .pre .2), high-size (start .args .scheme) (start .pre .3))
 
 mul-total-line : tie.Need-mul-total-line
-mul-total-line c = omega (arith, low-size (c .before .before .before .before .before .before .before .before .before .before .before .before .before .before .args .scheme) (c .before .before .before .before .before .before .before .before .before .before .before .before .before .before .pre .2), high-size (c .before .before .before .before .before .before .before .before .before .before .before .before .before .before .args .scheme) (c .before .before .before .before .before .before .before .before .before .before .before .before .before .before .pre .3))
+mul-total-line c =
+    let start = c .before .before .before .before .before .before .before .before .before .before .before .before .before .before in
+    omega (arith, low-size (start .args .scheme) (start .pre .2), high-size (start .args .scheme) (start .pre .3))
 
 shared-slice-read-total-line : tie.Need-shared-slice-read-total-line
-shared-slice-read-total-line c = omega (arith, low-size (c .before .before .before .before .before .before .before .before .before .before .before .before .before .before .before .args .scheme) (c .before .before .before .before .before .before .before .before .before .before .before .before .before .before .before .pre .2), high-size (c .before .before .before .before .before .before .before .before .before .before .before .before .before .before .before .args .scheme) (c .before .before .before .before .before .before .before .before .before .before .before .before .before .before .before .pre .3))
+shared-slice-read-total-line c =
+    let start = c .before .before .before .before .before .before .before .before .before .before .before .before .before .before .before in
+    omega (arith, low-size (start .args .scheme) (start .pre .2), high-size (start .args .scheme) (start .pre .3))
 
 mul-total-line-2 : tie.Need-mul-total-line-2
-mul-total-line-2 c = omega (arith, low-size (c .before .before .before .before .before .before .before .before .before .before .before .before .before .before .before .args .scheme) (c .before .before .before .before .before .before .before .before .before .before .before .before .before .before .before .pre .2), high-size (c .before .before .before .before .before .before .before .before .before .before .before .before .before .before .before .args .scheme) (c .before .before .before .before .before .before .before .before .before .before .before .before .before .before .before .pre .3))
+mul-total-line-2 c =
+    let start = c .before .before .before .before .before .before .before .before .before .before .before .before .before .before .before in
+    omega (arith, low-size (start .args .scheme) (start .pre .2), high-size (start .args .scheme) (start .pre .3))
 
 shared-slice-read-total-line-2 : tie.Need-shared-slice-read-total-line-2
-shared-slice-read-total-line-2 c = omega (arith, low-size (c .before .before .before .before .before .before .before .before .before .before .before .before .before .before .before .before .args .scheme) (c .before .before .before .before .before .before .before .before .before .before .before .before .before .before .before .before .pre .2), high-size (c .before .before .before .before .before .before .before .before .before .before .before .before .before .before .before .before .args .scheme) (c .before .before .before .before .before .before .before .before .before .before .before .before .before .before .before .before .pre .3))
+shared-slice-read-total-line-2 c =
+    let start = c .before .before .before .before .before .before .before .before .before .before .before .before .before .before .before .before in
+    omega (arith, low-size (start .args .scheme) (start .pre .2), high-size (start .args .scheme) (start .pre .3))
 
 total-line-requires : tie.Need-total-line-requires
-total-line-requires c κs = room-next (put-then (c .before .before .before .before .before .before .before .before .before .scheme-line .ensures) (c .before .before .before .before .before .all-years .ensures)) (sheet-room (c .before .before .before .before .before .before .before .before .before .before .before .before .before .before .before .before .args .scheme) (c .before .before .before .before .before .before .before .before .before .before .before .before .before .before .before .before .pre .2) (c .before .before .before .before .before .before .before .before .before .before .before .before .before .before .before .before .pre .3) (c .before .before .before .before .before .before .before .before .before .before .before .before .before .before .before .before .pre .0))
+total-line-requires c κs =
+    let at-all-years = c .before .before .before .before .before in
+    let at-scheme-line = at-all-years .before .before .before .before in
+    let start = at-scheme-line .before .before .before .before .before .before .before in
+    room-next (put-then (at-scheme-line .scheme-line .ensures) (at-all-years .all-years .ensures)) (sheet-room (start .args .scheme) (start .pre .2) (start .pre .3) (start .pre .0))
 
 same-length : tie.Need-same-length
 same-length c = search needs
 
 returns : tie.Need-returns
-returns c = sheet-put (c .before .before .before .before .before .before .before .before .before .before .before .before .before .before .before .before .before .before .before .args .scheme) (c .before .before .before .before .before .before .before .before .before .before .before .before .before .before .before .before .before .before .before .pre .2) (c .before .before .before .before .before .before .before .before .before .before .before .before .before .before .before .before .before .before .before .pre .3) (put-then (put-then (c .before .before .before .before .before .before .before .before .before .before .before .before .scheme-line .ensures) (c .before .before .before .before .before .before .before .before .all-years .ensures)) (c .before .before .total-line .ensures))
+returns c =
+    let at-total-line = c .before .before in
+    let at-all-years = at-total-line .before .before .before .before .before .before in
+    let at-scheme-line = at-all-years .before .before .before .before in
+    let start = at-scheme-line .before .before .before .before .before .before .before in
+    sheet-put (start .args .scheme) (start .pre .2) (start .pre .3) (put-then (put-then (at-scheme-line .scheme-line .ensures) (at-all-years .all-years .ensures)) (at-total-line .total-line .ensures))
 
 pub whole-spec : {M : Type 1} → statement M
 whole-spec =

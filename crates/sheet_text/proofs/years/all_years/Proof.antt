@@ -19,11 +19,14 @@ loop-holds : tie.Need-loop-holds Inv-loop μ-loop
 loop-holds c = (omega arith, joined-none _ _ _)
 
 year-lines-requires : tie.Need-year-lines-requires Inv-loop μ-loop
-year-lines-requires c κs = (
-  joined-room (yearText (c .before .before .before .before .before .before .args .low .now) (c .before .before .before .before .before .before .args .high .now) (c .before .before .before .before .before .before .args .s)) (c .before .before .loop .t) (c .before .before .before .before .before .before .args .n) (omega arith) (c .before .before .loop .inv .1) (c .before .before .before .before .before .before .pre .0),
+year-lines-requires c κs =
+    let at-loop = c .before .before in
+    let start = at-loop .before .before .before .before in
+    (
+  joined-room (yearText (start .args .low .now) (start .args .high .now) (start .args .s)) (at-loop .loop .t) (start .args .n) (omega arith) (at-loop .loop .inv .1) (start .pre .0),
   omega arith,
-  omega (arith, year-below (c .before .before .before .before .before .before .args .s) (c .before .before .before .before .before .before .args .n) (c .before .before .loop .t) (omega arith)),
-  omega (arith, year-below (c .before .before .before .before .before .before .args .s) (c .before .before .before .before .before .before .args .n) (c .before .before .loop .t) (omega arith)),
+  omega (arith, year-below (start .args .s) (start .args .n) (at-loop .loop .t) (omega arith)),
+  omega (arith, year-below (start .args .s) (start .args .n) (at-loop .loop .t) (omega arith)),
 )
 
 add-t : tie.Need-add-t Inv-loop μ-loop
@@ -33,13 +36,19 @@ loop-less : tie.Need-loop-less Inv-loop μ-loop
 loop-less c = omega arith
 
 loop-again : tie.Need-loop-again Inv-loop μ-loop
-loop-again c = (omega arith, joined-more (yearText (c .before .before .before .before .before .before .before .before .before .args .low .now) (c .before .before .before .before .before .before .before .before .before .args .high .now) (c .before .before .before .before .before .before .before .before .before .args .s)) (c .before .before .before .before .before .loop .t) (c .before .before .before .before .before .loop .inv .1) (c .before .before .year-lines .ensures))
+loop-again c =
+    let at-year-lines = c .before .before in
+    let at-loop = at-year-lines .before .before .before in
+    let start = at-loop .before .before .before .before in
+    (omega arith, joined-more (yearText (start .args .low .now) (start .args .high .now) (start .args .s)) (at-loop .loop .t) (at-loop .loop .inv .1) (at-year-lines .year-lines .ensures))
 
 same-length : tie.Need-same-length Inv-loop μ-loop
 same-length c = put-kept (c .before .loop .inv .1)
 
 returns : tie.Need-returns Inv-loop μ-loop
-returns c = joined-all (yearText (c .before .before .before .before .before .args .low .now) (c .before .before .before .before .before .args .high .now) (c .before .before .before .before .before .args .s)) (omega arith) (c .before .loop .inv .1)
+returns c =
+    let start = c .before .before .before .before .before in
+    joined-all (yearText (start .args .low .now) (start .args .high .now) (start .args .s)) (omega arith) (c .before .loop .inv .1)
 
 pub all-years-spec : {M : Type 1} → statement M
 all-years-spec =

@@ -36,7 +36,10 @@ shared-slice-read-class-line-2 : tie.Need-shared-slice-read-class-line-2 Inv-loo
 shared-slice-read-class-line-2 c = omega arith
 
 class-line-requires : tie.Need-class-line-requires Inv-loop μ-loop
-class-line-requires c κs = (joined-room (classText (c .before .before .before .before .before .before .before .before .args .low .now) (c .before .before .before .before .before .before .before .before .args .high .now) (c .before .before .before .before .before .before .before .before .args .year) (c .before .before .before .before .before .before .before .before .args .base)) (c .before .before .before .before .loop .j) (c .before .before .before .before .before .before .before .before .args .s) (omega arith) (c .before .before .before .before .loop .inv .1) (c .before .before .before .before .before .before .before .before .pre .0), omega arith)
+class-line-requires c κs =
+    let at-loop = c .before .before .before .before in
+    let start = at-loop .before .before .before .before in
+    (joined-room (classText (start .args .low .now) (start .args .high .now) (start .args .year) (start .args .base)) (at-loop .loop .j) (start .args .s) (omega arith) (at-loop .loop .inv .1) (start .pre .0), omega arith)
 
 add-j : tie.Need-add-j Inv-loop μ-loop
 add-j c = omega arith
@@ -45,13 +48,19 @@ loop-less : tie.Need-loop-less Inv-loop μ-loop
 loop-less c = omega arith
 
 loop-again : tie.Need-loop-again Inv-loop μ-loop
-loop-again c = (omega arith, joined-more (classText (c .before .before .before .before .before .before .before .before .before .before .before .args .low .now) (c .before .before .before .before .before .before .before .before .before .before .before .args .high .now) (c .before .before .before .before .before .before .before .before .before .before .before .args .year) (c .before .before .before .before .before .before .before .before .before .before .before .args .base)) (c .before .before .before .before .before .before .before .loop .j) (c .before .before .before .before .before .before .before .loop .inv .1) (c .before .before .class-line .ensures))
+loop-again c =
+    let at-class-line = c .before .before in
+    let at-loop = at-class-line .before .before .before .before .before in
+    let start = at-loop .before .before .before .before in
+    (omega arith, joined-more (classText (start .args .low .now) (start .args .high .now) (start .args .year) (start .args .base)) (at-loop .loop .j) (at-loop .loop .inv .1) (at-class-line .class-line .ensures))
 
 same-length : tie.Need-same-length Inv-loop μ-loop
 same-length c = put-kept (c .before .loop .inv .1)
 
 returns : tie.Need-returns Inv-loop μ-loop
-returns c = joined-all (classText (c .before .before .before .before .before .args .low .now) (c .before .before .before .before .before .args .high .now) (c .before .before .before .before .before .args .year) (c .before .before .before .before .before .args .base)) (omega arith) (c .before .loop .inv .1)
+returns c =
+    let start = c .before .before .before .before .before in
+    joined-all (classText (start .args .low .now) (start .args .high .now) (start .args .year) (start .args .base)) (omega arith) (c .before .loop .inv .1)
 
 pub class-lines-spec : {M : Type 1} → statement M
 class-lines-spec =

@@ -12,7 +12,9 @@ mul-base : tie.Need-mul-base
 mul-base c = search needs
 
 class-lines-requires : tie.Need-class-lines-requires
-class-lines-requires c κs = (year-room-classes _ _ _ _ (c .before .before .before .before .pre .0), omega arith, omega arith, omega arith)
+class-lines-requires c κs =
+    let start = c .before .before .before .before in
+    (year-room-classes _ _ _ _ (start .pre .0), omega arith, omega arith, omega arith)
 
 add-premium-line : tie.Need-add-premium-line
 add-premium-line c = search needs
@@ -33,13 +35,20 @@ shared-slice-read-premium-line-2 : tie.Need-shared-slice-read-premium-line-2
 shared-slice-read-premium-line-2 c = search needs
 
 premium-line-requires : tie.Need-premium-line-requires
-premium-line-requires c κs = year-room-premium _ _ _ _ (c .before .before .before .before .before .class-lines .ensures) (c .before .before .before .before .before .before .before .before .before .before .pre .0)
+premium-line-requires c κs =
+    let at-class-lines = c .before .before .before .before .before in
+    let start = at-class-lines .before .before .before .before .before in
+    year-room-premium _ _ _ _ (at-class-lines .class-lines .ensures) (start .pre .0)
 
 same-length : tie.Need-same-length
 same-length c = search needs
 
 returns : tie.Need-returns
-returns c = year-put (c .before .before .before .before .before .before .before .before .before .before .before .before .before .args .low .now) (c .before .before .before .before .before .before .before .before .before .before .before .before .before .args .high .now) (c .before .before .before .before .before .before .before .before .before .before .before .before .before .args .s) (c .before .before .before .before .before .before .before .before .before .before .before .before .before .args .year) (c .before .before .before .before .before .before .before .before .class-lines .ensures) (c .before .before .premium-line .ensures)
+returns c =
+    let at-premium-line = c .before .before in
+    let at-class-lines = at-premium-line .before .before .before .before .before .before in
+    let start = at-class-lines .before .before .before .before .before in
+    year-put (start .args .low .now) (start .args .high .now) (start .args .s) (start .args .year) (at-class-lines .class-lines .ensures) (at-premium-line .premium-line .ensures)
 
 pub year-lines-spec : {M : Type 1} → statement M
 year-lines-spec =
