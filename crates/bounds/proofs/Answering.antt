@@ -18,14 +18,14 @@ use Rattle.scheme.specs.Cause.{outside, causeOf, orElse, classCause, yearCause}
 use Rattle.scheme.specs.Rows.{chainOf}
 use Rattle.scheme.specs.Laws.Cause.{outside-false, declined, answered, first-none, second-none, test-none}
 use Rattle.scheme.specs.Laws.Judged.{accepted-cause}
-use Rattle.answers.specs.declared.Bounds.{Bounds}
-use Rattle.answers.specs.declared.Bounds.the-variants.{Answered, Refused}
+use Rattle.bounds_spec.specs.declared.Bounds.{Bounds}
+use Rattle.bounds_spec.specs.declared.Bounds.the-variants.{Answered, Refused}
 use Rattle.step.specs.Lists.{at}
 use Rattle.bounds.specs.Years.{yearsFigure}
 use Rattle.bounds.specs.Start.{Ready, startFigure, startBounds, ShareHeld}
-use Rattle.answers.specs.Answers.{answerBy, startOf, shareCause, shareAnswer, moneyCause, meanAnswer, totalAnswer}
-use Rattle.answers.specs.Promises.{SharePromise, MeanPromise, TotalPromise}
-use Rattle.answers.specs.Laws.Kept.{share-kept, mean-kept, total-kept}
+use Rattle.bounds_spec.specs.Answers.{answerBy, startOf, shareCause, shareAnswer, moneyCause, meanAnswer, totalAnswer}
+use Rattle.bounds_spec.specs.Promises.{SharePromise, MeanPromise, TotalPromise}
+use Rattle.bounds_spec.specs.Laws.Kept.{share-kept, mean-kept, total-kept}
 use Rattle.setchain.specs.Laws.Agreeing.{agree-refl}
 use Rattle.bounds.proofs.Agreeing.{years-same}
 use Rattle.bounds.proofs.Forming.{zeros}

@@ -14,11 +14,11 @@ use Rattle.scheme.specs.Cause.{causeOf, orElse}
 use Rattle.scheme.specs.Laws.Cause.{declined, first-none, second-none, test-none}
 use Rattle.scheme.specs.Laws.Judged.{accepted-cause}
 use Rattle.scheme.specs.Laws.Tables.{or-false-left, or-false-right}
-use Rattle.answers.specs.Answers.{sheetSlice}
-use Rattle.answers.specs.Table.{tableSize, lowTable, highTable, tableCause}
+use Rattle.bounds_spec.specs.Answers.{sheetSlice}
+use Rattle.bounds_spec.specs.Table.{tableSize, lowTable, highTable, tableCause}
 use Rattle.bounds.specs.Columns.{TableReady}
-use Rattle.answers.specs.Promises.{FiguresPromise}
-use Rattle.answers.specs.Laws.Kept.{figures-kept}
+use Rattle.bounds_spec.specs.Promises.{FiguresPromise}
+use Rattle.bounds_spec.specs.Laws.Kept.{figures-kept}
 use Rattle.bounds.proofs.Sheeting.{test-not}
 
 -- the code's cause is the definition's

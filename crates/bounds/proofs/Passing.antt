@@ -13,10 +13,10 @@ use mir.Val.{Fits}
 use Rattle.setchain.specs.Rows.{ONE, IntervalRow, SoundRow}
 use Rattle.setchain.specs.Step.{room}
 use Rattle.order.specs.Order.{Placed, Arranged, sorted}
-use Rattle.states.specs.Laws.Writing.{Rewritten}
+use Rattle.order.specs.Laws.Writing.{Rewritten}
 use Rattle.order.specs.Laws.Arranging.{arranged-placed, sorted-holds}
 use Rattle.step.specs.Lists.{at}
-use Rattle.one_year.specs.Figure.{stepFigure}
+use Rattle.step_spec.specs.Figure.{stepFigure}
 use Rattle.step.specs.Figure.{rounded, LARGEST}
 use Rattle.bounds.specs.Entries.{lows, rooms, counts, sumOf, listedRow, chainListed, Held}
 use Rattle.bounds.specs.Walk.{leftAt, sumAt, taken, Givable, Given, Walkable, Walked, Settleable, Settled}

@@ -17,12 +17,12 @@ use Rattle.scheme.specs.Rows.{chainOf}
 use Rattle.scheme.specs.Laws.Cause.{declined, first-none, second-none, test-none}
 use Rattle.scheme.specs.Laws.Tab.{as-tab}
 use Rattle.scheme.specs.Laws.Tables.{or-false-left, or-false-right}
-use Rattle.states.specs.Laws.Writing.{Written, written-more}
+use Rattle.order.specs.Laws.Writing.{Written, written-more}
 use Rattle.bounds.specs.Years.{yearsFigure}
 use Rattle.bounds.specs.Start.{startFigure, ShareHeld, Sheeted, figureShares}
-use Rattle.answers.specs.Answers.{startOf, moneyCause, sliceCause, sheetCause, sheetSlice, lowShares, highShares}
-use Rattle.answers.specs.Promises.{SheetPromise}
-use Rattle.answers.specs.Laws.Kept.{sheet-kept}
+use Rattle.bounds_spec.specs.Answers.{startOf, moneyCause, sliceCause, sheetCause, sheetSlice, lowShares, highShares}
+use Rattle.bounds_spec.specs.Promises.{SheetPromise}
+use Rattle.bounds_spec.specs.Laws.Kept.{sheet-kept}
 use Rattle.bounds.proofs.Forming.{zeros}
 use Rattle.bounds.proofs.Answering.{money-accepted, share-figure}
 

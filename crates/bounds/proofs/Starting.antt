@@ -22,7 +22,7 @@ use Rattle.step.specs.Lists.{at}
 use Rattle.bounds.specs.Entries.{chainListed, Held}
 use Rattle.bounds.specs.Years.{yearsFigure, Runnable, Ran}
 use Rattle.bounds.specs.Start.{Entered, Ready, startFigure, ShareHeld}
-use Rattle.answers.specs.Answers.{startOf}
+use Rattle.bounds_spec.specs.Answers.{startOf}
 use Rattle.bounds.proofs.Agreeing.{years-same}
 use Rattle.bounds.proofs.Forming.{zeros}
 

@@ -11,7 +11,7 @@ use Rattle.scheme.specs.declared.Scheme.{Scheme}
 use Rattle.scheme.specs.Accepted.{Accepted}
 use Rattle.scheme.specs.Rows.{chainOf}
 use Rattle.scheme.specs.Laws.Sound.{accepted-sound}
-use Rattle.gathering.specs.Laws.Entries.{lower-is, upper-is}
+use Rattle.rows.specs.Laws.SumByTarget.{lower-is, upper-is}
 use Rattle.step.specs.Lists.{gatheredRow, rulesOf}
 use Rattle.setchain.specs.Laws.Agreeing.{Agree, sound-agrees}
 use Rattle.bounds.specs.Entries.{counts, listedRow, Empty, Storable, Listed}

@@ -24,10 +24,10 @@ use Rattle.step.specs.Lists.{at}
 use Rattle.step.specs.Figure.{LARGEST}
 use Rattle.bounds.specs.Years.{yearsFigure, Runnable, Noted, Ran}
 use Rattle.bounds.specs.Start.{Entered, Ready, startFigure, ShareHeld}
-use Rattle.answers.specs.Answers.{startOf}
-use Rattle.answers.specs.Table.{placeOf, totalPlace, tableSize, tableEntry, lowTable, highTable}
+use Rattle.bounds_spec.specs.Answers.{startOf}
+use Rattle.bounds_spec.specs.Table.{placeOf, totalPlace, tableSize, tableEntry, lowTable, highTable}
 use Rattle.bounds.specs.Columns.{ColumnReady, TableReady, SharesIn, figureTable}
-use Rattle.answers.specs.Laws.Table.{entry-share, entry-mean, entry-total}
+use Rattle.bounds_spec.specs.Laws.Table.{entry-share, entry-mean, entry-total}
 use Rattle.bounds.proofs.Starting.{start-runs, start-years}
 use Rattle.bounds.proofs.Forming.{zeros}
 use Rattle.bounds.proofs.Answering.{share-ready, share-figure, mean-ready, mean-figure, total-ready, total-figure}

@@ -24,7 +24,7 @@ use Rattle.step.specs.Lists.{at, rowIn}
 use Rattle.setchain.specs.Laws.Agreeing.{Agree, sound-agrees}
 use Rattle.step.specs.Fill.{Filled, Pourable}
 use Rattle.step.specs.Step.{Steppable}
-use Rattle.one_year.specs.Figure.{stepFigure}
+use Rattle.step_spec.specs.Figure.{stepFigure}
 use Rattle.step.specs.Figure.{rounded, LARGEST}
 use Rattle.bounds.specs.Walk.{leftAt, sumAt}
 use Rattle.step.specs.Laws.Agreeing.{step-agrees}

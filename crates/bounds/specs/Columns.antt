@@ -11,8 +11,8 @@ use Rattle.scheme.specs.Rows.{chainOf}
 use Rattle.step.specs.Lists.{at}
 use Rattle.bounds.specs.Years.{yearsFigure}
 use Rattle.bounds.specs.Start.{Ready}
-use Rattle.answers.specs.Answers.{startOf}
-use Rattle.answers.specs.Table.{placeOf, tableSize, lowTable, highTable}
+use Rattle.bounds_spec.specs.Answers.{startOf}
+use Rattle.bounds_spec.specs.Table.{placeOf, tableSize, lowTable, highTable}
 
 -- what a column of the start class's figures takes: a scheme that is ready, a place in a year's row, and a slice of the table's size
 pub record ColumnReady (s : Scheme) (gain payoff : List ℕ) (first : ℕ) (out : List ℕ) : Type 0 where

@@ -8,13 +8,13 @@ use Rattle.setchain.specs.Years.{sharePayoff}
 use Rattle.scheme.specs.declared.Scheme.{Scheme}
 use Rattle.scheme.specs.Accepted.{Accepted}
 use Rattle.scheme.specs.Rows.{chainOf}
-use Rattle.answers.specs.declared.Bounds.{Bounds}
-use Rattle.answers.specs.declared.Bounds.the-variants.{Answered}
+use Rattle.bounds_spec.specs.declared.Bounds.{Bounds}
+use Rattle.bounds_spec.specs.declared.Bounds.the-variants.{Answered}
 use Rattle.step.specs.Lists.{at}
 use Rattle.setchain.specs.Laws.Agreeing.{Agree}
 use Rattle.bounds.specs.Entries.{listedRow, Held}
 use Rattle.bounds.specs.Years.{yearsFigure, Roomy}
-use Rattle.answers.specs.Answers.{startOf, lowShares, highShares}
+use Rattle.bounds_spec.specs.Answers.{startOf, lowShares, highShares}
 
 -- the lists hold the interval rows of an accepted scheme
 pub record Entered (s : Scheme) (entries spare : List ℕ) : Type 0 where

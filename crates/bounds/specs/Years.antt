@@ -10,7 +10,7 @@ use Rattle.setchain.specs.Rows.{SetChain}
 use Rattle.setchain.specs.Years.{lowYears, highYears}
 use Rattle.order.specs.Order.{Placed}
 use Rattle.step.specs.Lists.{at}
-use Rattle.one_year.specs.Figure.{stepFigure}
+use Rattle.step_spec.specs.Figure.{stepFigure}
 use Rattle.step.specs.Figure.{LARGEST}
 use Rattle.bounds.specs.Entries.{chainListed, Held}
 

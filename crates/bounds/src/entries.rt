@@ -1,7 +1,7 @@
 // The entries of all interval rows, listed by the class that they lead to: a year then passes each of them once, along the order of the payoffs.
 // The list of state j stands from place j × 32 on, in one table: at e the state whose row has the entry of place e, at LOWS + e its lower end, at ROOMS + e the room from there to its upper end, and at COUNTS + j how many entries lead to state j.
-use gathering::gather;
-use gathering::spare;
+use rows::gather;
+use rows::spare;
 use scheme::Scheme;
 ghost use Rattle.scheme.specs.Accepted.{Accepted};
 ghost use Rattle.bounds.specs.Entries.{Addable, Added, Empty, Listable, Listed, RowListed, Storable};

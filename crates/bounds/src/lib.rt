@@ -1,10 +1,10 @@
 // The bounds of a scheme: shares, means and totals, with what they promise (document 01, "Years").
-pub use answers::Bounds;
+pub use bounds_spec::Bounds;
 use scheme::Scheme;
 ghost use mathlib.Core.Path.{_≡_};
-ghost use Rattle.answers.specs.Answers.{highShares, lowShares, meanAnswer, shareAnswer, sheetCause, sheetSlice, totalAnswer};
-ghost use Rattle.answers.specs.Table.{highTable, lowTable, tableCause};
-ghost use Rattle.answers.specs.Promises.{FiguresPromise, MeanPromise, SharePromise, SheetPromise, TotalPromise};
+ghost use Rattle.bounds_spec.specs.Answers.{highShares, lowShares, meanAnswer, shareAnswer, sheetCause, sheetSlice, totalAnswer};
+ghost use Rattle.bounds_spec.specs.Table.{highTable, lowTable, tableCause};
+ghost use Rattle.bounds_spec.specs.Promises.{FiguresPromise, MeanPromise, SharePromise, SheetPromise, TotalPromise};
 
 mod entries;
 mod payoffs;

@@ -3,8 +3,8 @@ use crate::Bounds;
 use crate::entries::list_scheme;
 use crate::years::years;
 use scheme::Scheme;
-use states::number;
-use states::state;
+use order::number;
+use order::state;
 ghost use mathlib.Core.Path.{_≡_};
 ghost use Rattle.bounds.specs.Start.{Entered, Ready, startBounds, startFigure};
 

@@ -3,7 +3,7 @@ use crate::entries::COUNTS;
 use crate::entries::LOWS;
 use crate::entries::ROOMS;
 use order::sort;
-use states::state;
+use order::state;
 ghost use mathlib.Core.Path.{_≡_};
 ghost use Prim.Native.Nat.{min};
 ghost use lib.ListN.{length};

@@ -1,7 +1,7 @@
 // The causes of lent buffers, numbers copied into them, and what writing into them answered.
-use layout::WriteAnswer;
+use record_spec::WriteAnswer;
 ghost use mathlib.Core.Path.{_≡_};
-ghost use Rattle.layout.specs.Write.{writeNumber, writtenLength};
+ghost use Rattle.record_spec.specs.Write.{writeNumber, writtenLength};
 ghost use Rattle.buffers.specs.Buffers.{rowCopied, sizeCause};
 
 // Cause 13: a length that is not the size asked for.

@@ -85,13 +85,13 @@ fn refused_queries(s: Scheme) {
     line(b"ROW OF CLASS 2 OF 1", wide(rows::row(s, 2).number));
     line(
         b"SHARE OF CLASS 2 OF 1",
-        wide(queries::share_cause(s, 2, 101)),
+        wide(bounds::share_cause(s, 2, 101)),
     );
-    line(b"SHARE IN YEAR 101", wide(queries::share_cause(s, 1, 101)));
-    line(b"TOTAL IN YEAR 101", wide(queries::money_cause(s, 101)));
+    line(b"SHARE IN YEAR 101", wide(bounds::share_cause(s, 1, 101)));
+    line(b"TOTAL IN YEAR 101", wide(bounds::money_cause(s, 101)));
     line(
         b"SHARE SHEET INTO 1 AND 2",
-        wide(queries::sheet_cause(s, 100, 1, 2)),
+        wide(bounds::sheet_cause(s, 100, 1, 2)),
     );
 }
 

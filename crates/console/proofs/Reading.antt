@@ -9,8 +9,8 @@ use native.Mathlib.Nat.{zero-add}
 use borrow.Author.Tests.{lt-leb}
 use lib.ListN.{length, take, drop, length-append}
 use lib.Seq.{sets, length-sets, sets-eq, length-take-le, take-at, drop-at, drop-drop}
-use Rattle.big_endian.specs.Numbers.{partPut}
-use Rattle.big_endian.specs.Laws.{part-held}
+use Rattle.big_endian_spec.specs.Numbers.{partPut}
+use Rattle.big_endian_spec.specs.Laws.{part-held}
 use Rattle.console.specs.Input.{ReadInto}
 
 -- nothing read

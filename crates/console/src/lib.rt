@@ -57,7 +57,7 @@ fn more(buffer: &mut [u8], done: usize) -> Input
     let mut chunk = io::buffer();
     let read = fetch(&mut chunk);
     let length = smaller(read.length, buffer.len() - done);
-    putting::copy(&chunk, 0, buffer, done, length);
+    big_endian::copy(&chunk, 0, buffer, done, length);
     Input {
         length,
         failed: read.failed,

@@ -1,11 +1,11 @@
 // Prints the answers of every operation but the sheet's text on many records from standard input, each behind its length in two bytes,
 // and on ready schemes. What it must print was written by the plain Rust version (rust/regenerate); rust/trials/src/bin/family.rs
 // describes the lines.
-use bands::Band;
-use bands::Reader;
+use record_parts::Band;
+use record_parts::Reader;
 use bounds::Bounds;
 use scheme::Scheme;
-use writing::WriteAnswer;
+use record_write::WriteAnswer;
 
 // The most bytes of a record, and five more.
 const ROOM: usize = 460;
@@ -103,12 +103,12 @@ fn shown(part: &[u8]) {
 // The rule row of a class.
 fn rules(bytes: &[u8], class: u64) {
     word(b"RULES", class);
-    shown(rule_rows::rule_row(bytes, class));
+    shown(record_parts::rule_row(bytes, class));
 }
 
 // The band of a column, if there is one.
 fn band(bytes: &[u8], column: usize) {
-    match bands::band_at(bytes, column) {
+    match record_parts::band_at(bytes, column) {
         Band::Ends { lower, upper } => {
             console::number(lower as u64);
             console::number(upper as u64);
@@ -148,12 +148,12 @@ fn opened(number: u8) {
 
 // One call of a reader.
 fn hand_out<'a>(r: &mut Reader<'a>) {
-    shown_band(bands::next(r));
+    shown_band(record_parts::next(r));
 }
 
 // A reader over the record; one call more than there can be columns.
 fn reader(bytes: &[u8]) {
-    let answer = bands::open(bytes);
+    let answer = record_parts::open(bytes);
     opened(answer.number);
     let mut reader = answer.reader;
     hand_out(&mut reader);
@@ -170,7 +170,7 @@ fn reader(bytes: &[u8]) {
 // The first band, and the end of the line.
 fn first(bytes: &[u8]) {
     console::bytes(b" FIRST");
-    shown_band(bands::first_band(bytes));
+    shown_band(record_parts::first_band(bytes));
     console::end();
 }
 
@@ -191,7 +191,7 @@ fn wrote(answer: WriteAnswer) -> usize {
 // The record written into a slice.
 fn write_into(scheme: Scheme, out: &mut [u8]) {
     word(b"WRITE", out.len() as u64);
-    wrote(writing::write(scheme, out));
+    wrote(record_write::write(scheme, out));
     console::number(checksum(out));
     console::end();
 }
@@ -365,7 +365,7 @@ fn one(number: u8, bytes: &[u8]) {
 // The record of a scheme: its length and checksum.
 fn record_of(scheme: Scheme) {
     let mut out = [0u8; 455];
-    let length = wrote(writing::write(scheme, &mut out));
+    let length = wrote(record_write::write(scheme, &mut out));
     console::number(checksum(front(&out, length)));
 }
 

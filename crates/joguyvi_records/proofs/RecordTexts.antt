@@ -12,17 +12,17 @@ use Rattle.scheme.specs.declared.Scheme.{Scheme}
 use Rattle.scheme.specs.Cause.{orElse, causeOf}
 use Rattle.scheme.specs.Laws.Cause.{first-cause, second-cause, first-none, second-none, test-none, declined, answered}
 use Rattle.scheme.specs.Stored.{schemeOf}
-use Rattle.layout.specs.Layout.{version1, schemeIn}
-use Rattle.layout.specs.Read.{readCause}
-use Rattle.layout.specs.Laws.Read.{read-framed}
-use Rattle.layout.specs.Bytes.{bytesOf}
-use Rattle.layout.specs.Write.{writeNumber, writtenLength, recordLength, writeCause, writeAnswer, writeLeaves}
-use Rattle.big_endian.specs.Numbers.{Bytes}
-use Rattle.writing.specs.Agreement.{copied}
-use Rattle.writing.specs.Laws.Write.{answer-number, answer-value}
+use Rattle.record_spec.specs.Layout.{version1, schemeIn}
+use Rattle.record_spec.specs.Read.{readCause}
+use Rattle.record_spec.specs.Laws.Read.{read-framed}
+use Rattle.record_spec.specs.Bytes.{bytesOf}
+use Rattle.record_spec.specs.Write.{writeNumber, writtenLength, recordLength, writeCause, writeAnswer, writeLeaves}
+use Rattle.big_endian_spec.specs.Numbers.{Bytes}
+use Rattle.record_write.specs.Agreement.{copied}
+use Rattle.record_write.specs.Laws.Write.{answer-number, answer-value}
 use Rattle.buffers.specs.Buffers.{bufferCause}
 use Rattle.buffers.specs.Laws.Texting.{Texted, unfilled}
-use Rattle.interface.specs.Records.{recordNumber, SameBytes}
+use Rattle.joguyvi_spec.specs.Records.{recordNumber, SameBytes}
 
 -- the test for room
 room-only : (b : Bool) (n : ℕ) → n ≡ cond b 13 0 → (n ≡ 0 → ⊥) → n ≡ 13

@@ -1,10 +1,10 @@
 // Records checked, written again and made ready, for C and for Rust: each function answers 0 or the cause's number, and fills the lent buffers only where it answers 0.
 ghost use mathlib.Core.Path.{_≡_};
-ghost use Rattle.layout.specs.Write.{writeLeaves};
-ghost use Rattle.layout.specs.Layout.{schemeIn, version1};
-ghost use Rattle.ready_schemes.specs.Answer.{readyAnswer};
+ghost use Rattle.record_spec.specs.Write.{writeLeaves};
+ghost use Rattle.record_spec.specs.Layout.{schemeIn, version1};
+ghost use Rattle.ready_spec.specs.Answer.{readyAnswer};
 ghost use Rattle.buffers.specs.Buffers.{filledWhere};
-ghost use Rattle.interface.specs.Records.{SameBytes, checkNumber, readyNumber, recordLength, rewriteNumber};
+ghost use Rattle.joguyvi_spec.specs.Records.{SameBytes, checkNumber, readyNumber, recordLength, rewriteNumber};
 
 mod records;
 

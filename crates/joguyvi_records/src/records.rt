@@ -2,9 +2,9 @@
 use scheme::Scheme;
 ghost use mathlib.Core.Path.{_≡_};
 ghost use Rattle.scheme.specs.Cause.{causeOf};
-ghost use Rattle.layout.specs.Write.{writeLeaves};
+ghost use Rattle.record_spec.specs.Write.{writeLeaves};
 ghost use Rattle.buffers.specs.Buffers.{filledWhere};
-ghost use Rattle.interface.specs.Records.{recordLength, recordNumber};
+ghost use Rattle.joguyvi_spec.specs.Records.{recordLength, recordNumber};
 
 // Puts an accepted scheme's record into `out`, and its length into a buffer of 1 number; answers the cause, or 0.
 pub fn put_record(scheme: Scheme, out: &mut [u8], length: &mut [u64]) -> u8
@@ -16,7 +16,7 @@ pub fn put_record(scheme: Scheme, out: &mut [u8], length: &mut [u64]) -> u8
     if length.len() != 1 {
         return scheme::SLICE_OUT;
     }
-    let answer = writing::write(scheme, out);
+    let answer = record_write::write(scheme, out);
     let number = buffers::write_number(answer);
     if number != 0 {
         return number;

@@ -11,16 +11,16 @@ use lib.ListN.{length, take, drop, length-drop}
 use lib.Seq.{sets, length-take-le, take-length, drop-length}
 use Rattle.scheme.specs.Cause.{outside}
 use Rattle.scheme.specs.Laws.Cause.{first-cause, second-cause, declined, answered}
-use Rattle.big_endian.specs.Numbers.{partPut}
-use Rattle.big_endian.specs.Laws.{part-held}
+use Rattle.big_endian_spec.specs.Numbers.{partPut}
+use Rattle.big_endian_spec.specs.Laws.{part-held}
 use Rattle.record.specs.Laws.Lists.{sets-front}
-use Rattle.layout.specs.Layout.{version1, rowPlace, classesIn, columnsIn}
-use Rattle.layout.specs.Read.{readCause}
-use Rattle.layout.specs.RuleRow.{rowCause, ruleRow}
-use Rattle.rule_rows.specs.Laws.{row-read, row-framed, row-within}
+use Rattle.record_spec.specs.Layout.{version1, rowPlace, classesIn, columnsIn}
+use Rattle.record_spec.specs.Read.{readCause}
+use Rattle.record_spec.specs.RuleRow.{rowCause, ruleRow}
+use Rattle.record_parts.specs.RuleRowLaws.{row-read, row-framed, row-within}
 use Rattle.buffers.specs.Buffers.{bufferCause, filledWhere}
 use Rattle.buffers.specs.Laws.Sizes.{buffer-out, buffer-fits, thirteen}
-use Rattle.interface.specs.Rows.{partNumber, ruleRowNumber}
+use Rattle.joguyvi_spec.specs.Rows.{partNumber, ruleRowNumber}
 
 -- what is answered and left, for one buffer that is to hold x
 abbrev pub Parted : (number cause : ℕ) (x a a′ : List ℕ) → Type 0

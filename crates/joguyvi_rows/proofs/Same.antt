@@ -6,10 +6,10 @@ use mathlib.Core.List.{List}
 use Rattle.scheme.specs.declared.Scheme.{Scheme}
 use Rattle.scheme.specs.Stored.{schemeOf}
 use Rattle.rows.specs.declared.RowAnswer.{RowAnswer}
-use Rattle.layout.specs.Layout.{columnsIn, schemeIn, version1}
+use Rattle.record_spec.specs.Layout.{columnsIn, schemeIn, version1}
 use Rattle.buffers.specs.Buffers.{buffersCause}
 use Rattle.buffers.specs.Laws.Pairs.{Paired}
-use Rattle.interface.specs.Rows.{putRowNumber, lowerBands, upperBands}
+use Rattle.joguyvi_spec.specs.Rows.{putRowNumber, lowerBands, upperBands}
 
 -- an interval row's two buffers, for an answer that is the same
 pub row-same : (answer same : RowAnswer) (a b : List ℕ) {n : ℕ} {a′ b′ : List ℕ} → answer ≡ same

@@ -1,9 +1,9 @@
 // Interval rows, rule rows and bands of a record, for C and for Rust: each function answers 0 or the cause's number, and fills the lent buffers only where it answers 0.
 ghost use mathlib.Core.Path.{_≡_};
-ghost use Rattle.layout.specs.Layout.{schemeIn, version1};
-ghost use Rattle.layout.specs.RuleRow.{ruleRow};
+ghost use Rattle.record_spec.specs.Layout.{schemeIn, version1};
+ghost use Rattle.record_spec.specs.RuleRow.{ruleRow};
 ghost use Rattle.buffers.specs.Buffers.{filledWhere};
-ghost use Rattle.interface.specs.Rows.{bandsNumber, lowerBands, rowIn, rowNumber, ruleRowNumber, upperBands};
+ghost use Rattle.joguyvi_spec.specs.Rows.{bandsNumber, lowerBands, rowIn, rowNumber, ruleRowNumber, upperBands};
 
 mod copies;
 mod row_buffers;
@@ -33,7 +33,7 @@ pub extern "C" fn joguyvi_rule_row(bytes: &[u8], class: u64, out: &mut [u8]) -> 
     if number != 0 {
         return number;
     }
-    row_buffers::put_part(rule_rows::rule_row(bytes, class), out)
+    row_buffers::put_part(record_parts::rule_row(bytes, class), out)
 }
 
 // The bands of all columns, in parts, into two buffers of as many numbers as there are columns.

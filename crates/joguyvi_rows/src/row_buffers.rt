@@ -6,7 +6,7 @@ use scheme::or_else;
 ghost use mathlib.Core.Path.{_≡_};
 ghost use Prim.Native.Nat.{_≤_};
 ghost use Rattle.buffers.specs.Buffers.{buffersCause, filledWhere};
-ghost use Rattle.interface.specs.Rows.{lowerBands, partNumber, putRowNumber, upperBands};
+ghost use Rattle.joguyvi_spec.specs.Rows.{lowerBands, partNumber, putRowNumber, upperBands};
 
 // Puts an interval row into two buffers of 32 numbers, and answers the cause, or 0.
 pub fn put_row(answer: RowAnswer, lower: &mut [u64], upper: &mut [u64]) -> u8
@@ -37,7 +37,7 @@ pub fn put_part(part: &[u8], out: &mut [u8]) -> u8
     if out.len() != part.len() {
         return scheme::SLICE_OUT;
     }
-    putting::copy(part, 0, out, 0, part.len());
+    big_endian::copy(part, 0, out, 0, part.len());
     0
 }
 

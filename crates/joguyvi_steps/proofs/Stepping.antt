@@ -9,19 +9,19 @@ use lib.ListN.{length, getD}
 use Rattle.scheme.specs.declared.Scheme.{Scheme}
 use Rattle.scheme.specs.Cause.{orElse}
 use Rattle.scheme.specs.Laws.Cause.{first-cause, second-cause, declined, answered, first-none, second-none}
-use Rattle.layout.specs.declared.ReadAnswer.{ReadAnswer}
-use Rattle.layout.specs.Layout.{schemeIn, version1}
-use Rattle.layout.specs.Read.{readCause, readAnswer}
-use Rattle.one_year.specs.declared.StepAnswer.{StepAnswer}
+use Rattle.record_spec.specs.declared.ReadAnswer.{ReadAnswer}
+use Rattle.record_spec.specs.Layout.{schemeIn, version1}
+use Rattle.record_spec.specs.Read.{readCause, readAnswer}
+use Rattle.step_spec.specs.declared.StepAnswer.{StepAnswer}
 use Rattle.step.specs.Lists.{at}
-use Rattle.one_year.specs.Figure.{stepFigure}
-use Rattle.one_year.specs.StepAnswer.{stepCause, classRow, StepAnswered}
-use Rattle.layout.specs.Laws.Read.{read-cause, read-passed, read-in}
+use Rattle.step_spec.specs.Figure.{stepFigure}
+use Rattle.step_spec.specs.StepAnswer.{stepCause, classRow, StepAnswered}
+use Rattle.record_spec.specs.Laws.Read.{read-cause, read-passed, read-in}
 use Rattle.buffers.specs.Buffers.{bufferCause, filledWhere}
 use Rattle.buffers.specs.Laws.Sizes.{buffer-size}
 use Rattle.buffers.specs.Laws.Pairs.{Paired}
-use Rattle.interface.specs.Steps.{payoffOf, stepBuffers, stepNumber, figureOf, RowKept}
-use Rattle.interface.specs.Laws.Steps.{row-kept}
+use Rattle.joguyvi_spec.specs.Steps.{payoffOf, stepBuffers, stepNumber, figureOf, RowKept}
+use Rattle.joguyvi_spec.specs.Laws.Steps.{row-kept}
 
 -- the buffers of a step with no cause have their sizes
 pub step-sizes : (payoff figure row : List ℕ) → stepBuffers payoff figure row ≡ 0 → (length figure ≡ 1) × (length row ≡ 32)

@@ -7,10 +7,10 @@ ghost use mathlib.Core.Path.{_≡_};
 ghost use mathlib.Core.List.{[], _∷_};
 ghost use lib.ListN.{getD};
 ghost use Rattle.scheme.specs.Cause.{orElse};
-ghost use Rattle.layout.specs.Layout.{schemeIn, version1};
-ghost use Rattle.one_year.specs.StepAnswer.{StepAnswered};
+ghost use Rattle.record_spec.specs.Layout.{schemeIn, version1};
+ghost use Rattle.step_spec.specs.StepAnswer.{StepAnswered};
 ghost use Rattle.buffers.specs.Buffers.{bufferCause, filledWhere, sizeCause};
-ghost use Rattle.interface.specs.Steps.{figureOf, payoffOf, RowKept, stepBuffers, stepNumber};
+ghost use Rattle.joguyvi_spec.specs.Steps.{figureOf, payoffOf, RowKept, stepBuffers, stepNumber};
 
 // The number at a place of a buffer, or 0 past its end.
 fn number_at(numbers: &[u64], place: usize) -> u64

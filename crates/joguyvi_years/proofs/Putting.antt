@@ -8,17 +8,17 @@ use lib.ListN.{length, set}
 use Rattle.scheme.specs.Cause.{orElse}
 use Rattle.scheme.specs.Laws.Cause.{first-cause, second-cause, declined, answered}
 use Rattle.scheme.specs.declared.Scheme.{Scheme}
-use Rattle.layout.specs.declared.ReadAnswer.{ReadAnswer}
-use Rattle.layout.specs.Layout.{schemeIn, version1}
-use Rattle.layout.specs.Read.{readCause, readAnswer}
-use Rattle.layout.specs.Laws.Read.{read-cause, read-passed, read-in}
-use Rattle.answers.specs.declared.Bounds.{Bounds}
-use Rattle.answers.specs.Answers.{numberOf, lowOf, highOf, sheetCause, lowShares, highShares}
-use Rattle.answers.specs.Promises.{SheetPromise}
+use Rattle.record_spec.specs.declared.ReadAnswer.{ReadAnswer}
+use Rattle.record_spec.specs.Layout.{schemeIn, version1}
+use Rattle.record_spec.specs.Read.{readCause, readAnswer}
+use Rattle.record_spec.specs.Laws.Read.{read-cause, read-passed, read-in}
+use Rattle.bounds_spec.specs.declared.Bounds.{Bounds}
+use Rattle.bounds_spec.specs.Answers.{numberOf, lowOf, highOf, sheetCause, lowShares, highShares}
+use Rattle.bounds_spec.specs.Promises.{SheetPromise}
 use Rattle.buffers.specs.Buffers.{bufferCause, filledWhere}
 use Rattle.buffers.specs.Laws.Sizes.{buffer-out, buffer-fits, thirteen}
-use Rattle.interface.specs.Shares.{sharesNumber}
-use Rattle.interface.specs.Figures.{putNumber, putLeaves, boundsNumber, boundsLeaves, BufferKeeps}
+use Rattle.joguyvi_spec.specs.Shares.{sharesNumber}
+use Rattle.joguyvi_spec.specs.Figures.{putNumber, putLeaves, boundsNumber, boundsLeaves, BufferKeeps}
 
 -- two numbers written into a buffer of 2
 two : (out : List ℕ) (a b : ℕ) → length out ≡ 2 → set (set out 0 a) 1 b ≡ a ∷ b ∷ []
@@ -49,7 +49,7 @@ module _ (b : Bounds) (out : List ℕ) where
       let f : orElse (numberOf b) (bufferCause 2 out) ≡ 0 = second-cause (numberOf b) (bufferCause 2 out) (sym e ∙ none) ∙ buffer-fits 2 out fits in
       (sym f, rw (l, h) (two out (lowOf b) (highOf b) fits ∙ sym (answered _ _ _ f)))
 
--- low and high of a record: an answer by the scheme, and what is promised of it (crate interface, `Laws.Bounds`)
+-- low and high of a record: an answer by the scheme, and what is promised of it (crate joguyvi_spec, `Laws.Bounds`)
 module _ (answer : Scheme → Bounds) (keeps : ℕ → ℕ → Type 0) (bytes out : List ℕ)
     (promised : BufferKeeps keeps (boundsNumber bytes (answer (schemeIn version1 bytes)) out) (boundsLeaves bytes (answer (schemeIn version1 bytes)) out))
     {a : ReadAnswer} (is : a ≡ readAnswer bytes) where

@@ -6,10 +6,10 @@ use mathlib.Core.Bool.{Bool, true, false, cond}
 use mathlib.Core.List.{List, _++_}
 use lib.Dec.{ltb}
 use lib.ListN.{length, drop}
-use Rattle.layout.specs.declared.WriteAnswer.the-variants.{Written, Declined}
-use Rattle.sheet_lines.specs.Sheet.{sheetText}
-use Rattle.layout.specs.Write.{writeNumber}
-use Rattle.sheet_lines.specs.Answer.{roomFor, sheetAnswer, sheetLeaves}
+use Rattle.record_spec.specs.declared.WriteAnswer.the-variants.{Written, Declined}
+use Rattle.sheet_spec.specs.Sheet.{sheetText}
+use Rattle.record_spec.specs.Write.{writeNumber}
+use Rattle.sheet_spec.specs.Answer.{roomFor, sheetAnswer, sheetLeaves}
 
 -- over the outcome of the test for room
 only-13 : (b : Bool) (n : ℕ) → (writeNumber (cond b (Declined 13) (Written n)) ≡ 0 → ⊥) → writeNumber (cond b (Declined 13) (Written n)) ≡ 13

@@ -1,8 +1,8 @@
 // The low and the high figure of an answer put into a lent buffer.
 use bounds::Bounds;
 ghost use mathlib.Core.Path.{_≡_};
-ghost use Rattle.answers.specs.Answers.{highOf, lowOf, numberOf};
-ghost use Rattle.interface.specs.Figures.{putLeaves, putNumber};
+ghost use Rattle.bounds_spec.specs.Answers.{highOf, lowOf, numberOf};
+ghost use Rattle.joguyvi_spec.specs.Figures.{putLeaves, putNumber};
 
 // The cause in an answer, or 0.
 fn number_of(b: Bounds) -> u8

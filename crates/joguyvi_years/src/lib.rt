@@ -1,13 +1,13 @@
 // Shares, means, totals, share sheets and whole sheets of a record, for C and for Rust: each function answers 0 or the cause's number, and fills the lent buffers only where it answers 0.
 ghost use mathlib.Core.Path.{_≡_};
-ghost use Rattle.layout.specs.Layout.{schemeIn, version1};
-ghost use Rattle.answers.specs.Answers.{highShares, lowShares, meanAnswer, shareAnswer, totalAnswer};
-ghost use Rattle.answers.specs.Promises.{SheetPromise};
-ghost use Rattle.sheet_lines.specs.Answer.{sheetLeaves};
+ghost use Rattle.record_spec.specs.Layout.{schemeIn, version1};
+ghost use Rattle.bounds_spec.specs.Answers.{highShares, lowShares, meanAnswer, shareAnswer, totalAnswer};
+ghost use Rattle.bounds_spec.specs.Promises.{SheetPromise};
+ghost use Rattle.sheet_spec.specs.Answer.{sheetLeaves};
 ghost use Rattle.buffers.specs.Buffers.{filledWhere};
-ghost use Rattle.interface.specs.Figures.{boundsLeaves, boundsNumber, BufferKeeps, MeanKept, ShareKept, TotalKept};
-ghost use Rattle.interface.specs.Shares.{sharesNumber};
-ghost use Rattle.interface.specs.Texts.{sheetLength, sheetNumber};
+ghost use Rattle.joguyvi_spec.specs.Figures.{boundsLeaves, boundsNumber, BufferKeeps, MeanKept, ShareKept, TotalKept};
+ghost use Rattle.joguyvi_spec.specs.Shares.{sharesNumber};
+ghost use Rattle.joguyvi_spec.specs.Texts.{sheetLength, sheetNumber};
 
 mod figures;
 

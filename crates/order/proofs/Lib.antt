@@ -3,3 +3,4 @@ pub mod Paying
 pub mod Shifting
 pub mod Comparing
 pub mod Ending
+pub mod Numbering

@@ -2,12 +2,12 @@
 ghost use mathlib.Core.Path.{_≡_};
 ghost use Prim.Native.Nat.{_/_, _≤_, _<_};
 ghost use Rattle.scheme.specs.Tables.{tab};
-ghost use Rattle.ready_schemes.specs.Scales.{chosen, classesOf, factorOf, tenthsOf};
-ghost use Rattle.ready_schemes.specs.Moves.{held, movedClass, Movable};
-ghost use Rattle.ready_schemes.specs.Ready.{ruleEntry, premiumEntry, readyScheme};
+ghost use Rattle.ready_spec.specs.Scales.{chosen, classesOf, factorOf, tenthsOf};
+ghost use Rattle.ready_spec.specs.Moves.{held, movedClass, Movable};
+ghost use Rattle.ready_spec.specs.Ready.{ruleEntry, premiumEntry, readyScheme};
 ghost use Rattle.scheme.specs.Stored.{noScheme};
-ghost use Rattle.ready_schemes.specs.Answer.{numberCause, baseCause, readyCause, readyAnswer};
-pub use ready_schemes::ReadyAnswer;
+ghost use Rattle.ready_spec.specs.Answer.{numberCause, baseCause, readyCause, readyAnswer};
+pub use ready_spec::ReadyAnswer;
 use scheme::Scheme;
 use scheme::or_else;
 

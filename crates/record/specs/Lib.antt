@@ -1,2 +1,2 @@
--- The lemmas by which reading a record is proved; crate layout has the definitions.
+-- The lemmas by which reading a record is proved; crate record_spec has the definitions.
 pub mod Laws

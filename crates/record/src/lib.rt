@@ -1,8 +1,8 @@
 // The record of document 01: its length, the scheme in any bytes, and their cause.
 ghost use mathlib.Core.Path.{_≡_};
-ghost use Rattle.layout.specs.Read.{readCause, declinedWith, readAnswer};
-ghost use Rattle.layout.specs.Layout.{version1, lengthOf};
-pub use layout::ReadAnswer;
+ghost use Rattle.record_spec.specs.Read.{readCause, declinedWith, readAnswer};
+ghost use Rattle.record_spec.specs.Layout.{version1, lengthOf};
+pub use record_spec::ReadAnswer;
 use scheme::Scheme;
 
 mod reading;

@@ -4,11 +4,11 @@ ghost use Prim.Native.Nat.{_+_, _*_, _<_, _≤_};
 ghost use lib.ListN.{length, getD};
 ghost use Rattle.scheme.specs.Tables.{tab};
 ghost use Rattle.scheme.specs.Cause.{outside};
-ghost use Rattle.big_endian.specs.Numbers.{beAt};
+ghost use Rattle.big_endian_spec.specs.Numbers.{beAt};
 ghost use Rattle.scheme.specs.Stored.{upTo, rulesUpTo};
-ghost use Rattle.layout.specs.Layout.{version1, schemeIn};
-ghost use Rattle.layout.specs.Read.{versionCause, fieldCause, sizeCause, lengthCause, frameCause};
-ghost use Rattle.layout.specs.Frame.{Framed};
+ghost use Rattle.record_spec.specs.Layout.{version1, schemeIn};
+ghost use Rattle.record_spec.specs.Read.{versionCause, fieldCause, sizeCause, lengthCause, frameCause};
+ghost use Rattle.record_spec.specs.Frame.{Framed};
 use super::FIELD_OUT;
 use super::LENGTH_OUT;
 use super::VERSION_OUT;
@@ -43,7 +43,7 @@ fn field_cause(bytes: &[u8]) -> u8
     if bytes.len() < 7 {
         return FIELD_OUT;
     }
-    if (numbers::be2(bytes, 1) as usize) != bytes.len() {
+    if (big_endian::be2(bytes, 1) as usize) != bytes.len() {
         return FIELD_OUT;
     }
     0
@@ -99,7 +99,7 @@ fn rules(bytes: &[u8], from: usize, s: usize, m: usize) -> [u8; 256]
     let mut at = from;
     let mut to: usize = 0;
     while i < s {
-        putting::copy(bytes, at, &mut rules, to, m);
+        big_endian::copy(bytes, at, &mut rules, to, m);
         at += m;
         to += 8;
         i += 1;
@@ -116,7 +116,7 @@ fn ends(bytes: &[u8], from: usize, n: usize) -> [u32; 8]
     let mut k: usize = 0;
     let mut at = from;
     while k < n {
-        ends[k] = numbers::be4(bytes, at);
+        ends[k] = big_endian::be4(bytes, at);
         at += 8;
         k += 1;
     }
@@ -132,7 +132,7 @@ fn premiums(bytes: &[u8], from: usize, n: usize) -> [u32; 32]
     let mut i: usize = 0;
     let mut at = from;
     while i < n {
-        premiums[i] = numbers::be4(bytes, at);
+        premiums[i] = big_endian::be4(bytes, at);
         at += 4;
         i += 1;
     }

@@ -28,3 +28,91 @@ pub fn row(scheme: Scheme, class: u64) -> RowAnswer
     let uppers = scheme.uppers;
     rows::answered(rules, lowers, uppers, scheme.columns, scheme.classes, class)
 }
+
+// The entries that the cells of one class make, over slices.
+ghost use mathlib.Core.Path.{_≡_};
+ghost use Prim.Native.Nat.{min, _+_, _-_, _≤_};
+ghost use lib.ListN.{length, replicate};
+ghost use Rattle.setchain.specs.Rows.{ONE};
+ghost use Rattle.scheme.specs.Tables.{tab};
+ghost use Rattle.scheme.specs.Gathered.{gathered, raised, spareOf, Capped};
+
+// b more than a, at most ONE
+fn add_capped(a: u64, b: u32) -> u64
+    requires { ⌜ a ≤ ONE ⌝ }
+    ensures { λ r. ⌜ r ≡ min ONE (a + b) ⌝ }
+{
+    let sum = a + b as u64;
+    if setchain::ONE < sum {
+        setchain::ONE
+    } else {
+        sum
+    }
+}
+
+// the entry of the class that a rule leads to, raised by the end of its band
+fn raise(out: &mut [u64], rule: u8, end: u32)
+    requires { ⌜ Capped (now out) ⌝ }
+    ensures { λ r. ⌜ now (out .exit) ≡ raised (now (out .entry)) rule end ⌝ }
+{
+    let class = rule as usize;
+    if class == 0 {
+        return;
+    }
+    if out.len() < class {
+        return;
+    }
+    let place = class - 1;
+    out[place] = add_capped(out[place], end);
+}
+
+// 0 everywhere
+fn clear(out: &mut [u64])
+    ensures { λ r. ⌜ now (out .exit) ≡ replicate (length (now (out .entry))) 0 ⌝ }
+{
+    let mut i: usize = 0;
+    while i < out.len() {
+        out[i] = 0;
+        i += 1;
+    }
+}
+
+// the smaller of two lengths
+fn shorter(a: usize, b: usize) -> usize
+    ensures { λ r. ⌜ r ≡ min a b ⌝ }
+{
+    if a < b { a } else { b }
+}
+
+// For each class, what the bands of the cells that lead to it come to, at most ONE.
+pub fn gather(rules: &[u8], band: &[u32], out: &mut [u64])
+    ensures { λ r. ⌜ now (out .exit) ≡ tab (length (now (out .entry))) (gathered (now (rules .entry)) (now (band .entry))) ⌝ }
+{
+    clear(out);
+    let n = shorter(rules.len(), band.len());
+    let mut k: usize = 0;
+    while k < n {
+        raise(out, rules[k], band[k]);
+        k += 1;
+    }
+}
+
+// a less b, and 0 where b is more
+fn less(a: u64, b: u64) -> u64
+    ensures { λ r. ⌜ r ≡ a - b ⌝ }
+{
+    if a < b { 0 } else { a - b }
+}
+
+// The parts of ONE that the lower entries of a row leave; none where they come to more.
+pub fn spare(lower: &[u64]) -> u64
+    ensures { λ r. ⌜ r ≡ spareOf (now (lower .entry)) ⌝ }
+{
+    let mut left = setchain::ONE;
+    let mut i: usize = 0;
+    while i < lower.len() {
+        left = less(left, lower[i]);
+        i += 1;
+    }
+    left
+}

@@ -6,12 +6,12 @@ use mathlib.Core.List.{List}
 use native.Mathlib.Omega.{arith}
 use native.Mathlib.Nat.{le-trans}
 use lib.ListN.{length, take}
-use Rattle.layout.specs.declared.WriteAnswer.{WriteAnswer}
-use Rattle.layout.specs.Write.{writeNumber, writtenLength}
-use Rattle.sheet_lines.specs.Sheet.{sheetText}
-use Rattle.sheet_lines.specs.Answer.{roomFor, sheetAnswer, TextPromise}
-use Rattle.sheet_lines.specs.Laws.Room.{roomy}
-use Rattle.sheet_lines.specs.Laws.Cut.{cut-text}
+use Rattle.record_spec.specs.declared.WriteAnswer.{WriteAnswer}
+use Rattle.record_spec.specs.Write.{writeNumber, writtenLength}
+use Rattle.sheet_spec.specs.Sheet.{sheetText}
+use Rattle.sheet_spec.specs.Answer.{roomFor, sheetAnswer, TextPromise}
+use Rattle.sheet_spec.specs.Laws.Room.{roomy}
+use Rattle.sheet_spec.specs.Laws.Cut.{cut-text}
 use Rattle.sheet_text.specs.Laws.Answer.{answer-written}
 use Rattle.sheet.specs.Program.{ComposePre, ComposePost}
 

@@ -4,10 +4,10 @@ use mathlib.Core.Path.{_≡_, refl, ap}
 use mathlib.Core.List.{List, [], _∷_}
 use native.Mathlib.Omega.{arith}
 use lib.ListN.{getD}
-use Rattle.big_endian.specs.Numbers.{Bytes, beAt}
-use Rattle.layout.specs.Read.{frameCause}
-use Rattle.sheet_lines.specs.Text.{digitsWithin}
-use Rattle.sheet_lines.specs.Sheet.{refusedLine, sheetText}
+use Rattle.big_endian_spec.specs.Numbers.{Bytes, beAt}
+use Rattle.record_spec.specs.Read.{frameCause}
+use Rattle.sheet_spec.specs.Text.{digitsWithin}
+use Rattle.sheet_spec.specs.Sheet.{refusedLine, sheetText}
 use Rattle.sheet.specs.Program.{ComposePost}
 
 -- seven bytes with a right length field and no class: cause 3

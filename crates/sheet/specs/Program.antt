@@ -3,8 +3,8 @@ use Prim.Native.Nat.{ℕ, _≤_}
 use mathlib.Core.Path.{_≡_}
 use mathlib.Core.List.{List}
 use lib.ListN.{length, take}
-use Rattle.big_endian.specs.Numbers.{Bytes}
-use Rattle.sheet_lines.specs.Sheet.{sheetText}
+use Rattle.big_endian_spec.specs.Numbers.{Bytes}
+use Rattle.sheet_spec.specs.Sheet.{sheetText}
 
 -- the n bytes that were read, in a buffer of one byte more than a record's length field can say, and a buffer with room for any sheet
 pub record ComposePre (input : List ℕ) (n : ℕ) (out : List ℕ) : Type 0 where

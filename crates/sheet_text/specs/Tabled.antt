@@ -2,8 +2,8 @@
 use Prim.Native.Nat.{ℕ, suc, _+_, _*_}
 use mathlib.Core.List.{List, _++_}
 use lib.ListN.{getD}
-use Rattle.layout.specs.Joined.{joined}
-use Rattle.sheet_lines.specs.Sheet.{classLine, premiumLine}
+use Rattle.record_spec.specs.Joined.{joined}
+use Rattle.sheet_spec.specs.Sheet.{classLine, premiumLine}
 
 -- class j's line of a year, whose figures stand from place `base` on
 abbrev pub classText : (low high : List ℕ) → (year base j : ℕ) → List ℕ

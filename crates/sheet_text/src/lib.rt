@@ -1,11 +1,11 @@
 // The sheet of a record as text (document 01, "Sheet program and examples").
-pub use layout::WriteAnswer;
+pub use record_spec::WriteAnswer;
 use scheme::Scheme;
 ghost use mathlib.Core.Path.{_≡_};
 ghost use Prim.Native.Nat.{_≤_};
 ghost use Rattle.scheme.specs.Accepted.{Accepted};
-ghost use Rattle.sheet_lines.specs.Sheet.{refusedLine, sheetOf};
-ghost use Rattle.sheet_lines.specs.Answer.{roomOf, Told, sheetAnswer, sheetLeaves, TextPromise};
+ghost use Rattle.sheet_spec.specs.Sheet.{refusedLine, sheetOf};
+ghost use Rattle.sheet_spec.specs.Answer.{roomOf, Told, sheetAnswer, sheetLeaves, TextPromise};
 
 mod lines;
 mod tables;

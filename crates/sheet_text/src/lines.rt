@@ -1,8 +1,8 @@
 // The lines of a sheet put into a lent slice: each function answers the place after its line.
 ghost use Prim.Native.Nat.{_+_, _<_};
 ghost use mathlib.Core.List.{_++_};
-ghost use Rattle.sheet_lines.specs.Text.{field, newline};
-ghost use Rattle.sheet_lines.specs.Sheet.{schemeLine, classLine, premiumLine, totalLine, refusedLine};
+ghost use Rattle.sheet_spec.specs.Text.{field, newline};
+ghost use Rattle.sheet_spec.specs.Sheet.{schemeLine, classLine, premiumLine, totalLine, refusedLine};
 ghost use Rattle.sheet_text.specs.Put.{Put, Room};
 use crate::text;
 use scheme::Scheme;

@@ -2,8 +2,8 @@
 ghost use mathlib.Core.Path.{_≡_};
 ghost use lib.ListN.{length};
 ghost use Rattle.scheme.specs.Accepted.{Accepted};
-ghost use Rattle.answers.specs.Table.{tableSize};
-ghost use Rattle.sheet_lines.specs.Sheet.{sheetOf};
+ghost use Rattle.bounds_spec.specs.Table.{tableSize};
+ghost use Rattle.sheet_spec.specs.Sheet.{sheetOf};
 ghost use Rattle.sheet_text.specs.Put.{Put, Room};
 use crate::whole;
 use scheme::Scheme;

@@ -2,7 +2,7 @@
 ghost use mathlib.Core.Path.{_≡_};
 ghost use Prim.Native.Nat.{_+_, _*_, _≤_, _<_};
 ghost use lib.ListN.{length};
-ghost use Rattle.sheet_lines.specs.Text.{digitsWithin, twoDigits, decimal, field, newline};
+ghost use Rattle.sheet_spec.specs.Text.{digitsWithin, twoDigits, decimal, field, newline};
 ghost use Rattle.sheet_text.specs.Put.{Put, Room};
 
 // puts the bytes of a word

@@ -1,8 +1,8 @@
 // The sheet of an accepted scheme, from the tables of its figures.
 ghost use mathlib.Core.Path.{_≡_};
 ghost use Rattle.scheme.specs.Accepted.{SizeFits};
-ghost use Rattle.answers.specs.Table.{lowTable, highTable};
-ghost use Rattle.sheet_lines.specs.Sheet.{sheetOf};
+ghost use Rattle.bounds_spec.specs.Table.{lowTable, highTable};
+ghost use Rattle.sheet_spec.specs.Sheet.{sheetOf};
 ghost use Rattle.sheet_text.specs.Put.{Put, Room};
 use crate::lines;
 use crate::years;

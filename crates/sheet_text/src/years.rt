@@ -1,7 +1,7 @@
-// The lines of the years, from a table of low and one of high figures (crate answers, `Table`).
+// The lines of the years, from a table of low and one of high figures (crate bounds_spec, `Table`).
 ghost use Prim.Native.Nat.{suc, _+_, _*_, _<_, _≤_};
 ghost use lib.ListN.{length};
-ghost use Rattle.layout.specs.Joined.{joined};
+ghost use Rattle.record_spec.specs.Joined.{joined};
 ghost use Rattle.sheet_text.specs.Tabled.{classText, yearText};
 ghost use Rattle.sheet_text.specs.Put.{Put, Room};
 use crate::lines;

@@ -14,13 +14,13 @@ use Rattle.scheme.specs.Cause.{outside, sizeOut, startOut, horizonOut, ruleOut,
 use Rattle.scheme.specs.Laws.Cause.{outside-false, first-cause, second-cause, declined, answered, cond-true, cond-false, first-none, second-none, test-none}
 use Rattle.scheme.specs.Laws.Judged.{accepted-cause}
 use Rattle.scheme.specs.Laws.Sound.{accepted-sound}
-use Rattle.gathering.specs.Laws.Entries.{lower-is, upper-is}
+use Rattle.rows.specs.Laws.SumByTarget.{lower-is, upper-is}
 use Rattle.scheme.specs.Laws.Tables.{any-false}
-use Rattle.one_year.specs.declared.StepAnswer.{StepAnswer}
+use Rattle.step_spec.specs.declared.StepAnswer.{StepAnswer}
 use Rattle.step.specs.Lists.{at}
 use Rattle.setchain.specs.Laws.Agreeing.{Agree, agree-sym, sound-agrees}
-use Rattle.one_year.specs.Figure.{stepFigure}
-use Rattle.one_year.specs.StepAnswer.{payoffOut, stepCause, classRow, Reaches, StepAnswered}
+use Rattle.step_spec.specs.Figure.{stepFigure}
+use Rattle.step_spec.specs.StepAnswer.{payoffOut, stepCause, classRow, Reaches, StepAnswered}
 use Rattle.step.specs.Solve.{rowFromParts, Answerable, Made}
 use Rattle.step.proofs.Solving.{reaches-same, reached-figure}
 

@@ -19,10 +19,10 @@ use Rattle.order.specs.Order.{NotAfter, Arranged, Placed, numbered, sorted}
 use Rattle.order.specs.Laws.Arranging.{numbered-placed, sorted-holds}
 use Rattle.step.specs.Lists.{at, rowIn, gatheredRow}
 use Rattle.setchain.specs.Laws.Agreeing.{Agree, agree-sym, parts-agree, sound-agrees}
-use Rattle.one_year.specs.Figure.{stepFigure}
+use Rattle.step_spec.specs.Figure.{stepFigure}
 use Rattle.step.specs.Figure.{rounded}
 use Rattle.step.specs.Step.{Steppable, Stepped}
-use Rattle.one_year.specs.StepAnswer.{Reaches}
+use Rattle.step_spec.specs.StepAnswer.{Reaches}
 use Rattle.step.specs.Solve.{rowFromParts, Solvable, Solved, Answerable, Made}
 
 -- the sum of part times payoff looks at states below n alone

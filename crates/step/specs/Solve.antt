@@ -5,10 +5,10 @@ use mathlib.Core.Bool.{Bool}
 use mathlib.Core.List.{List}
 use lib.ListN.{length, take, drop}
 use Rattle.setchain.specs.Rows.{IntervalRow, SoundRow}
-use Rattle.one_year.specs.declared.StepAnswer.{StepAnswer}
+use Rattle.step_spec.specs.declared.StepAnswer.{StepAnswer}
 use Rattle.step.specs.Lists.{at, gatheredRow}
 use Rattle.step.specs.Figure.{LARGEST}
-use Rattle.one_year.specs.StepAnswer.{Reaches}
+use Rattle.step_spec.specs.StepAnswer.{Reaches}
 
 -- the interval row of a class from a scheme's parts
 abbrev pub rowFromParts : List ℕ → List ℕ → List ℕ → ℕ → ℕ → IntervalRow

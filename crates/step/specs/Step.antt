@@ -9,7 +9,7 @@ use Rattle.setchain.specs.Rows.{SoundRow}
 use Rattle.setchain.specs.Step.{Parts}
 use Rattle.order.specs.Order.{Arranged, NotAfter}
 use Rattle.step.specs.Lists.{at, rowIn}
-use Rattle.one_year.specs.Figure.{stepFigure}
+use Rattle.step_spec.specs.Figure.{stepFigure}
 use Rattle.step.specs.Figure.{rounded, LARGEST}
 
 -- lists of one length, a sound row, payoffs that are not too large, and an order of the classes by payoff

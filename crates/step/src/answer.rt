@@ -1,10 +1,10 @@
 // The public one-year step's parts (document 01, "One year" and "When a call is declined").
 use crate::StepAnswer;
 use crate::step::step;
-use gathering::gather;
+use rows::gather;
 use order::sort;
 use scheme::Scheme;
-use states::number;
+use order::number;
 ghost use mathlib.Core.Path.{_≡_};
 ghost use Prim.Native.Nat.{_≤_};
 ghost use lib.Dec.{ltb};
@@ -13,7 +13,7 @@ ghost use Rattle.order.specs.Order.{Arranged};
 ghost use Rattle.scheme.specs.Tables.{anyBelow};
 ghost use Rattle.step.specs.Lists.{at};
 ghost use Rattle.step.specs.Solve.{Answerable, Made, Solvable, Solved};
-ghost use Rattle.one_year.specs.StepAnswer.{StepAnswered, stepCause};
+ghost use Rattle.step_spec.specs.StepAnswer.{StepAnswered, stepCause};
 
 // Whether some class's payoff is above 1,000,000,000.
 fn payoff_out(payoff: &[u64; 32], classes: u8) -> bool

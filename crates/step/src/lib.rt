@@ -1,9 +1,9 @@
 // The one-year step of a class (document 01, "One year").
-pub use one_year::MOST_PAYOFF;
-pub use one_year::StepAnswer;
+pub use step_spec::MOST_PAYOFF;
+pub use step_spec::StepAnswer;
 use scheme::Scheme;
 ghost use mathlib.Core.Bool.{true, false};
-ghost use Rattle.one_year.specs.StepAnswer.{StepAnswered};
+ghost use Rattle.step_spec.specs.StepAnswer.{StepAnswered};
 
 mod answer;
 mod figure;

@@ -33,16 +33,16 @@ use denote.Triple.Spec.{Meets, tripleOf}
 use denote.Triple.Table.{entered, cited}
 use denote.Triple.Walked.{Stays, gave-ref, walkOf, goes-gave-ref, Walks, ends-at, walked, walk-meets}
 use denote.Triple.Clauses.{ensured, lasts}
-use Rattle.layout.specs.Reader.{BandAnswered, afterAt}
-use Rattle.layout.specs.declared.Band.{Band}
-use Rattle.bands.specs.declared.Reader.{Reader}
-use Rattle.layout.proofs.Band as B
-use Rattle.layout.proofs.Band.Laws as B′
-use Rattle.bands.proofs.Reader as T
-use Rattle.bands.proofs.next as next
-use Rattle.bands.proofs.next.Symbol as next-def
-use Rattle.bands.proofs.next.Symbol.{name as #bands·next}
-use Rattle.bands.proofs.next.Met as next-thm
+use Rattle.record_spec.specs.Reader.{BandAnswered, afterAt}
+use Rattle.record_spec.specs.declared.Band.{Band}
+use Rattle.record_parts.specs.declared.Reader.{Reader}
+use Rattle.record_spec.proofs.Band as B
+use Rattle.record_spec.proofs.Band.Laws as B′
+use Rattle.record_parts.proofs.Reader as T
+use Rattle.record_parts.proofs.next as next
+use Rattle.record_parts.proofs.next.Symbol as next-def
+use Rattle.record_parts.proofs.next.Symbol.{name as #bands·next}
+use Rattle.record_parts.proofs.next.Met as next-thm
 use Rattle.family.proofs.shown_band as shown
 use Rattle.family.proofs.shown_band.Symbol as shown-def
 use Rattle.family.proofs.shown_band.Symbol.{name as #family·shown-band}

@@ -47,16 +47,16 @@ use denote.Triple.Table.{entered, cited}
 use denote.Triple.Walked.{Stays, stay-none-slice, walkOf, goes-none-slice, Walks, ends-at, walked, walk-meets}
 use denote.Triple.Clauses.{ensured, lasts}
 use denote.Exit.{yes}
-use Rattle.bands.specs.declared.Reader.{Reader}
-use Rattle.bands.specs.declared.Opened.{Opened}
-use Rattle.bands.proofs.Reader as T
-use Rattle.bands.proofs.Reader.Laws as T′
-use Rattle.bands.proofs.Opened as O
-use Rattle.bands.proofs.Opened.Laws as O′
-use Rattle.bands.proofs.open as opening
-use Rattle.bands.proofs.open.Symbol as opening-def
-use Rattle.bands.proofs.open.Symbol.{name as #bands·open}
-use Rattle.bands.proofs.open.Met as opening-thm
+use Rattle.record_parts.specs.declared.Reader.{Reader}
+use Rattle.record_parts.specs.declared.Opened.{Opened}
+use Rattle.record_parts.proofs.Reader as T
+use Rattle.record_parts.proofs.Reader.Laws as T′
+use Rattle.record_parts.proofs.Opened as O
+use Rattle.record_parts.proofs.Opened.Laws as O′
+use Rattle.record_parts.proofs.open as opening
+use Rattle.record_parts.proofs.open.Symbol as opening-def
+use Rattle.record_parts.proofs.open.Symbol.{name as #bands·open}
+use Rattle.record_parts.proofs.open.Met as opening-thm
 use Rattle.family.proofs.opened as opened
 use Rattle.family.proofs.opened.Symbol as opened-def
 use Rattle.family.proofs.opened.Symbol.{name as #family·opened}

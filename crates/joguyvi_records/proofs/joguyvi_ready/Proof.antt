@@ -3,8 +3,8 @@
 use mathlib.Core.Path.{ap, sym, _∙_}
 use Rattle.scheme.specs.Cause.{causeOf}
 use Rattle.scheme.specs.Laws.Judged.{cause-accepted}
-use Rattle.ready_schemes.specs.Answer.{readyAnswer}
-use Rattle.ready_schemes.specs.Theorems.{answered-accepted}
+use Rattle.ready_spec.specs.Answer.{readyAnswer}
+use Rattle.ready_spec.specs.Theorems.{answered-accepted}
 use Rattle.joguyvi_records.proofs.RecordTexts.{record-stopped, record-passed}
 use borrow.Author.Needs.{needs}
 use Rattle.joguyvi_records.proofs.joguyvi_ready.Statement.{statement}

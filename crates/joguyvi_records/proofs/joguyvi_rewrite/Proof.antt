@@ -4,9 +4,9 @@ use mathlib.Core.Path.{ap, _∙_}
 use native.Mathlib.Omega.{arith}
 use Rattle.scheme.specs.Laws.Cause.{second-none}
 use Rattle.scheme.specs.Cause.{causeOf}
-use Rattle.layout.specs.Layout.{schemeIn, version1}
-use Rattle.layout.specs.Read.{frameCause, readCause}
-use Rattle.layout.specs.Laws.Read.{read-cause, read-passed, read-in}
+use Rattle.record_spec.specs.Layout.{schemeIn, version1}
+use Rattle.record_spec.specs.Read.{frameCause, readCause}
+use Rattle.record_spec.specs.Laws.Read.{read-cause, read-passed, read-in}
 use Rattle.joguyvi_records.proofs.RecordTexts.{record-stopped, record-passed, same-stopped, same-passed}
 use borrow.Author.Needs.{needs}
 use Rattle.joguyvi_records.proofs.joguyvi_rewrite.Statement.{statement}

@@ -4,11 +4,11 @@ use mathlib.Core.Path.{ap, _∙_}
 use Rattle.scheme.specs.Laws.Cause.{second-none}
 use Rattle.scheme.specs.Cause.{causeOf}
 use Rattle.scheme.specs.Laws.Judged.{accepted-cause}
-use Rattle.layout.specs.Layout.{columnsIn, schemeIn, version1}
-use Rattle.layout.specs.Read.{frameCause}
+use Rattle.record_spec.specs.Layout.{columnsIn, schemeIn, version1}
+use Rattle.record_spec.specs.Read.{frameCause}
 use Rattle.buffers.specs.Buffers.{buffersCause}
-use Rattle.interface.specs.Rows.{lowerBands, upperBands}
-use Rattle.layout.specs.Laws.Read.{read-cause, read-passed, read-in}
+use Rattle.joguyvi_spec.specs.Rows.{lowerBands, upperBands}
+use Rattle.record_spec.specs.Laws.Read.{read-cause, read-passed, read-in}
 use Rattle.buffers.specs.Laws.Pairs.{pair-stopped, pair-passed}
 use Rattle.joguyvi_rows.proofs.Same.{bands-same}
 use borrow.Author.Needs.{needs}

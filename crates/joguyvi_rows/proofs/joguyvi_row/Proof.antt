@@ -2,8 +2,8 @@
 -- Assumes nothing.
 use mathlib.Core.Path.{ap, _∙_}
 use Rattle.rows.specs.Rows.{rowAnswer}
-use Rattle.interface.specs.Rows.{rowIn, putRowNumber}
-use Rattle.layout.specs.Laws.Read.{read-cause, read-passed, read-in}
+use Rattle.joguyvi_spec.specs.Rows.{rowIn, putRowNumber}
+use Rattle.record_spec.specs.Laws.Read.{read-cause, read-passed, read-in}
 use Rattle.buffers.specs.Laws.Pairs.{pair-stopped, pair-passed}
 use Rattle.joguyvi_rows.proofs.Same.{row-same}
 use borrow.Author.Needs.{needs}

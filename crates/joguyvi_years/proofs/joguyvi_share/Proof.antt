@@ -1,9 +1,9 @@
 -- `joguyvi_share` meets its contract: the cause of reading, or the answer put into the buffer, with its promise.
 -- Assumes nothing.
-use Rattle.answers.specs.Answers.{shareAnswer}
-use Rattle.layout.specs.Layout.{schemeIn, version1}
-use Rattle.interface.specs.Figures.{ShareKept}
-use Rattle.interface.specs.Laws.Bounds.{share-promised}
+use Rattle.bounds_spec.specs.Answers.{shareAnswer}
+use Rattle.record_spec.specs.Layout.{schemeIn, version1}
+use Rattle.joguyvi_spec.specs.Figures.{ShareKept}
+use Rattle.joguyvi_spec.specs.Laws.Bounds.{share-promised}
 use Rattle.joguyvi_years.proofs.Putting.{bounds-stopped, bounds-passed}
 use borrow.Author.Needs.{needs}
 use Rattle.joguyvi_years.proofs.joguyvi_share.Statement.{statement}

@@ -1,8 +1,8 @@
 -- `joguyvi_sheet` meets its contract: 13 for the buffer of the length or for want of room, or the text and its length.
 -- Assumes nothing.
 use mathlib.Core.Path.{ap, _∙_}
-use Rattle.layout.specs.Write.{writeNumber, writtenLength}
-use Rattle.sheet_lines.specs.Answer.{sheetAnswer, sheetLeaves}
+use Rattle.record_spec.specs.Write.{writeNumber, writtenLength}
+use Rattle.sheet_spec.specs.Answer.{sheetAnswer, sheetLeaves}
 use Rattle.buffers.specs.Laws.Texting.{text-out, text-declined, text-written}
 use Rattle.joguyvi_years.proofs.SheetTexts.{sheet-only, sheet-left}
 use borrow.Author.Needs.{needs}

@@ -1,7 +1,7 @@
 -- `ready::chosen_of` meets its contract: one law of the choice for each return.
 -- Assumes nothing.
 use mathlib.Core.Path.{sym}
-use Rattle.ready_schemes.specs.Laws.{chosen-first, chosen-second, chosen-third}
+use Rattle.ready_spec.specs.Laws.{chosen-first, chosen-second, chosen-third}
 use Rattle.ready.proofs.chosen_of.Statement.{statement}
 use Rattle.ready.proofs.chosen_of.Tie as tie
 

@@ -2,7 +2,7 @@
 -- Assumes nothing.
 use native.Mathlib.Omega.{arith}
 use borrow.Author.Tests.{eq-eqb, ne-eqb}
-use Rattle.ready_schemes.specs.Laws.{raise-least, raise-most}
+use Rattle.ready_spec.specs.Laws.{raise-least, raise-most}
 use borrow.Author.Needs.{needs}
 use Rattle.ready.proofs.moved.Statement.{statement}
 use Rattle.ready.proofs.moved.Tie as tie

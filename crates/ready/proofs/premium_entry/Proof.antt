@@ -2,7 +2,7 @@
 -- Assumes nothing.
 use mathlib.Core.Path.{sym}
 use native.Mathlib.Omega.{arith}
-use Rattle.ready_schemes.specs.Laws.{premium-out, premium-in, product-most}
+use Rattle.ready_spec.specs.Laws.{premium-out, premium-in, product-most}
 use borrow.Author.Needs.{needs}
 use Rattle.ready.proofs.premium_entry.Statement.{statement}
 use Rattle.ready.proofs.premium_entry.Tie as tie

@@ -1,7 +1,7 @@
 -- `ready::ready` meets its contract: without a cause the ready scheme is offered and made, and with one it is not.
 -- Assumes nothing.
 use mathlib.Core.Path.{sym, _∙_}
-use Rattle.ready_schemes.specs.Laws.{offered, answer-made, answer-none}
+use Rattle.ready_spec.specs.Laws.{offered, answer-made, answer-none}
 use borrow.Author.Needs.{needs}
 use Rattle.ready.proofs.ready.Statement.{statement}
 use Rattle.ready.proofs.ready.Tie as tie

@@ -2,7 +2,7 @@
 -- Assumes nothing.
 use mathlib.Core.Path.{sym}
 use native.Mathlib.Omega.{arith}
-use Rattle.ready_schemes.specs.Laws.{classes-most, movable, rule-out, rule-past, rule-in}
+use Rattle.ready_spec.specs.Laws.{classes-most, movable, rule-out, rule-past, rule-in}
 use borrow.Author.Needs.{needs}
 use Rattle.ready.proofs.rule_entry.Statement.{statement}
 use Rattle.ready.proofs.rule_entry.Tie as tie

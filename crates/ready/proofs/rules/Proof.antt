@@ -2,7 +2,7 @@
 -- Assumes nothing.
 use Prim.Native.Nat.{_-_, _≤_}
 use native.Mathlib.Omega.{arith}
-use Rattle.ready_schemes.specs.Ready.{ruleEntry}
+use Rattle.ready_spec.specs.Ready.{ruleEntry}
 use Rattle.scheme.specs.Laws.Filled.{Filled, fill-none, fill-more, fill-all}
 use Rattle.ready.proofs.rules.Statement.{statement}
 use Rattle.ready.proofs.rules.Tie as tie

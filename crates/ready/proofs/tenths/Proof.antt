@@ -2,8 +2,8 @@
 -- Assumes nothing.
 use Prim.Native.Nat.{ℕ}
 use native.Mathlib.Omega.{arith}
-use Rattle.ready_schemes.specs.Scales.{scale1, scale2, scale3}
-use Rattle.ready_schemes.specs.Laws.{chosen-first, chosen-second, chosen-third}
+use Rattle.ready_spec.specs.Scales.{scale1, scale2, scale3}
+use Rattle.ready_spec.specs.Laws.{chosen-first, chosen-second, chosen-third}
 use borrow.Author.Needs.{needs}
 use Rattle.ready.proofs.tenths.Statement.{statement}
 use Rattle.ready.proofs.tenths.Tie as tie

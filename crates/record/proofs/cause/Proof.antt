@@ -1,8 +1,8 @@
 -- `cause` meets its contract: the frame's cause, or the scheme's.
 use mathlib.Core.Path.{ap, sym, _∙_}
 use Rattle.scheme.specs.Cause.{causeOf}
-use Rattle.layout.specs.Laws.Frame.{frame-clear}
-use Rattle.layout.specs.Laws.Read.{frame-first, scheme-next}
+use Rattle.record_spec.specs.Laws.Frame.{frame-clear}
+use Rattle.record_spec.specs.Laws.Read.{frame-first, scheme-next}
 use borrow.Author.Needs.{needs}
 use Rattle.record.proofs.cause.Statement.{statement}
 use Rattle.record.proofs.cause.Tie as tie

@@ -1,9 +1,9 @@
 -- `read` meets its contract: the frame's cause, the scheme's cause, or the scheme.
 use mathlib.Core.Path.{_≡_, ap, sym, _∙_}
 use Rattle.scheme.specs.Cause.{causeOf}
-use Rattle.layout.specs.Read.{readCause}
-use Rattle.layout.specs.Laws.Frame.{frame-clear}
-use Rattle.layout.specs.Laws.Read.{frame-first, scheme-next, answer-declined, answer-scheme}
+use Rattle.record_spec.specs.Read.{readCause}
+use Rattle.record_spec.specs.Laws.Frame.{frame-clear}
+use Rattle.record_spec.specs.Laws.Read.{frame-first, scheme-next, answer-declined, answer-scheme}
 use borrow.Author.Needs.{needs}
 use Rattle.record.proofs.read.Statement.{statement}
 use Rattle.record.proofs.read.Tie as tie

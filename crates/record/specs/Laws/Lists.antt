@@ -6,7 +6,7 @@ use native.Mathlib.Omega.{arith}
 use native.Mathlib.Nat.{add-zero, zero-add}
 use lib.ListN.{length, getD, take, drop, set, length-set, length-drop}
 use lib.Seq.{sets, sets-eq, getD-drop, getD-take, length-take-le, getD-set-other, getD-set-same}
-pub use Rattle.big_endian.specs.Laws.{sets-append, sets-more}
+pub use Rattle.big_endian_spec.specs.Laws.{sets-append, sets-more}
 
 -- a part of a list: its length and its entries
 pub part-length : (n p : ℕ) (l : List ℕ) → p + n ≤ length l → length (take n (drop p l)) ≡ n

@@ -19,7 +19,7 @@ use Rattle.scheme.specs.Cause.{outside, causeOf, orElse, classCause}
 use Rattle.scheme.specs.Laws.Cause.{outside-false, first-cause, second-cause, declined, answered, cond-true, cond-false}
 use Rattle.scheme.specs.Laws.Judged.{accepted-cause}
 use Rattle.scheme.specs.Gathered.{gathered}
-use Rattle.gathering.specs.Laws.Entries.{lower-is, upper-is}
+use Rattle.rows.specs.Laws.SumByTarget.{lower-is, upper-is}
 use Rattle.rows.specs.Rows.{entriesOf, rowCause, rowRefused, rowAt, rowAnswer, rowFrom}
 use Rattle.scheme.specs.Laws.Tab.{length-tab, getD-tab, as-tab, tab-eq}
 

@@ -1,6 +1,6 @@
 -- `accepted` meets its contract: declined for want of room, or the sheet.
 use native.Mathlib.Omega.{arith}
-use Rattle.sheet_lines.specs.Laws.Room.{sheet-within, room-at-most, room-coded}
+use Rattle.sheet_spec.specs.Laws.Room.{sheet-within, room-at-most, room-coded}
 use Rattle.sheet_text.specs.Laws.Answer.{told-declined, told-written, told-room}
 use borrow.Author.Needs.{needs}
 use Rattle.sheet_text.proofs.accepted.Statement.{statement}

@@ -1,6 +1,6 @@
 -- `refused` meets its contract: declined for want of room, or the line.
 use native.Mathlib.Omega.{arith}
-use Rattle.sheet_lines.specs.Laws.Widths.{refused-line-within}
+use Rattle.sheet_spec.specs.Laws.Widths.{refused-line-within}
 use Rattle.sheet_text.specs.Laws.Answer.{told-declined, told-written, told-room}
 use borrow.Author.Needs.{needs}
 use Rattle.sheet_text.proofs.refused.Statement.{statement}

@@ -1,10 +1,10 @@
 -- `sheet` meets its contract: the refusal of the bytes, or their sheet.
 use mathlib.Core.Path.{_≡_, ap, sym, _∙_}
 use native.Mathlib.Omega.{arith}
-use Rattle.layout.specs.Read.{readCause}
-use Rattle.layout.specs.Layout.{version1, schemeIn}
-use Rattle.layout.specs.Laws.Read.{read-number, read-scheme}
-use Rattle.sheet_lines.specs.Laws.Room.{read-cause-most, read-accepted}
+use Rattle.record_spec.specs.Read.{readCause}
+use Rattle.record_spec.specs.Layout.{version1, schemeIn}
+use Rattle.record_spec.specs.Laws.Read.{read-number, read-scheme}
+use Rattle.sheet_spec.specs.Laws.Room.{read-cause-most, read-accepted}
 use Rattle.sheet_text.specs.Laws.Answer.{sheet-refused, sheet-accepted}
 use borrow.Author.Needs.{needs}
 use Rattle.sheet_text.proofs.sheet.Statement.{statement}

@@ -10,18 +10,18 @@ use Rattle.scheme.specs.Accepted.{Accepted}
 use Rattle.scheme.specs.Cause.{causeOf}
 use Rattle.scheme.specs.Laws.Cause.{second-cause}
 use Rattle.scheme.specs.Laws.Judged.{cause-accepted}
-use Rattle.layout.specs.Layout.{version1, schemeIn}
-use Rattle.layout.specs.Read.{readCause}
+use Rattle.record_spec.specs.Layout.{version1, schemeIn}
+use Rattle.record_spec.specs.Read.{readCause}
 use Rattle.record.specs.Laws.Lists.{sets-front}
-use Rattle.answers.specs.Answers.{sheetSlice}
-use Rattle.answers.specs.Table.{tableSize, tableCause}
-use Rattle.layout.specs.declared.WriteAnswer.{WriteAnswer}
-use Rattle.layout.specs.declared.WriteAnswer.the-variants.{Written, Declined}
-use Rattle.sheet_lines.specs.Sheet.{sheetOf, refusedLine, sheetText}
+use Rattle.bounds_spec.specs.Answers.{sheetSlice}
+use Rattle.bounds_spec.specs.Table.{tableSize, tableCause}
+use Rattle.record_spec.specs.declared.WriteAnswer.{WriteAnswer}
+use Rattle.record_spec.specs.declared.WriteAnswer.the-variants.{Written, Declined}
+use Rattle.sheet_spec.specs.Sheet.{sheetOf, refusedLine, sheetText}
 use Rattle.sheet_text.specs.Put.{Room, Put}
-use Rattle.layout.specs.Write.{writeNumber, writtenLength}
-use Rattle.sheet_lines.specs.Answer.{roomOf, roomFor, Told, sheetAnswer, sheetLeaves, TextPromise}
-use Rattle.sheet_lines.specs.Laws.Room.{text-accepted, room-accepted, text-refused, room-refused, text-kept}
+use Rattle.record_spec.specs.Write.{writeNumber, writtenLength}
+use Rattle.sheet_spec.specs.Answer.{roomOf, roomFor, Told, sheetAnswer, sheetLeaves, TextPromise}
+use Rattle.sheet_spec.specs.Laws.Room.{text-accepted, room-accepted, text-refused, room-refused, text-kept}
 
 -- a slice that is too short, and one that is not
 pub told-declined : {room : ℕ} {text out : List ℕ} → length out < room → Told room text out out (Declined 13)

@@ -3,7 +3,7 @@ use Prim.Native.Nat.{ℕ, suc, _+_}
 use mathlib.Core.Path.{_≡_, ap, _∙_}
 use mathlib.Core.List.{List, _++_, append-assoc}
 use native.Mathlib.Numerals.{add-one}
-use Rattle.sheet_lines.specs.Text.{field, newline, yearWord, classWord, premiumWord}
+use Rattle.sheet_spec.specs.Text.{field, newline, yearWord, classWord, premiumWord}
 use Rattle.sheet_text.specs.Put.{Room, Put}
 
 -- the two figures that end a line

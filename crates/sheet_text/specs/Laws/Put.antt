@@ -9,9 +9,9 @@ use native.Mathlib.Nat.{le-refl, eq-or-lt-of-le}
 use borrow.Author.Tests.{lt-ltb, le-ltb}
 use lib.ListN.{length, getD, take, set, length-append}
 use lib.Seq.{sets, length-sets, length-take-le, take-length, take-suc}
-use Rattle.layout.specs.Joined.{joined}
+use Rattle.record_spec.specs.Joined.{joined}
 use Rattle.record.specs.Laws.Lists.{sets-append, sets-more}
-use Rattle.sheet_lines.specs.Text.{digitsWithin, twoDigits}
+use Rattle.sheet_spec.specs.Text.{digitsWithin, twoDigits}
 use Rattle.sheet_text.specs.Put.{Room, Put}
 
 -- the slice keeps its length

@@ -8,13 +8,13 @@ use lib.ListN.{length, getD}
 use Rattle.scheme.specs.declared.Scheme.{Scheme}
 use Rattle.scheme.specs.Rows.{chainOf}
 use Rattle.scheme.specs.Laws.Tab.{length-tab}
-use Rattle.layout.specs.Joined.{joined}
-use Rattle.layout.specs.Laws.Joined.{joined-eq}
+use Rattle.record_spec.specs.Joined.{joined}
+use Rattle.record_spec.specs.Laws.Joined.{joined-eq}
 use Rattle.setchain.specs.Years.{lowShare, highShare}
-use Rattle.answers.specs.Answers.{startOf}
-use Rattle.answers.specs.Table.{tableSize, lowTable, highTable}
-use Rattle.answers.specs.Laws.Table.{low-share-at, high-share-at, low-mean-at, high-mean-at, low-total-at, high-total-at}
-use Rattle.sheet_lines.specs.Sheet.{schemeLine, classLine, yearLines, totalLine, sheetOf}
+use Rattle.bounds_spec.specs.Answers.{startOf}
+use Rattle.bounds_spec.specs.Table.{tableSize, lowTable, highTable}
+use Rattle.bounds_spec.specs.Laws.Table.{low-share-at, high-share-at, low-mean-at, high-mean-at, low-total-at, high-total-at}
+use Rattle.sheet_spec.specs.Sheet.{schemeLine, classLine, yearLines, totalLine, sheetOf}
 use Rattle.sheet_text.specs.Put.{Room, Put}
 use Rattle.sheet_text.specs.Tabled.{classText, yearText}
 

@@ -6,8 +6,8 @@ use native.Mathlib.Omega.{arith}
 use native.Mathlib.Numerals.{add-one}
 use native.Mathlib.Nat.{mul-le-mul-right}
 use lib.ListN.{getD}
-use Rattle.layout.specs.Joined.{joined}
-use Rattle.sheet_lines.specs.Sheet.{premiumLine}
+use Rattle.record_spec.specs.Joined.{joined}
+use Rattle.sheet_spec.specs.Sheet.{premiumLine}
 use Rattle.sheet_text.specs.Put.{Room, Put}
 use Rattle.sheet_text.specs.Tabled.{classText, yearText}
 use Rattle.sheet_text.specs.Laws.Put.{put-then, room-first, room-next}

@@ -6,7 +6,7 @@ use mathlib.Core.Bool.{Bool, true, false}
 use Rattle.setchain.specs.Rows.{IntervalRow, SoundRow}
 use Rattle.setchain.specs.Laws.Agreeing.{Agree, low-step-agrees, high-step-agrees}
 use Rattle.setchain.specs.Laws.Step.{low-step-at-most, high-step-at-most}
-use Rattle.one_year.specs.Figure.{stepFigure}
+use Rattle.step_spec.specs.Figure.{stepFigure}
 
 pub step-agrees : (falling : Bool) {n : ℕ} {r q : IntervalRow} → Agree n r q → {f g : ℕ → ℕ} → ((j : ℕ) → j < n → f j ≡ g j)
     → stepFigure falling n r f ≡ stepFigure falling n q g

@@ -19,7 +19,7 @@ use Rattle.order.specs.Laws.Sinking.{not-after-refl}
 use Rattle.order.specs.Laws.Arranging.{arranged-placed}
 use Rattle.step.specs.Lists.{at, rowIn}
 use Rattle.step.specs.Fill.{Fillable, Filled}
-use Rattle.one_year.specs.Figure.{stepFigure}
+use Rattle.step_spec.specs.Figure.{stepFigure}
 use Rattle.step.specs.Figure.{rounded, Weighable}
 use Rattle.step.specs.Step.{Steppable, Stepped}
 use Rattle.step.specs.Laws.Agreeing.{step-at-most}

@@ -2,7 +2,7 @@
 -- Assumes nothing.
 use Prim.Native.Nat.{_-_}
 use native.Mathlib.Omega.{arith}
-use Rattle.states.specs.Laws.Writing.{Written, written-none}
+use Rattle.order.specs.Laws.Writing.{Written, written-none}
 use Rattle.bounds.proofs.Storing.{empty-listed}
 use Rattle.bounds.proofs.Answering.{share-ready}
 use Rattle.bounds.proofs.Sheeting.{shareOf, sheeting-more, sheeting-all}

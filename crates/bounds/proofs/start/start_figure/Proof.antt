@@ -8,7 +8,7 @@ use lib.Seq.{length-take-le}
 use Rattle.bounds.proofs.Forming.{zeros}
 use Rattle.bounds.proofs.Starting.{order-fits, order-size, start-runs, start-is}
 use borrow.Author.Needs.{needs}
-use Rattle.states.specs.Laws.Numbers.{state-of}
+use Rattle.order.specs.Laws.Numbers.{state-of}
 use Rattle.bounds.proofs.start.start_figure.Statement.{statement}
 use Rattle.bounds.proofs.start.start_figure.Tie as tie
 

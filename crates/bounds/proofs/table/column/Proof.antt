@@ -8,7 +8,7 @@ use Rattle.bounds.proofs.Forming.{zeros}
 use Rattle.bounds.proofs.Starting.{order-fits, order-size}
 use Rattle.bounds.proofs.Tabling.{column-runs, column-noted}
 use borrow.Author.Needs.{needs}
-use Rattle.states.specs.Laws.Numbers.{state-of}
+use Rattle.order.specs.Laws.Numbers.{state-of}
 use Rattle.bounds.proofs.table.column.Statement.{statement}
 use Rattle.bounds.proofs.table.column.Tie as tie
 

@@ -4,7 +4,7 @@ use Prim.Native.Nat.{_+_, _-_}
 use mathlib.Core.Path.{ap}
 use native.Mathlib.Omega.{arith}
 use lib.ListN.{length}
-use Rattle.states.specs.Laws.Writing.{Rewritten, rewritten-none, rewritten-more}
+use Rattle.order.specs.Laws.Writing.{Rewritten, rewritten-none, rewritten-more}
 use Rattle.step.specs.Lists.{at}
 use Rattle.bounds.proofs.Passing.{settled, settling-fits, settling-all}
 use Rattle.bounds.proofs.year.settle.Statement.{statement}

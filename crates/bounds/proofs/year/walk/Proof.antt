@@ -7,7 +7,7 @@ use lib.ListN.{length}
 use Rattle.step.specs.Lists.{at}
 use Rattle.bounds.specs.Entries.{counts}
 use Rattle.bounds.proofs.Passing.{Passing, passing-none, state-inside, list-short, pass-gives, passing-more, passing-all}
-use Rattle.states.specs.Laws.Numbers.{state-of}
+use Rattle.order.specs.Laws.Numbers.{state-of}
 use Rattle.bounds.proofs.year.walk.Statement.{statement}
 use Rattle.bounds.proofs.year.walk.Tie as tie
 

@@ -1,7 +1,7 @@
 -- `put_record` meets its contract: 13 for the buffer of the length, the cause of writing, or the record and its length.
 -- Assumes nothing.
 use mathlib.Core.Path.{ap, _∙_}
-use Rattle.layout.specs.Write.{writeNumber, writtenLength, writeAnswer, writeLeaves}
+use Rattle.record_spec.specs.Write.{writeNumber, writtenLength, writeAnswer, writeLeaves}
 use Rattle.buffers.specs.Laws.Texting.{text-out, text-declined, text-written}
 use Rattle.joguyvi_records.proofs.RecordTexts.{write-only, write-left}
 use borrow.Author.Needs.{needs}

@@ -5,7 +5,7 @@ use native.Mathlib.Omega.{arith}
 use lib.ListN.{getD, length}
 use Rattle.scheme.specs.Tables.{tab}
 use Rattle.buffers.specs.Buffers.{buffersCause}
-use Rattle.interface.specs.Rows.{lowerBands, upperBands}
+use Rattle.joguyvi_spec.specs.Rows.{lowerBands, upperBands}
 use Rattle.buffers.specs.Laws.Pairs.{pair-sizes, pair-left, pair-filled}
 use borrow.Author.Needs.{needs}
 use Rattle.joguyvi_rows.proofs.row_buffers.put_bands.Statement.{statement}

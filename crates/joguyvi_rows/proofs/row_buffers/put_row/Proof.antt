@@ -5,7 +5,7 @@ use lib.ListN.{length}
 use Rattle.scheme.specs.Laws.Cause.{second-none}
 use Rattle.scheme.specs.Cause.{orElse}
 use Rattle.buffers.specs.Buffers.{buffersCause}
-use Rattle.interface.specs.Rows.{putRowNumber}
+use Rattle.joguyvi_spec.specs.Rows.{putRowNumber}
 use Rattle.buffers.specs.Laws.Copying.{row-copied}
 use Rattle.buffers.specs.Laws.Pairs.{pair-sizes, pair-left, pair-filled}
 use borrow.Author.Needs.{needs}

@@ -1,7 +1,7 @@
 -- `answer_of` meets its contract: the answer of the step that is asked for.
 -- Assumes nothing.
 use mathlib.Core.Path.{sym, subst}
-use Rattle.one_year.specs.StepAnswer.{StepAnswered}
+use Rattle.step_spec.specs.StepAnswer.{StepAnswered}
 use borrow.Author.Needs.{needs}
 use Rattle.joguyvi_steps.proofs.steps.answer_of.Statement.{statement}
 use Rattle.joguyvi_steps.proofs.steps.answer_of.Tie as tie

@@ -4,7 +4,7 @@ use Prim.Native.Nat.{_-_}
 use native.Mathlib.Omega.{arith}
 use lib.ListN.{getD}
 use Rattle.scheme.specs.Laws.Filled.{Filled, fill-none, fill-more, fill-all}
-use Rattle.interface.specs.Steps.{payoffOf}
+use Rattle.joguyvi_spec.specs.Steps.{payoffOf}
 use Rattle.joguyvi_steps.proofs.steps.payoff_of.Statement.{statement}
 use Rattle.joguyvi_steps.proofs.steps.payoff_of.Tie as tie
 

@@ -9,7 +9,7 @@ use Rattle.scheme.specs.Cause.{orElse}
 use Rattle.buffers.specs.Laws.Sizes.{one}
 use Rattle.buffers.specs.Laws.Pairs.{pair-left, pair-filled}
 use Rattle.buffers.specs.Laws.Copying.{row-copied}
-use Rattle.interface.specs.Steps.{stepBuffers}
+use Rattle.joguyvi_spec.specs.Steps.{stepBuffers}
 use Rattle.joguyvi_steps.proofs.Stepping.{step-sizes}
 use borrow.Author.Needs.{needs}
 use Rattle.joguyvi_steps.proofs.steps.put_step.Statement.{statement}

@@ -3,9 +3,9 @@ use Prim.Native.Nat.{_≤_, _+_, _*_, _-_}
 use mathlib.Core.Path.{_≡_, _∙_}
 use native.Mathlib.Omega.{arith}
 use Rattle.scheme.specs.Tables.{tab}
-use Rattle.big_endian.specs.Numbers.{beAt}
+use Rattle.big_endian_spec.specs.Numbers.{beAt}
 use Rattle.scheme.specs.Stored.{upTo}
-use Rattle.big_endian.specs.Laws.{read-held}
+use Rattle.big_endian_spec.specs.Laws.{read-held}
 use Rattle.record.specs.Laws.Stored.{fill-none, fill-more}
 use borrow.Author.Needs.{needs}
 use Rattle.record.proofs.reading.ends.Statement.{statement}

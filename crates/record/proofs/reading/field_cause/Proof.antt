@@ -2,8 +2,8 @@
 use mathlib.Core.Path.{_≡_, sym, _∙_}
 use native.Mathlib.Omega.{arith}
 use borrow.Author.Tests.{eq-eqb, ne-eqb, lt-ltb, le-ltb}
-use Rattle.big_endian.specs.Numbers.{beAt}
-use Rattle.big_endian.specs.Laws.{read-held}
+use Rattle.big_endian_spec.specs.Numbers.{beAt}
+use Rattle.big_endian_spec.specs.Laws.{read-held}
 use borrow.Author.Needs.{needs}
 use Rattle.record.proofs.reading.field_cause.Statement.{statement}
 use Rattle.record.proofs.reading.field_cause.Tie as tie

@@ -2,8 +2,8 @@
 use mathlib.Core.Path.{_≡_, ap₂, sym, _∙_}
 use native.Mathlib.Omega.{arith}
 use Rattle.scheme.specs.Cause.{orElse}
-use Rattle.layout.specs.Read.{versionCause, fieldCause}
-use Rattle.layout.specs.Laws.Frame.{head-long, frame-head, frame-shape}
+use Rattle.record_spec.specs.Read.{versionCause, fieldCause}
+use Rattle.record_spec.specs.Laws.Frame.{head-long, frame-head, frame-shape}
 use borrow.Author.Needs.{needs}
 use Rattle.record.proofs.reading.frame.Statement.{statement}
 use Rattle.record.proofs.reading.frame.Tie as tie

@@ -7,9 +7,9 @@ use native.Mathlib.Nat.{mul-le-mul}
 use lib.ListN.{getD}
 use Rattle.scheme.specs.declared.Scheme.{Scheme}
 use Rattle.scheme.specs.Tables.{tab}
-use Rattle.big_endian.specs.Numbers.{beAt}
+use Rattle.big_endian_spec.specs.Numbers.{beAt}
 use Rattle.scheme.specs.Stored.{upTo, rulesUpTo, schemeOf}
-use Rattle.layout.specs.Layout.{version1, classesIn, columnsIn, schemeIn}
+use Rattle.record_spec.specs.Layout.{version1, classesIn, columnsIn, schemeIn}
 use Rattle.scheme.specs.Laws.Tab.{tab-eq}
 use Rattle.scheme.specs.Laws.Stored.{upTo-eq}
 use borrow.Author.Needs.{needs}

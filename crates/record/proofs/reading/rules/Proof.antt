@@ -7,7 +7,7 @@ use lib.ListN.{length, getD, take, drop}
 use Rattle.scheme.specs.Tables.{tab}
 use Rattle.scheme.specs.Stored.{rulesUpTo}
 use Rattle.scheme.specs.Laws.Tab.{length-tab}
-use Rattle.big_endian.specs.Laws.{part-held}
+use Rattle.big_endian_spec.specs.Laws.{part-held}
 use Rattle.record.specs.Laws.Lists.{part-length, part-at}
 use Rattle.record.specs.Laws.Stored.{rows-none, rows-more}
 use borrow.Author.Needs.{needs}

@@ -1,7 +1,7 @@
 -- `lines::class_line` meets its contract: each part stands after the last.
-use Rattle.sheet_lines.specs.Text.{field, classWord}
+use Rattle.sheet_spec.specs.Text.{field, classWord}
 use Prim.Native.Nat.{suc}
-use Rattle.sheet_lines.specs.Sheet.{classLine}
+use Rattle.sheet_spec.specs.Sheet.{classLine}
 use Rattle.sheet_text.specs.Laws.Put.{put-then, room-first, room-next}
 use Rattle.sheet_text.specs.Laws.Lines.{endsText, classHead, ends-room, ends-put, class-field-room, class-field-put}
 use borrow.Author.Needs.{needs}

@@ -1,5 +1,5 @@
 -- `lines::ends` meets its contract: each part stands after the last.
-use Rattle.sheet_lines.specs.Text.{field, newline}
+use Rattle.sheet_spec.specs.Text.{field, newline}
 use Rattle.sheet_text.specs.Laws.Put.{put-then, room-first, room-next}
 use borrow.Author.Needs.{needs}
 use Rattle.sheet_text.proofs.lines.ends.Statement.{statement}

@@ -1,6 +1,6 @@
 -- `lines::premium_line` meets its contract: each part stands after the last.
-use Rattle.sheet_lines.specs.Text.{field, premiumWord}
-use Rattle.sheet_lines.specs.Sheet.{premiumLine}
+use Rattle.sheet_spec.specs.Text.{field, premiumWord}
+use Rattle.sheet_spec.specs.Sheet.{premiumLine}
 use Rattle.sheet_text.specs.Laws.Put.{put-then, room-first, room-next}
 use Rattle.sheet_text.specs.Laws.Lines.{endsText, premiumHead, ends-room, ends-put}
 use borrow.Author.Needs.{needs}

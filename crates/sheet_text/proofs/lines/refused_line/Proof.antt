@@ -1,6 +1,6 @@
 -- `lines::refused_line` meets its contract: the word, the number, the line's end.
-use Rattle.sheet_lines.specs.Text.{field, newline}
-use Rattle.sheet_lines.specs.Sheet.{refusedLine}
+use Rattle.sheet_spec.specs.Text.{field, newline}
+use Rattle.sheet_spec.specs.Sheet.{refusedLine}
 use Rattle.sheet_text.specs.Laws.Put.{put-then, room-first, room-next}
 use borrow.Author.Needs.{needs}
 use Rattle.sheet_text.proofs.lines.refused_line.Statement.{statement}

@@ -1,6 +1,6 @@
 -- `lines::scheme_line` meets its contract: each part stands after the last.
-use Rattle.sheet_lines.specs.Text.{field, newline}
-use Rattle.sheet_lines.specs.Sheet.{schemeLine}
+use Rattle.sheet_spec.specs.Text.{field, newline}
+use Rattle.sheet_spec.specs.Sheet.{schemeLine}
 use Rattle.sheet_text.specs.Laws.Put.{put-then, put-kept, room-first, room-next}
 use borrow.Author.Needs.{needs}
 use Rattle.sheet_text.proofs.lines.scheme_line.Statement.{statement}

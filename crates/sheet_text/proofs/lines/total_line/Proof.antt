@@ -1,6 +1,6 @@
 -- `lines::total_line` meets its contract: the word, then the figures.
-use Rattle.sheet_lines.specs.Text.{totalWord}
-use Rattle.sheet_lines.specs.Sheet.{totalLine}
+use Rattle.sheet_spec.specs.Text.{totalWord}
+use Rattle.sheet_spec.specs.Sheet.{totalLine}
 use Rattle.sheet_text.specs.Laws.Put.{put-then, room-first, room-next}
 use Rattle.sheet_text.specs.Laws.Lines.{endsText, ends-room, ends-put}
 use borrow.Author.Needs.{needs}

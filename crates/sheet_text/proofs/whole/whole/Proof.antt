@@ -1,7 +1,7 @@
 -- `whole::whole` meets its contract: each part stands after the last.
 use Prim.Native.Nat.{_+_}
 use native.Mathlib.Omega.{arith}
-use Rattle.layout.specs.Joined.{joined}
+use Rattle.record_spec.specs.Joined.{joined}
 use Rattle.sheet_text.specs.Tabled.{yearText}
 use Rattle.sheet_text.specs.Laws.Put.{put-then, room-first, room-next}
 use Rattle.sheet_text.specs.Laws.Tabled.{totalText, low-size, high-size, sheet-room, sheet-put}

@@ -1,7 +1,7 @@
 -- `years::class_lines` meets its contract: the lines of j classes stand at the head of the loop.
 use Prim.Native.Nat.{_≤_, _-_}
 use native.Mathlib.Omega.{arith}
-use Rattle.layout.specs.Joined.{joined}
+use Rattle.record_spec.specs.Joined.{joined}
 use Rattle.sheet_text.specs.Put.{Put}
 use Rattle.sheet_text.specs.Tabled.{classText}
 use Rattle.sheet_text.specs.Laws.Put.{put-kept, joined-none, joined-more, joined-room, joined-all}

@@ -2,7 +2,7 @@
 -- Assumes nothing.
 use mathlib.Core.Path.{sym, _∙_}
 use Rattle.scheme.specs.Laws.Judged.{accepted-cause}
-use Rattle.one_year.specs.StepAnswer.{payoffOut}
+use Rattle.step_spec.specs.StepAnswer.{payoffOut}
 use Rattle.step.proofs.AnsweringStep.{cause-scheme, cause-payoff, cause-class, cause-none}
 use borrow.Author.Needs.{needs}
 use Rattle.step.proofs.answer.cause.Statement.{statement}

@@ -7,7 +7,7 @@ use lib.ListN.{length, length-set}
 use Rattle.step.specs.Lists.{at}
 use Rattle.setchain.specs.Rows.{ONE}
 use Rattle.step.specs.Laws.Filling.{Filling, filling-none, filling-more, filling-last, turn-inside}
-use Rattle.states.specs.Laws.Numbers.{state-of}
+use Rattle.order.specs.Laws.Numbers.{state-of}
 use Rattle.step.proofs.fill.pour.Statement.{statement}
 use Rattle.step.proofs.fill.pour.Tie as tie
 

@@ -1,0 +1,38 @@
+-- `table_cause` meets its contract: the causes are the definition's, in its order.
+use Prim.Native.Nat.{_+_, _*_}
+use mathlib.Core.Path.{_≡_, ap, ap₂, _∙_}
+use native.Mathlib.Omega.{arith}
+use Rattle.scheme.specs.declared.Scheme.{Scheme}
+use Rattle.scheme.specs.Cause.{orElse}
+use Rattle.bounds_spec.specs.Causes.{slicesCause, tableSize}
+use borrow.Author.Needs.{needs}
+use Rattle.bounds.proofs.table_cause.Statement.{statement}
+use Rattle.bounds.proofs.table_cause.Tie as tie
+
+-- the size as the code makes it
+sized : (s : Scheme) → (s .horizon + 1) * (s .classes + 1) + 1 ≡ tableSize s
+sized s = omega arith
+
+cause-requires : tie.Need-cause-requires
+cause-requires c κs = search needs
+
+table-size-requires : tie.Need-table-size-requires
+table-size-requires c κs = search needs
+
+slice-cause-requires : tie.Need-slice-cause-requires
+slice-cause-requires c κs = search needs
+
+or-else-requires : tie.Need-or-else-requires
+or-else-requires c κs = search needs
+
+returns : tie.Need-returns
+returns c =
+    c .or-else .ensures
+    ∙ ap₂ (λ a b. orElse a b) (c .before .before .before .cause .ensures)
+    (c .before .slice-cause .ensures
+    ∙ ap (λ n. slicesCause n (c .before .before .before .before .args .low) (c .before .before .before .before .args .high)) (c .before .before .table-size .ensures ∙ sized (c .before .before .before .before .args .scheme)))
+
+pub table-cause-spec : {M : Type 1} → statement M
+table-cause-spec =
+    tie.close
+    (tie.spec cause-requires table-size-requires slice-cause-requires or-else-requires returns)

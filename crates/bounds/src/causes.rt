@@ -1,0 +1,90 @@
+// The causes for which a query of a scheme is declined, tests in number order (document 01, "When a call is declined").
+use scheme::Scheme;
+use scheme::or_else;
+ghost use mathlib.Core.Path.{_≡_};
+ghost use Prim.Native.Nat.{_+_, _*_};
+ghost use mathlib.Core.Bool.{cond};
+ghost use lib.Dec.{ltb};
+ghost use Rattle.scheme.specs.Cause.{outside};
+ghost use Rattle.bounds_spec.specs.Causes.{moneyCause, shareCause, sheetLengthsCause, slicesCause, tableLengthsCause};
+
+// Cause 11: a class that is not one of 1 to s.
+fn class_cause(classes: u8, class: u64) -> u8
+    ensures { λ r. ⌜ r ≡ cond (outside classes class) 11 0 ⌝ }
+{
+    if scheme::class_out(classes, class) {
+        return scheme::CLASS_OUT;
+    }
+    0
+}
+
+// Cause 12: a year above the horizon.
+fn year_cause(horizon: u8, year: u64) -> u8
+    ensures { λ r. ⌜ r ≡ cond (ltb horizon year) 12 0 ⌝ }
+{
+    if (horizon as u64) < year {
+        return scheme::YEAR_OUT;
+    }
+    0
+}
+
+// Cause 13: one of two slices is not of as many numbers as are wanted.
+fn slice_cause(size: usize, low: usize, high: usize) -> u8
+    ensures { λ r. ⌜ r ≡ slicesCause size low high ⌝ }
+{
+    if low != size {
+        return scheme::SLICE_OUT;
+    }
+    if high != size {
+        return scheme::SLICE_OUT;
+    }
+    0
+}
+
+// The first cause of a call about money, or 0.
+pub fn money_cause(scheme: Scheme, year: u64) -> u8
+    ensures { λ r. ⌜ r ≡ moneyCause scheme year ⌝ }
+{
+    let own = acceptance::cause(scheme);
+    let late = year_cause(scheme.horizon, year);
+    or_else(own, late)
+}
+
+// The first cause of a call about the share of a class, or 0.
+pub fn share_cause(scheme: Scheme, class: u64, year: u64) -> u8
+    ensures { λ r. ⌜ r ≡ shareCause scheme class year ⌝ }
+{
+    let own = acceptance::cause(scheme);
+    let out = class_cause(scheme.classes, class);
+    let late = year_cause(scheme.horizon, year);
+    let query = or_else(out, late);
+    or_else(own, query)
+}
+
+// The first cause of a call for a share sheet with slices of two lengths, or 0.
+pub fn sheet_cause(scheme: Scheme, year: u64, low: usize, high: usize) -> u8
+    ensures { λ r. ⌜ r ≡ sheetLengthsCause scheme year low high ⌝ }
+{
+    let money = money_cause(scheme, year);
+    let slices = slice_cause(scheme.classes as usize, low, high);
+    or_else(money, slices)
+}
+
+// How many numbers the table of a sheet has.
+fn table_size(classes: u8, horizon: u8) -> usize
+    ensures { λ r. ⌜ r ≡ (horizon + 1) * (classes + 1) + 1 ⌝ }
+{
+    let years = horizon as usize + 1;
+    let row = classes as usize + 1;
+    years * row + 1
+}
+
+// The first cause of a call for all figures with slices of two lengths, or 0.
+pub fn table_cause(scheme: Scheme, low: usize, high: usize) -> u8
+    ensures { λ r. ⌜ r ≡ tableLengthsCause scheme low high ⌝ }
+{
+    let own = acceptance::cause(scheme);
+    let size = table_size(scheme.classes, scheme.horizon);
+    let slices = slice_cause(size, low, high);
+    or_else(own, slices)
+}

@@ -1,0 +1,143 @@
+-- Document 01's examples that are marked (m), under one theorem; and Example A's share sheet and table, computed.
+use Prim.Native.Nat.{ℕ, zero, suc, _*_, _≤_}
+use mathlib.Core.Path.{_≡_, refl, ap, ap₂, sym, _∙_, subst}
+use mathlib.Core.List.{[], _∷_}
+use native.Mathlib.Omega.{arith}
+use native.Mathlib.Nat.{le-refl}
+use borrow.Author.Tests.{le-ltb}
+use Rattle.setchain.specs.Sums.{sumTo, onlyIf}
+use Rattle.setchain.specs.Rows.{ONE, IntervalRow, SoundRow, SetChain, SoundChain}
+use Rattle.setchain.specs.Step.{roomBefore, fillRow, lowStep, highStep}
+use Rattle.setchain.specs.Years.{lowYears, highYears, lowShare, highShare}
+use Rattle.setchain.specs.Examples.{StepExamples, step-examples}
+use Rattle.setchain.specs.Laws.Step.{low-parts, high-parts}
+use Rattle.scheme.specs.declared.Scheme.{Scheme}
+use Rattle.scheme.specs.Tables.{anyBelow, tab}
+use Rattle.scheme.specs.Accepted.{Accepted}
+use Rattle.scheme.specs.Cause.{outside, sizeOut, startOut, horizonOut, ruleOut, bandOut, sumOut, premiumOut, causeWhere, causeOf, orElse, classCause, yearCause}
+use Rattle.scheme.specs.Rows.{chainOf}
+use Rattle.scheme.specs.Examples.{padded, schemeA, RowsA, rows-a}
+use Rattle.scheme.specs.Laws.Cause.{answered, second-cause, cond-false, inside-outside}
+use Rattle.scheme.specs.Laws.Judged.{cause-accepted}
+use Rattle.scheme.specs.Laws.Sound.{accepted-sound}
+use Rattle.bounds_spec.specs.declared.Bounds.the-variants.{Answered, Refused}
+use Rattle.bounds_spec.specs.Answers.{startOf, shareCause, shareAnswer, moneyCause, meanAnswer, totalAnswer, lowShares, highShares}
+use Rattle.bounds_spec.specs.Table.{tableEntry, lowTable, highTable}
+
+-- "Both classes 0→1, 1+→2; bands 333333333 and 666666667, each lower = upper; premiums 10, 11"
+abbrev pub schemeThirds : Scheme
+schemeThirds =
+    record {
+      classes = 2;
+      columns = 2;
+      start = 1;
+      horizon = 1;
+      rules = padded 246 (1 ∷ 2 ∷ 0 ∷ 0 ∷ 0 ∷ 0 ∷ 0 ∷ 0 ∷ 1 ∷ 2 ∷ []);
+      lowers = padded 6 (333333333 ∷ 666666667 ∷ []);
+      uppers = padded 6 (333333333 ∷ 666666667 ∷ []);
+      premiums = padded 30 (10 ∷ 11 ∷ []);
+    }
+
+-- with one state the row is ONE, so a step changes nothing
+one-low : (r : IntervalRow) → SoundRow 1 r → (f : ℕ → ℕ) → lowStep 1 r f ≡ f 0
+unfolding lowStep sumTo
+one-low r sound f = omega (arith, ap (λ p. p * f 0) (low-parts 1 r sound f .sums))
+
+one-high : (r : IntervalRow) → SoundRow 1 r → (f : ℕ → ℕ) → highStep 1 r f ≡ f 0
+unfolding highStep sumTo
+one-high r sound f = omega (arith, ap (λ p. p * f 0) (high-parts 1 r sound f .sums))
+
+module _ (c : SetChain) (sound : SoundChain c) (one : c .states ≡ 1) where
+  only-low : (f : ℕ → ℕ) → lowStep (c .states) (c .row 0) f ≡ f 0
+  only-low f =
+      subst (λ n. SoundRow n (c .row 0) → lowStep n (c .row 0) f ≡ f 0) (sym one) (λ w. one-low (c .row 0) w f) (sound 0 (omega arith))
+
+  only-high : (f : ℕ → ℕ) → highStep (c .states) (c .row 0) f ≡ f 0
+  only-high f =
+      subst (λ n. SoundRow n (c .row 0) → highStep n (c .row 0) f ≡ f 0) (sym one) (λ w. one-high (c .row 0) w f) (sound 0 (omega arith))
+
+  only-low-share : (t : ℕ) → lowShare c 0 t 0 ≡ ONE
+  unfolding lowYears onlyIf
+  only-low-share zero = refl
+  only-low-share (suc t) = omega (arith, only-low (lowShare c 0 t), only-low-share t)
+
+  only-high-share : (t : ℕ) → highShare c 0 t 0 ≡ ONE
+  unfolding highYears onlyIf
+  only-high-share zero = refl
+  only-high-share (suc t) = omega (arith, only-high (highShare c 0 t), only-high-share t)
+
+-- a call for a class and a year that are there
+no-year-cause : (s : Scheme) (t : ℕ) → t ≤ s .horizon → yearCause s t ≡ 0
+no-year-cause s t h = simp (le-ltb (s .horizon) t h)
+
+no-share-cause : (s : Scheme) → Accepted s → (class t : ℕ) → 1 ≤ class → class ≤ s .classes → t ≤ s .horizon → shareCause s class t ≡ 0
+no-share-cause s ok class t low high h =
+    second-cause (causeOf s) (orElse (classCause s class) (yearCause s t)) (cause-accepted s ok)
+    ∙ second-cause (classCause s class) (yearCause s t) (cond-false (outside (s .classes) class) 11 0 (inside-outside (s .classes) class low high))
+    ∙ no-year-cause s t h
+
+one-class : (s : Scheme) → Accepted s → s .classes ≡ 1 → (t : ℕ) → t ≤ s .horizon → shareAnswer s 1 t ≡ Answered ONE ONE
+unfolding shareAnswer
+one-class s ok one t h =
+    answered (shareCause s 1 t) _ _ (no-share-cause s ok 1 t (le-refl 1) (ok .size .someClass) h)
+    ∙ ap₂ Answered
+    (ap (lowShare (chainOf s) 0 t) first ∙ only-low-share (chainOf s) (accepted-sound s ok) one t)
+    (ap (highShare (chainOf s) 0 t) first ∙ only-high-share (chainOf s) (accepted-sound s ok) one t)
+  where
+    first : startOf s ≡ 0
+    first = omega (arith, ok .start .within, one)
+
+horizon-zero : (s : Scheme) → Accepted s → s .horizon ≡ 0 → totalAnswer s 0 ≡ Answered 0 0
+unfolding totalAnswer lowYears highYears
+horizon-zero s ok none =
+    answered (moneyCause s 0) (Answered 0 0) (Refused (moneyCause s 0))
+    (second-cause (causeOf s) (yearCause s 0) (cause-accepted s ok) ∙ no-year-cause s 0 (omega arith))
+
+-- the examples of document 01, "Sheet program and examples", that are marked (m)
+pub record DocumentExamples : Type 0 where
+  -- "A, class 1 row … Class 2"
+  pub rows : RowsA
+  -- "A, year 1 and year 2 shares"
+  pub year1Class1 : shareAnswer schemeA 1 1 ≡ Answered 800000000 900000000
+  pub year1Class2 : shareAnswer schemeA 2 1 ≡ Answered 100000000 200000000
+  pub year2Class1 : shareAnswer schemeA 1 2 ≡ Answered 920000000 990000000
+  pub year2Class2 : shareAnswer schemeA 2 2 ≡ Answered 10000000 80000000
+  -- "A, year 2 mean"; "A, total"
+  pub year2Mean : meanAnswer schemeA 2 ≡ Answered 10050 10400
+  pub total : totalAnswer schemeA 2 ≡ Answered 25500 26000
+  -- "payoff 30 10 20: low 15, high 23 … Lower all 0: low 14, high 24"
+  pub steps : StepExamples
+  -- "One class: share ONE in each year."
+  pub oneClass : (s : Scheme) → Accepted s → s .classes ≡ 1 → (t : ℕ) → t ≤ s .horizon → shareAnswer s 1 t ≡ Answered ONE ONE
+  -- "Horizon 0: total 0 and 0."
+  pub horizonZero : (s : Scheme) → Accepted s → s .horizon ≡ 0 → totalAnswer s 0 ≡ Answered 0 0
+  -- "year 1 mean 10 to 11"
+  pub thirds : meanAnswer schemeThirds 1 ≡ Answered 10 11
+
+pub document-examples : DocumentExamples
+unfolding shareAnswer meanAnswer totalAnswer causeWhere sizeOut startOut horizonOut ruleOut bandOut sumOut premiumOut anyBelow lowYears highYears lowStep highStep fillRow roomBefore sumTo onlyIf
+document-examples =
+    record {
+      rows = rows-a;
+      year1Class1 = refl;
+      year1Class2 = refl;
+      year2Class1 = refl;
+      year2Class2 = refl;
+      year2Mean = refl;
+      total = refl;
+      steps = step-examples;
+      oneClass = one-class;
+      horizonZero = horizon-zero;
+      thirds = refl;
+    }
+
+-- Example A's share sheet of year 1, and all figures of its sheet: "YEAR 0 …" to "TOTAL 25500 26000"
+pub record SheetsA : Type 0 where
+  pub lowShares1 : lowShares schemeA 1 ≡ 800000000 ∷ 100000000 ∷ []
+  pub highShares1 : highShares schemeA 1 ≡ 900000000 ∷ 200000000 ∷ []
+  pub lows : lowTable schemeA ≡ 0 ∷ 1000000000 ∷ 15000 ∷ 800000000 ∷ 100000000 ∷ 10500 ∷ 920000000 ∷ 10000000 ∷ 10050 ∷ 25500 ∷ []
+  pub highs : highTable schemeA ≡ 0 ∷ 1000000000 ∷ 15000 ∷ 900000000 ∷ 200000000 ∷ 11000 ∷ 990000000 ∷ 80000000 ∷ 10400 ∷ 26000 ∷ []
+
+pub sheets-a : SheetsA
+unfolding lowShares highShares lowTable highTable tableEntry tab lowYears highYears lowStep highStep fillRow roomBefore sumTo onlyIf
+sheets-a = record { lowShares1 = refl; highShares1 = refl; lows = refl; highs = refl }

@@ -1,0 +1,48 @@
+-- All figures of a sheet in one table (document 01, "Sheet program and examples"): for each year from 0 to the horizon the shares of the
+-- classes in order and the mean premium, and last the total of the horizon's premiums.
+use Prim.Native.Nat.{ℕ, suc, _+_, _*_, _/_, _%_}
+use mathlib.Core.Bool.{cond}
+use mathlib.Core.List.{List}
+use lib.Dec.{ltb}
+use lib.ListN.{length}
+use Rattle.setchain.specs.Years.{lowShare, highShare, lowMean, highMean, lowTotal, highTotal}
+use Rattle.scheme.specs.declared.Scheme.{Scheme}
+use Rattle.scheme.specs.Tables.{tab}
+use Rattle.scheme.specs.Access.{premiumAt}
+use Rattle.scheme.specs.Rows.{chainOf}
+use Rattle.bounds_spec.specs.Causes.{tableLengthsCause}
+pub use Rattle.bounds_spec.specs.Causes.{totalPlace, tableSize}
+use Rattle.bounds_spec.specs.Answers.{startOf}
+
+-- the place of year t's figure j: the share of state j, or the mean where j is s
+abbrev pub placeOf : Scheme → ℕ → ℕ → ℕ
+placeOf s t j = t * suc (s .classes) + j
+
+-- what stands at place p
+unfoldable pub tableEntry : Scheme → (share : ℕ → ℕ → ℕ) → (mean : ℕ → ℕ) → (total p : ℕ) → ℕ
+tableEntry s share mean total p =
+    cond (ltb p (totalPlace s))
+    (cond (ltb (p % suc (s .classes)) (s .classes)) (share (p / suc (s .classes)) (p % suc (s .classes))) (mean (p / suc (s .classes))))
+    total
+
+-- the low figures
+unfoldable pub lowTable : Scheme → List ℕ
+lowTable s =
+    tab (tableSize s)
+    (tableEntry s
+    (λ t j. lowShare (chainOf s) j t (startOf s))
+    (λ t. lowMean (chainOf s) (premiumAt s) t (startOf s))
+    (lowTotal (chainOf s) (premiumAt s) (s .horizon) (startOf s)))
+
+-- the high figures
+unfoldable pub highTable : Scheme → List ℕ
+highTable s =
+    tab (tableSize s)
+    (tableEntry s
+    (λ t j. highShare (chainOf s) j t (startOf s))
+    (λ t. highMean (chainOf s) (premiumAt s) t (startOf s))
+    (highTotal (chainOf s) (premiumAt s) (s .horizon) (startOf s)))
+
+-- causes 3 and 5 to 10, then 13: a slice that is not of the table's size
+unfoldable pub tableCause : Scheme → List ℕ → List ℕ → ℕ
+tableCause s low high = tableLengthsCause s (length low) (length high)

@@ -1,4 +1,0 @@
--- The laws that proofs use in place of the definitions' text.
-pub mod Clear
-pub mod Raising
-pub mod Entries

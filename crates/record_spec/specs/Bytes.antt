@@ -1,0 +1,37 @@
+-- The record of a scheme (document 01, "Record"): its header, rules, bands and premiums one after another, over any layout.
+use Prim.Native.Nat.{ℕ}
+use mathlib.Core.List.{List, [], _∷_, _++_}
+use Rattle.scheme.specs.declared.Scheme.{Scheme}
+use Rattle.scheme.specs.Tables.{tab}
+use Rattle.scheme.specs.Access.{ruleAt, lowerAt, upperAt, premiumAt}
+use Rattle.big_endian_spec.specs.Numbers.{beBytes}
+use Rattle.record_spec.specs.Joined.{joined}
+use Rattle.record_spec.specs.Layout.{Layout, lengthOf}
+
+-- "Byte 0: version … Bytes 1 to 2: length of the whole record. Byte 3: s. Byte 4: m. Byte 5: start. Byte 6: horizon."
+unfoldable pub headerBytes : (version length s m start horizon : ℕ) → List ℕ
+headerBytes version length s m start horizon = (version ∷ []) ++ beBytes 2 length ++ (s ∷ m ∷ start ∷ horizon ∷ [])
+
+-- the header of a scheme's record
+abbrev pub headerOf : Layout → Scheme → List ℕ
+headerOf y s = headerBytes (y .version) (lengthOf y (s .classes) (s .columns)) (s .classes) (s .columns) (s .start) (s .horizon)
+
+-- the rules, class by class
+abbrev pub rulesOf : Scheme → List ℕ
+rulesOf s = joined (s .classes) (λ i. tab (s .columns) (ruleAt s i))
+
+-- a band, lower and upper
+abbrev pub bandBytes : ℕ → ℕ → List ℕ
+bandBytes lower upper = beBytes 4 lower ++ beBytes 4 upper
+
+-- the bands, column by column
+abbrev pub bandsOf : Scheme → List ℕ
+bandsOf s = joined (s .columns) (λ k. bandBytes (lowerAt s 0 k) (upperAt s 0 k))
+
+-- the premiums, class by class
+abbrev pub premiumsOf : Layout → Scheme → List ℕ
+premiumsOf y s = joined (s .classes) (λ i. beBytes (y .width) (premiumAt s i))
+
+-- the record of a scheme
+unfoldable pub bytesOf : Layout → Scheme → List ℕ
+bytesOf y s = headerOf y s ++ rulesOf s ++ bandsOf s ++ premiumsOf y s

@@ -1,0 +1,57 @@
+-- Where a record's fields stand and what they hold (document 01, "Record"), with the header's length and the premium's width as parameters.
+use Prim.Native.Nat.{ℕ, _+_, _*_}
+use mathlib.Core.List.{List}
+use lib.ListN.{getD}
+use Rattle.scheme.specs.declared.Scheme.{Scheme}
+use Rattle.big_endian_spec.specs.Numbers.{beAt}
+use Rattle.scheme.specs.Stored.{schemeOf}
+
+-- what the layouts of the versions differ in
+pub record Layout : Type 0 where
+  -- what byte 0 holds
+  pub version : ℕ
+  -- the header's length: the rules start there
+  pub header : ℕ
+  -- how many bytes a premium has
+  pub width : ℕ
+
+-- "Byte 0: version, 1.", a header of 7 bytes, "premiums of 4 bytes"
+abbrev pub version1 : Layout
+version1 = record { version = 1; header = 7; width = 4 }
+
+-- "Length = 7 + s × m + 8 × m + 4 × s"
+abbrev pub lengthOf : Layout → (s m : ℕ) → ℕ
+lengthOf y s m = y .header + s * m + 8 * m + y .width * s
+
+-- "Then s × m rule bytes, class by class": the row of class i, counted from 0
+abbrev pub rowPlace : Layout → (m : ℕ) → (i : ℕ) → ℕ
+rowPlace y m i = y .header + i * m
+
+-- "m bands of lower and upper, 4 bytes each": the band of column k
+abbrev pub bandPlace : Layout → (s m : ℕ) → (k : ℕ) → ℕ
+bandPlace y s m k = y .header + s * m + k * 8
+
+-- "s premiums of 4 bytes": the premium of class i, counted from 0
+abbrev pub premiumPlace : Layout → (s m : ℕ) → (i : ℕ) → ℕ
+premiumPlace y s m i = y .header + s * m + m * 8 + i * y .width
+
+-- "Byte 3: s."
+abbrev pub classesIn : List ℕ → ℕ
+classesIn bytes = getD bytes 3 0
+
+-- "Byte 4: m."
+abbrev pub columnsIn : List ℕ → ℕ
+columnsIn bytes = getD bytes 4 0
+
+-- the scheme that stands in the bytes, with s classes and m columns
+abbrev pub schemeFrom : Layout → List ℕ → (s m : ℕ) → Scheme
+schemeFrom y bytes s m =
+    schemeOf s m (getD bytes 5 0) (getD bytes 6 0)
+    (λ i k. getD bytes (rowPlace y m i + k) 0)
+    (λ k. beAt 4 bytes (bandPlace y s m k))
+    (λ k. beAt 4 bytes (bandPlace y s m k + 4))
+    (λ i. beAt (y .width) bytes (premiumPlace y s m i))
+
+-- the scheme that stands in the bytes: "Byte 5: start. Byte 6: horizon. Then s × m rule bytes … m bands … s premiums"
+abbrev pub schemeIn : Layout → List ℕ → Scheme
+schemeIn y bytes = schemeFrom y bytes (classesIn bytes) (columnsIn bytes)

@@ -1,0 +1,20 @@
+-- The rule row of a class, as a part of the record (document 01, "Record").
+use Prim.Native.Nat.{ℕ, _-_}
+use mathlib.Core.Bool.{cond}
+use mathlib.Core.List.{List, []}
+use lib.Dec.{eqb}
+use lib.ListN.{take, drop}
+use Rattle.scheme.specs.Cause.{orElse, outside}
+use Rattle.record_spec.specs.Layout.{version1, rowPlace, classesIn, columnsIn}
+use Rattle.record_spec.specs.Read.{readCause}
+
+-- "reading the record tells which cause, and where it is accepted the cause was 11"
+abbrev pub rowCause : List ℕ → ℕ → ℕ
+rowCause bytes class = orElse (readCause bytes) (cond (outside (classesIn bytes) class) 11 0)
+
+-- "m bytes from 7 + (class − 1) × m"; "an empty part for every cause"
+unfoldable pub ruleRow : List ℕ → ℕ → List ℕ
+ruleRow bytes class =
+    cond (eqb (rowCause bytes class) 0)
+    (take (columnsIn bytes) (drop (rowPlace version1 (columnsIn bytes) (class - 1)) bytes))
+    []

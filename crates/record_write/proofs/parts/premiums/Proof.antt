@@ -1,0 +1,78 @@
+-- `parts::premiums` meets its contract: j premiums stand at the head of the loop.
+use Prim.Native.Nat.{_≤_, _+_, _*_, _-_}
+use mathlib.Core.Path.{_≡_, _∙_}
+use native.Mathlib.Omega.{arith}
+use lib.ListN.{length, getD}
+use lib.Seq.{sets, length-sets}
+use Rattle.big_endian_spec.specs.Numbers.{beBytes}
+use Rattle.record_spec.specs.Joined.{joined}
+use Rattle.record_write.specs.Laws.Lists.{join-none, join-more}
+use Rattle.big_endian_spec.specs.Laws.{length-beBytes, put-held}
+use borrow.Author.Needs.{needs}
+use Rattle.record_write.proofs.parts.premiums.Statement.{statement}
+use Rattle.record_write.proofs.parts.premiums.Tie as tie
+
+abbrev Inv-loop : tie.InvT-loop
+Inv-loop out₀ from premiums s j₀ to₀ out j to =
+    (j ≤ s) × (to ≡ from + j * 4) × (out ≡ sets out₀ from (joined j (λ i. beBytes 4 (getD premiums i 0))))
+
+abbrev μ-loop : tie.MeasureT-loop
+μ-loop out₀ from premiums s j₀ to₀ out j to = s - j
+
+-- the slice keeps its length
+size : (c : tie.At-loop Inv-loop μ-loop) → length (c .loop .out) ≡ length (c .before .before .args .out .now)
+size c = rw (c .loop .inv .2) (simp length-sets)
+
+loop-holds : tie.Need-loop-holds Inv-loop μ-loop
+loop-holds c = (omega arith, omega arith, join-none _ _ _)
+
+mul-put4 : tie.Need-mul-put4 Inv-loop μ-loop
+mul-put4 c = omega arith
+
+element-copy-out-put4 : tie.Need-element-copy-out-put4 Inv-loop μ-loop
+element-copy-out-put4 c = omega arith
+
+put4-requires : tie.Need-put4-requires Inv-loop μ-loop
+put4-requires c κs = search needs
+
+add-to : tie.Need-add-to Inv-loop μ-loop
+add-to c = omega (arith, size (c .before .before .before .before .before .before))
+
+add-j : tie.Need-add-j Inv-loop μ-loop
+add-j c = omega arith
+
+loop-less : tie.Need-loop-less Inv-loop μ-loop
+loop-less c = omega arith
+
+loop-again : tie.Need-loop-again Inv-loop μ-loop
+loop-again c =
+    let start = c .before .before .before .before .before .before .before .before .args in
+    let turn = c .before .before .before .before .before .before .loop in (
+      omega arith,
+      omega arith,
+      c .before .before .put4 .ensures ∙ put-held 4 (turn .out) (turn .to) _ (omega (arith, size (c .before .before .before .before .before .before)))
+          ∙ rw (turn .inv .2, turn .inv .1) (join-more 4 _ (start .out .now) (start .from) (turn .j) (λ i lt. length-beBytes 4 _)),
+    )
+
+same-length : tie.Need-same-length Inv-loop μ-loop
+same-length c = size (c .before)
+
+returns : tie.Need-returns Inv-loop μ-loop
+returns c = let end : c .before .loop .j ≡ c .before .before .before .args .s = omega arith in rw end at (c .before .loop .inv .2)
+
+pub premiums-spec : {M : Type 1} → statement M
+premiums-spec =
+    tie.close
+    (tie.spec
+    Inv-loop
+    μ-loop
+    loop-holds
+    mul-put4
+    element-copy-out-put4
+    put4-requires
+    add-to
+    add-j
+    loop-less
+    loop-again
+    same-length
+    returns)

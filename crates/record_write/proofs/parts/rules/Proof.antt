@@ -1,0 +1,87 @@
+-- `parts::rules` meets its contract: the rows of i classes stand at the head of the loop.
+use Prim.Native.Nat.{suc, _≤_, _+_, _*_, _-_}
+use mathlib.Core.Path.{_≡_, _∙_}
+use native.Mathlib.Omega.{arith}
+use native.Mathlib.Nat.{mul-le-mul-right}
+use lib.ListN.{length, getD}
+use lib.Seq.{sets, length-sets}
+use Rattle.scheme.specs.Tables.{tab}
+use Rattle.record_spec.specs.Joined.{joined}
+use Rattle.scheme.specs.Laws.Tab.{length-tab}
+use Rattle.big_endian_spec.specs.Laws.{part-held}
+use Rattle.record_write.specs.Laws.Lists.{tab-part, join-none, join-more}
+use borrow.Author.Needs.{needs}
+use Rattle.record_write.proofs.parts.rules.Statement.{statement}
+use Rattle.record_write.proofs.parts.rules.Tie as tie
+
+abbrev Inv-loop : tie.InvT-loop
+Inv-loop out₀ from rules s m i₀ at₀ to₀ out i at to =
+    (i ≤ s) × (at ≡ i * 8) × (to ≡ from + i * m) × (out ≡ sets out₀ from (joined i (λ j. tab m (λ k. getD rules (j * 8 + k) 0))))
+
+abbrev μ-loop : tie.MeasureT-loop
+μ-loop out₀ from rules s m i₀ at₀ to₀ out i at to = s - i
+
+-- the slice keeps its length
+size : (c : tie.At-loop Inv-loop μ-loop) → length (c .loop .out) ≡ length (c .before .before .args .out .now)
+size c = rw (c .loop .inv .3) (simp length-sets)
+
+-- the next row is within the slice
+room : (c : tie.In-loop Inv-loop μ-loop)
+    → c .before .before .before .args .from + c .before .loop .i * c .before .before .before .args .m + c .before .before .before .args .m
+    ≤ length (c .before .before .before .args .out .now)
+room c =
+    let more : suc (c .before .loop .i) ≤ c .before .before .before .args .s = omega arith in
+    omega (arith, mul-le-mul-right (c .before .before .before .args .m) more)
+
+loop-holds : tie.Need-loop-holds Inv-loop μ-loop
+loop-holds c = (omega arith, omega arith, omega arith, join-none _ _ _)
+
+copy-requires : tie.Need-copy-requires Inv-loop μ-loop
+copy-requires c κs = search needs
+
+add-at : tie.Need-add-at Inv-loop μ-loop
+add-at c = omega arith
+
+add-to : tie.Need-add-to Inv-loop μ-loop
+add-to c = omega (arith, size (c .before .before .before .before .before .before), room (c .before .before .before .before .before))
+
+add-i : tie.Need-add-i Inv-loop μ-loop
+add-i c = omega arith
+
+loop-less : tie.Need-loop-less Inv-loop μ-loop
+loop-less c = omega arith
+
+loop-again : tie.Need-loop-again Inv-loop μ-loop
+loop-again c =
+    let start = c .before .before .before .before .before .before .before .before .args in
+    let turn = c .before .before .before .before .before .before .loop in (
+      omega arith,
+      omega arith,
+      omega arith,
+      c .before .before .copy .ensures
+          ∙ part-held (start .m) (start .rules .now) (turn .at) (turn .out) (turn .to) (omega arith) (omega (arith, size (c .before .before .before .before .before .before), room (c .before .before .before .before .before)))
+          ∙ rw (turn .inv .3, turn .inv .2, turn .inv .1, ← (tab-part (start .m) (turn .i * 8) (start .rules .now) (omega arith)))
+          (join-more (start .m) _ (start .out .now) (start .from) (turn .i) (λ j lt. length-tab (start .m) _)),
+    )
+
+same-length : tie.Need-same-length Inv-loop μ-loop
+same-length c = size (c .before)
+
+returns : tie.Need-returns Inv-loop μ-loop
+returns c = let end : c .before .loop .i ≡ c .before .before .before .args .s = omega arith in rw end at (c .before .loop .inv .3)
+
+pub rules-spec : {M : Type 1} → statement M
+rules-spec =
+    tie.close
+    (tie.spec
+    Inv-loop
+    μ-loop
+    loop-holds
+    copy-requires
+    add-at
+    add-to
+    add-i
+    loop-less
+    loop-again
+    same-length
+    returns)

@@ -1,0 +1,78 @@
+-- `parts::whole` meets its contract: each part is laid where the last one ends.
+use Prim.Native.Nat.{ℕ, _+_, _*_, _≤_}
+use mathlib.Core.Path.{_≡_, sym}
+use native.Mathlib.Omega.{arith}
+use native.Mathlib.Nat.{mul-le-mul}
+use Rattle.record_write.specs.Laws.Bytes.{wrote}
+use borrow.Author.Needs.{needs}
+use Rattle.record_write.proofs.parts.whole.Statement.{statement}
+use Rattle.record_write.proofs.parts.whole.Tie as tie
+
+-- where the parts stand, by the record's length
+pub record Places (s m size : ℕ) : Type 0 where
+  pub classes : s ≤ 32
+  pub columns : m ≤ 8
+  pub product : s * m ≤ 32 * 8
+  pub whole : 7 + s * m + 8 * m + 4 * s ≡ size
+
+places : (c : tie.After-struct-known2)
+    → Places (c .before .before .before .args .scheme .classes) (c .before .before .before .args .scheme .columns) (c .before .before .before .args .size)
+places c =
+    let fits = c .before .before .before .pre in
+    record { classes = fits .0 .classes; columns = fits .0 .columns; product = mul-le-mul (fits .0 .classes) (fits .0 .columns); whole = sym (fits .1) }
+
+cast-s : tie.Need-cast-s
+cast-s c = search needs
+
+cast-m : tie.Need-cast-m
+cast-m c = search needs
+
+header-requires : tie.Need-header-requires
+header-requires c κs = omega (arith, places (c .before))
+
+rules-requires : tie.Need-rules-requires
+rules-requires c κs = omega (arith, places (c .before .before .before .before .before .before .before))
+
+mul-after : tie.Need-mul-after
+mul-after c = omega (arith, places (c .before .before .before .before .before .before .before .before .before .before .before .before))
+
+add-after : tie.Need-add-after
+add-after c = omega (arith, places (c .before .before .before .before .before .before .before .before .before .before .before .before))
+
+bands-requires : tie.Need-bands-requires
+bands-requires c κs = omega (arith, places (c .before .before .before .before .before .before .before .before .before .before .before .before .before .before .before))
+
+mul-premiums : tie.Need-mul-premiums
+mul-premiums c = search needs
+
+add-premiums : tie.Need-add-premiums
+add-premiums c = omega (arith, places (c .before .before .before .before .before .before .before .before .before .before .before .before .before .before .before .before .before .before .before .before))
+
+premiums-requires : tie.Need-premiums-requires
+premiums-requires c κs = omega (arith, places (c .before .before .before .before .before .before .before .before .before .before .before .before .before .before .before .before .before .before .before .before .before))
+
+same-length : tie.Need-same-length
+same-length c = search needs
+
+returns : tie.Need-returns
+returns c =
+    let start = c .before .before .before .before .before .before .before .before .before .before .before .before .before .before .before .before .before .before .before .before .before .before .before .before .before .before .before in
+    wrote (start .args .scheme) (start .args .out .now)
+    (start .pre .1) (start .pre .2) (c .before .before .before .before .before .before .before .before .before .before .before .before .before .before .before .before .before .before .before .before .before .before .header .ensures) (c .before .before .before .before .before .before .before .before .before .before .before .before .before .before .before .before .rules .ensures) (c .before .before .before .before .before .before .before .before .bands .ensures) (c .before .before .premiums .ensures)
+
+pub whole-spec : {M : Type 1} → statement M
+whole-spec =
+    tie.close
+    (tie.spec
+    cast-s
+    cast-m
+    header-requires
+    rules-requires
+    mul-after
+    add-after
+    bands-requires
+    mul-premiums
+    add-premiums
+    premiums-requires
+    same-length
+    returns)

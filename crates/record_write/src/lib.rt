@@ -1,0 +1,25 @@
+// A scheme written as a record.
+ghost use mathlib.Core.Path.{_≡_};
+ghost use Rattle.record_spec.specs.Write.{writeAnswer, writeLeaves, WritePromise};
+pub use record_spec::WriteAnswer;
+use scheme::Scheme;
+
+mod parts;
+
+// Writes the record of a scheme into the slice, and leaves bytes past it unchanged; declined, all of them.
+pub fn write(scheme: Scheme, out: &mut [u8]) -> WriteAnswer
+    ensures answer { λ r. ⌜ r ≡ writeAnswer scheme (now (out .entry)) ⌝ }
+    ensures leaves { λ r. ⌜ now (out .exit) ≡ writeLeaves scheme (now (out .entry)) ⌝ }
+    ensures promise { λ r. ⌜ WritePromise scheme (now (out .exit)) r ⌝ }
+{
+    let number = acceptance::cause(scheme);
+    if number != 0 {
+        return WriteAnswer::Declined(number);
+    }
+    let size = record::length_of(scheme.classes, scheme.columns);
+    if out.len() < size {
+        return WriteAnswer::Declined(scheme::SLICE_OUT);
+    }
+    parts::whole(scheme, out, size);
+    WriteAnswer::Written(size)
+}

@@ -1,0 +1,105 @@
+// A record written into a lent slice, part by part.
+ghost use mathlib.Core.Path.{_≡_};
+ghost use mathlib.Core.List.{_++_};
+ghost use Prim.Native.Nat.{_+_, _*_, _<_, _≤_};
+ghost use lib.ListN.{length, getD, drop};
+ghost use lib.Seq.{sets};
+ghost use Rattle.scheme.specs.Tables.{tab};
+ghost use Rattle.scheme.specs.Accepted.{SizeFits};
+ghost use Rattle.big_endian_spec.specs.Numbers.{beBytes};
+ghost use Rattle.record_spec.specs.Joined.{joined};
+ghost use Rattle.record_spec.specs.Layout.{version1};
+ghost use Rattle.record_spec.specs.Bytes.{headerBytes, bandBytes, bytesOf};
+ghost use Rattle.record_spec.specs.Write.{recordLength};
+use scheme::Scheme;
+
+// puts the header
+fn header(out: &mut [u8], size: usize, s: u8, m: u8, start: u8, horizon: u8)
+    requires { ⌜ (7 ≤ length (now out)) × (size ≤ 455) ⌝ }
+    ensures { λ _. ⌜ now (out .exit) ≡ sets (now (out .entry)) 0 (headerBytes 1 size s m start horizon) ⌝ }
+{
+    out[0] = 1;
+    big_endian::put2(out, 1, size as u32);
+    out[3] = s;
+    out[4] = m;
+    out[5] = start;
+    out[6] = horizon;
+}
+
+// puts the rules of s classes and m columns, class by class, from place `from` on
+fn rules(out: &mut [u8], from: usize, rules: &[u8; 256], s: usize, m: usize)
+    requires { ⌜ (from + s * m ≤ length (now out)) × (s ≤ 32) × (m ≤ 8) ⌝ }
+    ensures { λ _. ⌜ now (out .exit) ≡ sets (now (out .entry)) from (joined s (λ i. tab m (λ k. getD (now (rules .entry)) (i * 8 + k) 0))) ⌝ }
+{
+    let mut i: usize = 0;
+    let mut at: usize = 0;
+    let mut to = from;
+    while i < s {
+        big_endian::copy(rules, at, out, to, m);
+        at += 8;
+        to += m;
+        i += 1;
+    }
+}
+
+// puts a band, lower and upper
+fn put_band(out: &mut [u8], at: usize, lower: u32, upper: u32)
+    requires { ⌜ at + 8 ≤ length (now out) ⌝ }
+    ensures { λ _. ⌜ now (out .exit) ≡ sets (now (out .entry)) at (bandBytes lower upper) ⌝ }
+{
+    big_endian::put4(out, at, lower);
+    big_endian::put4(out, at + 4, upper);
+}
+
+// puts m bands, lower and upper, from place `from` on
+fn bands(out: &mut [u8], from: usize, lowers: &[u32; 8], uppers: &[u32; 8], m: usize)
+    requires { ⌜ (from + m * 8 ≤ length (now out)) × (m ≤ 8) ⌝ }
+    ensures { λ _. ⌜ now (out .exit) ≡ sets (now (out .entry)) from (joined m (λ k. bandBytes (getD (now (lowers .entry)) k 0) (getD (now (uppers .entry)) k 0))) ⌝ }
+{
+    let mut k: usize = 0;
+    let mut to = from;
+    while k < m {
+        put_band(out, to, lowers[k], uppers[k]);
+        to += 8;
+        k += 1;
+    }
+}
+
+// puts s premiums, from place `from` on
+fn premiums(out: &mut [u8], from: usize, premiums: &[u32; 32], s: usize)
+    requires { ⌜ (from + s * 4 ≤ length (now out)) × (s ≤ 32) ⌝ }
+    ensures { λ _. ⌜ now (out .exit) ≡ sets (now (out .entry)) from (joined s (λ i. beBytes 4 (getD (now (premiums .entry)) i 0))) ⌝ }
+{
+    let mut j: usize = 0;
+    let mut to = from;
+    while j < s {
+        big_endian::put4(out, to, premiums[j]);
+        to += 4;
+        j += 1;
+    }
+}
+
+// puts the whole record of a scheme, of `size` bytes
+pub fn whole(scheme: Scheme, out: &mut [u8], size: usize)
+    requires { ⌜ SizeFits scheme × (size ≡ recordLength scheme) × (size ≤ length (now out)) ⌝ }
+    ensures { λ _. ⌜ now (out .exit) ≡ bytesOf version1 scheme ++ drop size (now (out .entry)) ⌝ }
+{
+    let s = scheme.classes as usize;
+    let m = scheme.columns as usize;
+    header(
+        out,
+        size,
+        scheme.classes,
+        scheme.columns,
+        scheme.start,
+        scheme.horizon,
+    );
+    let rows = scheme.rules;
+    rules(out, 7, &rows, s, m);
+    let lowers = scheme.lowers;
+    let uppers = scheme.uppers;
+    let after = 7 + s * m;
+    bands(out, after, &lowers, &uppers, m);
+    let money = scheme.premiums;
+    premiums(out, after + m * 8, &money, s);
+}

@@ -1,0 +1,47 @@
+-- What the sheet of any bytes answers, and what the lent slice holds afterwards.
+use Prim.Native.Nat.{ℕ, suc, _+_, _*_}
+use mathlib.Core.Path.{_≡_}
+use mathlib.Core.Bool.{cond}
+use mathlib.Core.List.{List, _++_}
+use lib.Dec.{eqb, ltb}
+use lib.ListN.{length, take, drop}
+use Rattle.scheme.specs.declared.Scheme.{Scheme}
+use Rattle.record_spec.specs.Layout.{version1, schemeIn}
+use Rattle.record_spec.specs.Read.{readCause}
+use Rattle.record_spec.specs.declared.WriteAnswer.{WriteAnswer}
+use Rattle.record_spec.specs.declared.WriteAnswer.the-variants.{Written, Declined}
+use Rattle.record_spec.specs.Write.{writeNumber, writtenLength}
+use Rattle.sheet_spec.specs.Sheet.{sheetText}
+
+-- the most bytes that the sheet of a scheme of this size may have: SCHEME 19, a class 40, PREMIUM 35, TOTAL 28
+unfoldable pub roomOf : Scheme → ℕ
+roomOf s = 19 + suc (s .horizon) * (s .classes * 40 + 35) + 28
+
+-- the room that the sheet of these bytes takes: a refusal has at most 11 bytes
+unfoldable pub roomFor : List ℕ → ℕ
+roomFor bytes = cond (eqb (readCause bytes) 0) (roomOf (schemeIn version1 bytes)) 11
+
+-- a text into a slice of at least `room` bytes: its length, and 13 for a shorter slice
+abbrev pub answerBy : (room : ℕ) (text out : List ℕ) → WriteAnswer
+answerBy room text out = cond (ltb (length out) room) (Declined 13) (Written (length text))
+
+-- the text from the front on, and bytes past it unchanged; declined, all of them
+abbrev pub leavesBy : (room : ℕ) (text out : List ℕ) → List ℕ
+leavesBy room text out = cond (ltb (length out) room) out (text ++ drop (length text) out)
+
+-- what is answered for a text that takes so much room, and what the slice holds afterwards
+pub record Told (room : ℕ) (text before after : List ℕ) (r : WriteAnswer) : Type 0 where
+  pub answer : r ≡ answerBy room text before
+  pub leaves : after ≡ leavesBy room text before
+
+-- the answer for any bytes
+unfoldable pub sheetAnswer : List ℕ → List ℕ → WriteAnswer
+sheetAnswer bytes out = answerBy (roomFor bytes) (sheetText bytes) out
+
+-- the slice after it
+unfoldable pub sheetLeaves : List ℕ → List ℕ → List ℕ
+sheetLeaves bytes out = leavesBy (roomFor bytes) (sheetText bytes) out
+
+-- what the answer promises: the first bytes of the slice, as many as it says, are the sheet of all the bytes
+abbrev pub TextPromise : (bytes after : List ℕ) → WriteAnswer → Type 0
+TextPromise bytes after r = writeNumber r ≡ 0 → take (writtenLength r) after ≡ sheetText bytes

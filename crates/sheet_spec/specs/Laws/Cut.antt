@@ -1,0 +1,54 @@
+-- The sheet of 65,536 bytes or more is the refusal that their first bytes bring, so that input may be cut there: a record's length field says at most 65,535 (document 01, "Record").
+use Prim.Native.Nat.{ℕ, _≤_}
+use mathlib.Core.Path.{_≡_, refl, ap, sym, _∙_}
+use mathlib.Core.Bool.{Bool, true, false, cond, not, _||_, true≢false}
+use mathlib.Core.List.{List}
+use native.Mathlib.Decide.{decLe}
+use native.Mathlib.Omega.{arith}
+use lib.Dec.{eqb, ltb}
+use lib.ListN.{length, getD, take}
+use lib.Seq.{length-take-le, take-all, getD-take}
+use borrow.Author.Tests.{ne-eqb, le-ltb}
+use Rattle.scheme.specs.Cause.{orElse}
+use Rattle.big_endian_spec.specs.Numbers.{Bytes, beAt}
+use Rattle.big_endian_spec.specs.Laws.{bytes-take, beAt-fits}
+use Rattle.record_spec.specs.Read.{frameCause, readCause}
+use Rattle.sheet_spec.specs.Sheet.{refusedLine, sheetText}
+use Rattle.sheet_spec.specs.Laws.Room.{text-refused}
+
+-- the causes 1 and 2, of which the second applies
+first-two : (a b : Bool) (rest after : ℕ) → b ≡ true → orElse (orElse (orElse (cond a 1 0) (cond b 2 0)) rest) after ≡ cond a 1 2
+first-two true true rest after e = refl
+first-two true false rest after e = refl
+first-two false true rest after e = refl
+first-two false false rest after e = absurd (true≢false (sym e))
+
+-- bytes that are more than a length field can say are refused by their version, or by that field
+module _ (bytes : List ℕ) (small : Bytes bytes) (long : 65536 ≤ length bytes) where
+  differs : beAt 2 bytes 1 ≡ length bytes → ⊥
+  differs e = omega (arith, beAt-fits 2 bytes 1 small)
+
+  long-cause : readCause bytes ≡ cond (not (eqb (getD bytes 0 0) 1)) 1 2
+  unfolding frameCause
+  long-cause =
+      first-two (eqb (length bytes) 0 || not (eqb (getD bytes 0 0) 1)) (ltb (length bytes) 7 || not (eqb (beAt 2 bytes 1) (length bytes))) _ _
+      (simp (le-ltb (length bytes) 7 (omega arith), ne-eqb (beAt 2 bytes 1) (length bytes) differs))
+      ∙ ap (λ b. cond (b || not (eqb (getD bytes 0 0) 1)) 1 2) (ne-eqb (length bytes) 0 (λ e. omega arith))
+
+  pub long-text : sheetText bytes ≡ refusedLine (cond (not (eqb (getD bytes 0 0) 1)) 1 2)
+  long-text = text-refused bytes (λ z. some (not (eqb (getD bytes 0 0) 1)) (sym long-cause ∙ z)) ∙ ap refusedLine long-cause
+    where
+      some : (b : Bool) → _≡_ {A = ℕ} (cond b 1 2) 0 → ⊥
+      some true e = omega arith
+      some false e = omega arith
+
+-- "All of the input is the record": its first bytes, 65,536 or more of them where it has so many, bring its sheet
+pub cut-text : (most : ℕ) → 65536 ≤ most → (input : List ℕ) → Bytes input → sheetText (take most input) ≡ sheetText input
+cut-text most enough input small = by (decLe most (length input))
+  where
+    by : Dec (most ≤ length input) → sheetText (take most input) ≡ sheetText input
+    by (yes long) =
+        long-text (take most input) (bytes-take most input small) (omega (arith, length-take-le most input long))
+        ∙ ap (λ x. refusedLine (cond (not (eqb x 1)) 1 2)) (getD-take most input 0 0 (omega arith))
+        ∙ sym (long-text input small (omega arith))
+    by (no short) = ap sheetText (take-all most input (omega arith))

@@ -1,0 +1,155 @@
+-- The sheet of any bytes has room where the answer says so.
+use Prim.Native.Nat.{ℕ, suc, _+_, _*_, _≤_}
+use mathlib.Core.Path.{_≡_, refl}
+use mathlib.Core.Bool.{Bool, true, false, cond, not, _||_}
+use mathlib.Core.List.{List, _++_}
+use native.Mathlib.Omega.{arith}
+use native.Mathlib.Nat.{mul-le-mul}
+use native.Mathlib.Decide.{ℕ-discrete}
+use borrow.Author.Tests.{eq-eqb, ne-eqb}
+use lib.Dec.{eqb, ltb}
+use lib.ListN.{length, getD, take, drop, replicate, length-replicate}
+use lib.Seq.{length-take-le, take-at}
+use Rattle.scheme.specs.Laws.Cause.{second-none}
+use Rattle.scheme.specs.declared.Scheme.{Scheme}
+use Rattle.scheme.specs.Accepted.{Accepted}
+use Rattle.scheme.specs.Cause.{outside, sizeOut, startOut, horizonOut, ruleOut, bandOut, sumOut, premiumOut, causeWhere, causeOf, orElse}
+use Rattle.scheme.specs.Laws.Judged.{accepted-cause}
+use Rattle.big_endian_spec.specs.Numbers.{beAt}
+use Rattle.record_spec.specs.Layout.{version1, lengthOf, classesIn, columnsIn, schemeIn}
+use Rattle.record_spec.specs.Read.{versionCause, fieldCause, sizeCause, lengthCause, frameCause, readCause}
+use Rattle.record_spec.specs.declared.WriteAnswer.the-variants.{Written, Declined}
+use Rattle.sheet_spec.specs.Sheet.{classLines, yearPremium, yearLines, sheetOf, refusedLine, sheetText}
+use Rattle.sheet_spec.specs.Answer.{roomOf, roomFor, sheetAnswer, sheetLeaves, TextPromise}
+use Rattle.sheet_spec.specs.Laws.Figures.{low-share-at-most, high-share-at-most, low-mean-at-most, high-mean-at-most, low-total-at-most, high-total-at-most}
+use Rattle.sheet_spec.specs.Laws.Widths.{Within, within-append, within-joined, scheme-line-within, class-line-within, premium-line-within, total-line-within, refused-line-within}
+
+-- the lines of a year, and the sheet of an accepted scheme
+module _ (s : Scheme) (ok : Accepted s) where
+  -- "a line for each class in order …, and its PREMIUM line"
+  year-order : (t : ℕ) → yearLines s t ≡ classLines s t ++ yearPremium s t
+  unfolding yearLines
+  year-order t = refl
+
+  year-within : (t : ℕ) → t ≤ s .horizon → Within (s .classes * 40 + 35) (yearLines s t)
+  year-within t h =
+      rw (year-order t)
+      (within-append
+      (within-joined 40 (s .classes) _ (λ j l.
+      class-line-within t j _ _ (omega (arith, ok .horizon .within)) (omega (arith, ok .size .classes)) (low-share-at-most s ok j t) (high-share-at-most s ok j t)))
+      (premium-line-within t _ _ (omega (arith, ok .horizon .within)) (low-mean-at-most s ok t) (high-mean-at-most s ok t)))
+
+  pub sheet-within : Within (roomOf s) (sheetOf s)
+  unfolding roomOf sheetOf
+  sheet-within =
+      within-append
+      (within-append (scheme-line-within s ok) (within-joined (s .classes * 40 + 35) (suc (s .horizon)) (yearLines s) (λ t l. year-within t (omega arith))))
+      (total-line-within _ _
+      (omega (arith, ok .horizon .within, low-total-at-most s ok (s .horizon)))
+      (omega (arith, ok .horizon .within, high-total-at-most s ok (s .horizon))))
+
+  pub room-at-most : roomOf s ≤ 132862
+  unfolding roomOf
+  room-at-most =
+      let years : suc (s .horizon) ≤ 101 = omega (arith, ok .horizon .within) in
+      let lines : s .classes * 40 + 35 ≤ 1315 = omega (arith, ok .size .classes) in
+      omega (arith, mul-le-mul years lines)
+
+  -- the code's numbers: the room, and the tables' size
+  pub room-coded : 19 + (s .horizon + 1) * (s .classes * 40 + 35) + 28 ≡ roomOf s
+  unfolding roomOf
+  room-coded = omega arith
+
+  pub table-at-most : (s .horizon + 1) * (s .classes + 1) + 1 ≤ 3334
+  table-at-most =
+      let years : s .horizon + 1 ≤ 101 = omega (arith, ok .horizon .within) in
+      let columns : s .classes + 1 ≤ 33 = omega (arith, ok .size .classes) in
+      omega (arith, mul-le-mul years columns)
+
+-- a part of an array of zeros
+pub zeros-part : (m n : ℕ) → n ≤ m → length {A = ℕ} (take n (replicate m 0)) ≡ n
+zeros-part m n h = length-take-le n (replicate m 0) (omega (arith, length-replicate {A = ℕ} m 0))
+
+-- no refusal number of a record is above 10
+cond-most : (b : Bool) (x y n : ℕ) → x ≤ n → y ≤ n → cond b x y ≤ n
+cond-most true x y n h k = h
+cond-most false x y n h k = k
+
+or-most : (a b n : ℕ) → a ≤ n → b ≤ n → orElse a b ≤ n
+or-most a b n h k = cond-most (eqb a 0) b a n k h
+
+scheme-cause-most : (s : Scheme) → causeOf s ≤ 10
+unfolding causeWhere
+scheme-cause-most s =
+    cond-most (sizeOut s) 3 _ 10 (omega arith)
+    (cond-most (startOut s) 5 _ 10 (omega arith)
+    (cond-most (horizonOut s) 6 _ 10 (omega arith)
+    (cond-most (ruleOut s) 7 _ 10 (omega arith)
+    (cond-most (bandOut s) 8 _ 10 (omega arith) (cond-most (sumOut s) 9 _ 10 (omega arith) (cond-most (premiumOut s) 10 0 10 (omega arith) (omega arith)))))))
+
+frame-cause-most : (bytes : List ℕ) → frameCause bytes ≤ 10
+unfolding frameCause
+frame-cause-most bytes =
+    let s = classesIn bytes in
+    let m = columnsIn bytes in
+    or-most (orElse (versionCause bytes) (fieldCause bytes)) (orElse (sizeCause s m) (lengthCause (length bytes) s m)) 10
+    (or-most (versionCause bytes) (fieldCause bytes) 10
+    (cond-most (eqb (length bytes) 0 || not (eqb (getD bytes 0 0) 1)) 1 0 10 (omega arith) (omega arith))
+    (cond-most (ltb (length bytes) 7 || not (eqb (beAt 2 bytes 1) (length bytes))) 2 0 10 (omega arith) (omega arith)))
+    (or-most (sizeCause s m) (lengthCause (length bytes) s m) 10
+    (cond-most (outside 32 s || outside 8 m) 3 0 10 (omega arith) (omega arith))
+    (cond-most (not (eqb (length bytes) (lengthOf version1 s m))) 4 0 10 (omega arith) (omega arith)))
+
+pub read-cause-most : (bytes : List ℕ) → readCause bytes ≤ 10
+read-cause-most bytes = or-most (frameCause bytes) (causeOf (schemeIn version1 bytes)) 10 (frame-cause-most bytes) (scheme-cause-most (schemeIn version1 bytes))
+
+-- bytes without a cause hold an accepted scheme
+pub read-accepted : (bytes : List ℕ) → readCause bytes ≡ 0 → Accepted (schemeIn version1 bytes)
+read-accepted bytes e = accepted-cause _ (second-none (frameCause bytes) (causeOf (schemeIn version1 bytes)) e)
+
+-- the text and the room of any bytes, by cases
+module _ (bytes : List ℕ) where
+  pub text-accepted : readCause bytes ≡ 0 → sheetText bytes ≡ sheetOf (schemeIn version1 bytes)
+  unfolding sheetText
+  text-accepted e = rw (eq-eqb (readCause bytes) 0 e)
+
+  pub room-accepted : readCause bytes ≡ 0 → roomFor bytes ≡ roomOf (schemeIn version1 bytes)
+  unfolding roomFor
+  room-accepted e = rw (eq-eqb (readCause bytes) 0 e)
+
+  pub text-refused : (readCause bytes ≡ 0 → ⊥) → sheetText bytes ≡ refusedLine (readCause bytes)
+  unfolding sheetText
+  text-refused e = rw (ne-eqb (readCause bytes) 0 e)
+
+  pub room-refused : (readCause bytes ≡ 0 → ⊥) → roomFor bytes ≡ 11
+  unfolding roomFor
+  room-refused e = rw (ne-eqb (readCause bytes) 0 e)
+
+-- the room of any bytes is enough for their text, and at most 132,862
+pub record Roomy (bytes : List ℕ) : Type 0 where
+  pub enough : length (sheetText bytes) ≤ roomFor bytes
+  pub most : roomFor bytes ≤ 132862
+
+pub roomy : (bytes : List ℕ) → Roomy bytes
+roomy bytes = by (ℕ-discrete (readCause bytes) 0)
+  where
+    by : Dec (readCause bytes ≡ 0) → Roomy bytes
+    by (yes none) =
+        record {
+          enough = rw (text-accepted bytes none, room-accepted bytes none) (sheet-within (schemeIn version1 bytes) (read-accepted bytes none) .fits);
+          most = rw (room-accepted bytes none) (room-at-most (schemeIn version1 bytes) (read-accepted bytes none));
+        }
+    by (no some) =
+        record {
+          enough = rw (text-refused bytes some, room-refused bytes some) (refused-line-within (readCause bytes) (omega (arith, read-cause-most bytes)) .fits);
+          most = rw (room-refused bytes some) (omega arith);
+        }
+
+-- the answer keeps its promise
+pub text-kept : (bytes out : List ℕ) → TextPromise bytes (sheetLeaves bytes out) (sheetAnswer bytes out)
+unfolding sheetAnswer sheetLeaves
+text-kept bytes out = by (ltb (length out) (roomFor bytes))
+  where
+    by : (short : Bool) → TextPromise bytes (cond short out (sheetText bytes ++ drop (length (sheetText bytes)) out)) (cond short (Declined 13) (Written (length (sheetText bytes))))
+    by true e = absurd (omega arith)
+    by false e = take-at (sheetText bytes) (drop (length (sheetText bytes)) out) (length (sheetText bytes)) refl

@@ -1,3 +1,0 @@
--- The laws that proofs use in place of the definitions' text.
-pub mod Writing
-pub mod Numbers

@@ -1,0 +1,102 @@
+-- The one-year step looks at no value beyond s and m, and at no payoff beyond s (document 01, "Units and the scheme" and "One year").
+use Prim.Native.Nat.{ℕ, _-_, _*_, _<_}
+use mathlib.Core.Path.{_≡_, refl, ap, ap₂, sym, _∙_, subst₂}
+use mathlib.Core.Bool.{Bool, true, false, _||_}
+use mathlib.Core.List.{List}
+use lib.Dec.{ltb}
+use native.Mathlib.Omega.{arith}
+use Rattle.setchain.specs.Sums.{dot}
+use Rattle.setchain.specs.Rows.{IntervalRow}
+use Rattle.setchain.specs.Laws.Sums.{sumTo-eq}
+use Rattle.setchain.specs.Laws.Agreeing.{agree-refl, low-step-agrees, high-step-agrees}
+use Rattle.scheme.specs.declared.Scheme.{Scheme}
+use Rattle.scheme.specs.Cause.{premiumOut, causeWhere, classCause}
+use Rattle.scheme.specs.Stored.{schemeOf, cleared}
+use Rattle.scheme.specs.Values.{SameValues}
+use Rattle.scheme.specs.Laws.Tables.{any-eq}
+use Rattle.scheme.specs.Laws.Cause.{first-none, second-none, class-fits, by-cause}
+use Rattle.scheme.specs.Laws.Values.{Alike, same, alike-where, alike-values, alike-back, cleared-alike, premiums-same, class-same, row-same}
+use Rattle.direction.specs.Direction.{rounded, NotAfter}
+use Rattle.order.specs.States.{at}
+use Rattle.step_spec.specs.declared.StepAnswer.{StepAnswer}
+use Rattle.step_spec.specs.Figure.{stepFigure}
+use Rattle.step_spec.specs.StepAnswer.{payoffOut, stepCause, classRow, Reaches, StepAnswered}
+
+-- payoffs that agree on n states: the same figure, reached by the same rows
+module _ (high : Bool) (n : ℕ) (r : IntervalRow) {f g : ℕ → ℕ} (payoffs : (j : ℕ) → j < n → f j ≡ g j) where
+  dot-same : (p : ℕ → ℕ) → dot n p f ≡ dot n p g
+  dot-same p = sumTo-eq n (λ j. p j * f j) (λ j. p j * g j) (λ j l. ap (λ x. p j * x) (payoffs j l))
+
+  reaches-same : {row : ℕ → ℕ} {figure : ℕ} → Reaches high n r f row figure → Reaches high n r g row figure
+  reaches-same {row} w =
+      record {
+        inside = w .inside;
+        extreme = λ p inside. subst₂ (NotAfter high) (dot-same row) (dot-same p) (w .extreme p inside);
+        rounded = w .rounded ∙ ap (rounded high) (dot-same row);
+      }
+
+figure-same : (high : Bool) (n : ℕ) (r : IntervalRow) {f g : ℕ → ℕ} → ((j : ℕ) → j < n → f j ≡ g j) → stepFigure high n r f ≡ stepFigure high n r g
+figure-same false n r payoffs = low-step-agrees (agree-refl n r) payoffs
+figure-same true n r payoffs = high-step-agrees (agree-refl n r) payoffs
+
+-- what is answered for one scheme and payoff is answered for the other
+module _ {s s′ : Scheme} (w : Alike s s′) (payoff payoff′ : List ℕ) (payoffs : (j : ℕ) → j < s .classes → at payoff j ≡ at payoff′ j) (class : ℕ) where
+  cause-same : stepCause s payoff class ≡ stepCause s′ payoff′ class
+  unfolding payoffOut
+  cause-same =
+      by-cause cause (λ z. class-same (alike-values w _ z) class) cause
+    where
+      cause : causeWhere s (premiumOut s || payoffOut s payoff) ≡ causeWhere s′ (premiumOut s′ || payoffOut s′ payoff′)
+      cause = alike-where w (λ v. ap₂ _||_ (premiums-same v) (any-eq (v .classes) _ _ (λ i l. ap (ltb 1000000000) (payoffs i l))))
+
+  module _ (z : stepCause s payoff class ≡ 0) where
+    values : SameValues s s′
+    values = alike-values w _ (first-none (causeWhere s (premiumOut s || payoffOut s payoff)) (classCause s class) z)
+
+    row : classRow s class ≡ classRow s′ class
+    row =
+        let fits = class-fits (s .classes) class (second-none (causeWhere s (premiumOut s || payoffOut s payoff)) (classCause s class) z) in
+        row-same values (class - 1) (omega arith)
+
+  alike-step : (high : Bool) (r : StepAnswer) → StepAnswered high s payoff class r → StepAnswered high s′ payoff′ class r
+  alike-step high r a =
+      record {
+        number = a .number ∙ cause-same;
+        figure =
+            a .figure
+            ∙ by-cause cause-same
+            (λ z.
+            figure-same high (s .classes) (classRow s class) payoffs
+            ∙ ap₂ (λ n q. stepFigure high n q (at payoff′)) (values z .classes) (row z))
+            refl;
+        size = a .size;
+        declinedRow = a .declinedRow;
+        beyond = λ z j l. let v = values (sym (a .number) ∙ z) in a .beyond z j (omega arith);
+        reaches = λ z.
+            subst₂ (λ n q. Reaches high n q (at payoff′) (at (r .row)) (r .figure)) (values (sym (a .number) ∙ z) .classes) (row (sym (a .number) ∙ z))
+            (reaches-same high (s .classes) (classRow s class) payoffs (a .reaches z));
+      }
+
+-- the low and high step of one scheme and payoff have the same answers as those of another
+pub record SameSteps (s s′ : Scheme) (payoff payoff′ : List ℕ) : Type 0 where
+  pub to : (high : Bool) (class : ℕ) (r : StepAnswer) → StepAnswered high s payoff class r → StepAnswered high s′ payoff′ class r
+  pub back : (high : Bool) (class : ℕ) (r : StepAnswer) → StepAnswered high s′ payoff′ class r → StepAnswered high s payoff class r
+
+-- schemes with the same values, and payoffs that agree up to s
+pub same-steps : {s s′ : Scheme} → SameValues s s′ → (payoff payoff′ : List ℕ) → ((j : ℕ) → j < s .classes → at payoff j ≡ at payoff′ j)
+    → SameSteps s s′ payoff payoff′
+same-steps v payoff payoff′ payoffs =
+    record {
+      to = λ high class. alike-step (same v) payoff payoff′ payoffs class high;
+      back = λ high class. alike-step (alike-back (same v)) payoff′ payoff (λ j l. sym (payoffs j (omega arith))) class high;
+    }
+
+-- "Values stored beyond s or m are ignored", of every scheme, accepted or not; "payoffs stored beyond s are ignored"
+pub step-ignored : (s : Scheme) (payoff payoff′ : List ℕ) → ((j : ℕ) → j < s .classes → at payoff j ≡ at payoff′ j)
+    → SameSteps s (cleared s) payoff payoff′
+unfolding schemeOf
+step-ignored s payoff payoff′ payoffs =
+    record {
+      to = λ high class. alike-step (cleared-alike s) payoff payoff′ payoffs class high;
+      back = λ high class. alike-step (alike-back (cleared-alike s)) payoff′ payoff (λ j l. sym (payoffs j l)) class high;
+    }

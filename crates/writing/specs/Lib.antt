@@ -1,3 +1,0 @@
--- That reading and writing agree. Laws has the lemmas by which it is proved; crate layout has the definitions.
-pub mod Agreement
-pub mod Laws
