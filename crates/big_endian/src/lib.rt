@@ -1,8 +1,8 @@
 // Numbers in lent bytes, big-endian, read at any place, also where the bytes do not hold them. What is put, and copied, is defined in specs/ too.
 ghost use mathlib.Core.Path.{_≡_};
-ghost use Prim.Native.Nat.{_+_, _<_};
+ghost use Prim.Native.Nat.{_+_, _<_, _%_};
 ghost use lib.Dec.{leb};
-ghost use Rattle.big_endian_spec.specs.Numbers.{numberAt};
+ghost use Rattle.big_endian_spec.specs.Numbers.{numberAt, numberPut, partPut};
 
 // Whether a length holds `width` bytes from place `at` on.
 pub fn holds(length: usize, at: usize, width: usize) -> bool
@@ -48,10 +48,6 @@ pub fn be4(bytes: &[u8], at: usize) -> u32
 }
 
 // Numbers put into lent bytes, big-endian, and bytes copied from one slice to another; bytes that do not hold them stay as they are.
-use big_endian::holds;
-ghost use mathlib.Core.Path.{_≡_};
-ghost use Prim.Native.Nat.{_%_};
-ghost use Rattle.big_endian_spec.specs.Numbers.{numberPut, partPut};
 
 // the low byte of a number
 fn low(x: u32) -> u8

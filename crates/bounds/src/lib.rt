@@ -6,6 +6,7 @@ ghost use Rattle.bounds_spec.specs.Answers.{highShares, lowShares, meanAnswer, 
 ghost use Rattle.bounds_spec.specs.Table.{highTable, lowTable, tableCause};
 ghost use Rattle.bounds_spec.specs.Promises.{FiguresPromise, MeanPromise, SharePromise, SheetPromise, TotalPromise};
 
+mod causes;
 mod entries;
 mod payoffs;
 mod sheet;
@@ -19,7 +20,7 @@ pub fn share(scheme: Scheme, class: u64, year: u64) -> Bounds
     ensures answer { λ r. ⌜ r ≡ shareAnswer scheme class year ⌝ }
     ensures promise { λ r. ⌜ (SharePromise scheme class year r) ⌝ }
 {
-    let number = queries::share_cause(scheme, class, year);
+    let number = causes::share_cause(scheme, class, year);
     if number != 0 {
         return Bounds::Refused(number);
     }
@@ -33,7 +34,7 @@ pub fn mean(scheme: Scheme, year: u64) -> Bounds
     ensures answer { λ r. ⌜ r ≡ meanAnswer scheme year ⌝ }
     ensures promise { λ r. ⌜ (MeanPromise scheme year r) ⌝ }
 {
-    let number = queries::money_cause(scheme, year);
+    let number = causes::money_cause(scheme, year);
     if number != 0 {
         return Bounds::Refused(number);
     }
@@ -48,7 +49,7 @@ pub fn total(scheme: Scheme, year: u64) -> Bounds
     ensures answer { λ r. ⌜ r ≡ totalAnswer scheme year ⌝ }
     ensures promise { λ r. ⌜ (TotalPromise scheme year r) ⌝ }
 {
-    let number = queries::money_cause(scheme, year);
+    let number = causes::money_cause(scheme, year);
     if number != 0 {
         return Bounds::Refused(number);
     }
@@ -65,7 +66,7 @@ pub fn share_sheet(scheme: Scheme, year: u64, low: &mut [u64], high: &mut [u64])
     ensures highs { λ r. ⌜ now (high .exit) ≡ sheetSlice r (highShares scheme year) (now (high .entry)) ⌝ }
     ensures promise { λ r. ⌜ (SheetPromise scheme year r (now (low .exit)) (now (high .exit))) ⌝ }
 {
-    let number = queries::sheet_cause(scheme, year, low.len(), high.len());
+    let number = causes::sheet_cause(scheme, year, low.len(), high.len());
     if number != 0 {
         return number;
     }
@@ -82,7 +83,7 @@ pub fn figures(scheme: Scheme, low: &mut [u64], high: &mut [u64]) -> u8
     ensures highs { λ r. ⌜ now (high .exit) ≡ sheetSlice r (highTable scheme) (now (high .entry)) ⌝ }
     ensures promise { λ r. ⌜ (FiguresPromise scheme r (now (low .exit)) (now (high .exit))) ⌝ }
 {
-    let number = queries::table_cause(scheme, low.len(), high.len());
+    let number = causes::table_cause(scheme, low.len(), high.len());
     if number != 0 {
         return number;
     }

@@ -20,8 +20,8 @@ use Rattle.record_spec.specs.Write.{writeNumber, writtenLength, recordLength, w
 use Rattle.big_endian_spec.specs.Numbers.{Bytes}
 use Rattle.record_write.specs.Agreement.{copied}
 use Rattle.record_write.specs.Laws.Write.{answer-number, answer-value}
-use Rattle.buffers.specs.Buffers.{bufferCause}
-use Rattle.buffers.specs.Laws.Texting.{Texted, unfilled}
+use Rattle.joguyvi_spec.specs.Buffers.{bufferCause}
+use Rattle.joguyvi_spec.specs.Laws.Texting.{Texted, unfilled}
 use Rattle.joguyvi_spec.specs.Records.{recordNumber, SameBytes}
 
 -- the test for room

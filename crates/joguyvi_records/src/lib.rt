@@ -3,7 +3,7 @@ ghost use mathlib.Core.Path.{_≡_};
 ghost use Rattle.record_spec.specs.Write.{writeLeaves};
 ghost use Rattle.record_spec.specs.Layout.{schemeIn, version1};
 ghost use Rattle.ready_spec.specs.Answer.{readyAnswer};
-ghost use Rattle.buffers.specs.Buffers.{filledWhere};
+ghost use Rattle.joguyvi_spec.specs.Buffers.{filledWhere};
 ghost use Rattle.joguyvi_spec.specs.Records.{SameBytes, checkNumber, readyNumber, recordLength, rewriteNumber};
 
 mod records;

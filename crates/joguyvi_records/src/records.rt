@@ -3,7 +3,7 @@ use scheme::Scheme;
 ghost use mathlib.Core.Path.{_≡_};
 ghost use Rattle.scheme.specs.Cause.{causeOf};
 ghost use Rattle.record_spec.specs.Write.{writeLeaves};
-ghost use Rattle.buffers.specs.Buffers.{filledWhere};
+ghost use Rattle.joguyvi_spec.specs.Buffers.{filledWhere};
 ghost use Rattle.joguyvi_spec.specs.Records.{recordLength, recordNumber};
 
 // Puts an accepted scheme's record into `out`, and its length into a buffer of 1 number; answers the cause, or 0.
@@ -17,10 +17,10 @@ pub fn put_record(scheme: Scheme, out: &mut [u8], length: &mut [u64]) -> u8
         return scheme::SLICE_OUT;
     }
     let answer = record_write::write(scheme, out);
-    let number = buffers::write_number(answer);
+    let number = record_write::write_number(answer);
     if number != 0 {
         return number;
     }
-    length[0] = buffers::written_length(answer);
+    length[0] = record_write::written_length(answer);
     0
 }

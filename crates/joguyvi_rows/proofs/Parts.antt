@@ -18,8 +18,8 @@ use Rattle.record_spec.specs.Layout.{version1, rowPlace, classesIn, columnsIn}
 use Rattle.record_spec.specs.Read.{readCause}
 use Rattle.record_spec.specs.RuleRow.{rowCause, ruleRow}
 use Rattle.record_parts.specs.RuleRowLaws.{row-read, row-framed, row-within}
-use Rattle.buffers.specs.Buffers.{bufferCause, filledWhere}
-use Rattle.buffers.specs.Laws.Sizes.{buffer-out, buffer-fits, thirteen}
+use Rattle.joguyvi_spec.specs.Buffers.{bufferCause, filledWhere}
+use Rattle.joguyvi_spec.specs.Laws.Sizes.{buffer-out, buffer-fits, thirteen}
 use Rattle.joguyvi_spec.specs.Rows.{partNumber, ruleRowNumber}
 
 -- what is answered and left, for one buffer that is to hold x

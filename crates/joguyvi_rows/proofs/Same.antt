@@ -5,10 +5,10 @@ use mathlib.Core.Path.{_≡_, subst}
 use mathlib.Core.List.{List}
 use Rattle.scheme.specs.declared.Scheme.{Scheme}
 use Rattle.scheme.specs.Stored.{schemeOf}
-use Rattle.rows.specs.declared.RowAnswer.{RowAnswer}
+use Rattle.scheme.specs.declared.RowAnswer.{RowAnswer}
 use Rattle.record_spec.specs.Layout.{columnsIn, schemeIn, version1}
-use Rattle.buffers.specs.Buffers.{buffersCause}
-use Rattle.buffers.specs.Laws.Pairs.{Paired}
+use Rattle.joguyvi_spec.specs.Buffers.{buffersCause}
+use Rattle.joguyvi_spec.specs.Laws.Pairs.{Paired}
 use Rattle.joguyvi_spec.specs.Rows.{putRowNumber, lowerBands, upperBands}
 
 -- an interval row's two buffers, for an answer that is the same

@@ -1,19 +1,8 @@
-// The cause of two buffers, and numbers copied into a lent buffer.
-use buffers::size_cause;
-use scheme::or_else;
+// Numbers copied into a lent buffer.
 ghost use mathlib.Core.Path.{_≡_};
 ghost use Prim.Native.Nat.{_≤_};
 ghost use lib.ListN.{getD, length};
-ghost use Rattle.scheme.specs.Cause.{orElse};
 ghost use Rattle.scheme.specs.Tables.{tab};
-ghost use Rattle.buffers.specs.Buffers.{sizeCause};
-
-// Cause 13 of two lengths.
-pub fn sizes_cause(size: usize, one: usize, other: usize) -> u8
-    ensures { λ r. ⌜ r ≡ orElse (sizeCause size one) (sizeCause size other) ⌝ }
-{
-    or_else(size_cause(size, one), size_cause(size, other))
-}
 
 // Copies the first of 8 numbers, as many as the buffer has.
 pub fn copy_ends(from: [u32; 8], out: &mut [u32])

@@ -2,7 +2,7 @@
 ghost use mathlib.Core.Path.{_≡_};
 ghost use Rattle.record_spec.specs.Layout.{schemeIn, version1};
 ghost use Rattle.record_spec.specs.RuleRow.{ruleRow};
-ghost use Rattle.buffers.specs.Buffers.{filledWhere};
+ghost use Rattle.joguyvi_spec.specs.Buffers.{filledWhere};
 ghost use Rattle.joguyvi_spec.specs.Rows.{bandsNumber, lowerBands, rowIn, rowNumber, ruleRowNumber, upperBands};
 
 mod copies;

@@ -1,11 +1,11 @@
 // Rows and bands put into lent buffers.
 use crate::copies;
-use rows::RowAnswer;
+use scheme::RowAnswer;
 use scheme::Scheme;
 use scheme::or_else;
 ghost use mathlib.Core.Path.{_≡_};
 ghost use Prim.Native.Nat.{_≤_};
-ghost use Rattle.buffers.specs.Buffers.{buffersCause, filledWhere};
+ghost use Rattle.joguyvi_spec.specs.Buffers.{buffersCause, filledWhere};
 ghost use Rattle.joguyvi_spec.specs.Rows.{lowerBands, partNumber, putRowNumber, upperBands};
 
 // Puts an interval row into two buffers of 32 numbers, and answers the cause, or 0.
@@ -14,15 +14,15 @@ pub fn put_row(answer: RowAnswer, lower: &mut [u64], upper: &mut [u64]) -> u8
     ensures lowers { λ r. ⌜ now (lower .exit) ≡ filledWhere r (answer .lower) (now (lower .entry)) ⌝ }
     ensures uppers { λ r. ⌜ now (upper .exit) ≡ filledWhere r (answer .upper) (now (upper .entry)) ⌝ }
 {
-    let sizes = copies::sizes_cause(32, lower.len(), upper.len());
+    let sizes = scheme::slices_cause(32, lower.len(), upper.len());
     let number = or_else(answer.number, sizes);
     if number != 0 {
         return number;
     }
     let lowers = answer.lower;
     let uppers = answer.upper;
-    buffers::copy_row(lowers, lower);
-    buffers::copy_row(uppers, upper);
+    rows::copy_row(&lowers, lower);
+    rows::copy_row(&uppers, upper);
     0
 }
 
@@ -56,7 +56,7 @@ pub fn put_bands(scheme: Scheme, lower: &mut [u32], upper: &mut [u32]) -> u8
     ensures uppers { λ r. ⌜ now (upper .exit) ≡ filledWhere r (upperBands scheme) (now (upper .entry)) ⌝ }
 {
     let columns = count(scheme.columns);
-    let number = copies::sizes_cause(columns, lower.len(), upper.len());
+    let number = scheme::slices_cause(columns, lower.len(), upper.len());
     if number != 0 {
         return number;
     }

@@ -18,9 +18,9 @@ use Rattle.record_spec.specs.Joined.{joined}
 use Rattle.record_spec.specs.Layout.{version1, schemeIn}
 use Rattle.record_spec.specs.Read.{frameCause, readCause}
 use Rattle.record_spec.specs.Examples.{exampleA, read-a}
-use Rattle.rows.specs.declared.RowAnswer.{RowAnswer}
-use Rattle.rows.specs.Rows.{rowAt}
-use Rattle.rows.specs.Examples.{answerOf}
+use Rattle.scheme.specs.declared.RowAnswer.{RowAnswer}
+use Rattle.scheme.specs.RowAnswer.{rowAt}
+use Rattle.scheme.specs.RowExamples.{answerOf}
 use Rattle.record_spec.specs.Bytes.{headerBytes, bytesOf}
 use Rattle.record_spec.specs.Write.{writeAnswer, writeLeaves}
 use Rattle.ready_spec.specs.Scales.{scale1}

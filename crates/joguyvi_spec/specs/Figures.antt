@@ -9,7 +9,7 @@ use Rattle.record_spec.specs.Read.{readCause}
 use Rattle.bounds_spec.specs.declared.Bounds.{Bounds}
 use Rattle.bounds_spec.specs.Answers.{numberOf, lowOf, highOf}
 use Rattle.bounds_spec.specs.Promises.{Kept, startShare, startMean, startTotal}
-use Rattle.buffers.specs.Buffers.{bufferCause, filledWhere}
+use Rattle.joguyvi_spec.specs.Buffers.{bufferCause, filledWhere}
 
 -- low and high into a buffer: their cause, then 13 where the buffer is not of 2 numbers
 unfoldable pub putNumber : Bounds → List ℕ → ℕ

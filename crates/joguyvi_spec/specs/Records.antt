@@ -9,7 +9,7 @@ use Rattle.record_spec.specs.Layout.{version1, schemeIn}
 use Rattle.record_spec.specs.Read.{readCause}
 use Rattle.record_spec.specs.Write.{writeNumber, writtenLength, writeAnswer}
 use Rattle.ready_spec.specs.Answer.{readyAnswer}
-use Rattle.buffers.specs.Buffers.{bufferCause}
+use Rattle.joguyvi_spec.specs.Buffers.{bufferCause}
 
 -- the number for a record that is checked: the cause of reading
 abbrev pub checkNumber : List ℕ → ℕ

@@ -5,15 +5,15 @@ use mathlib.Core.List.{List}
 use lib.Dec.{eqb}
 use lib.ListN.{length}
 use Rattle.scheme.specs.declared.Scheme.{Scheme}
-use Rattle.rows.specs.declared.RowAnswer.{RowAnswer}
+use Rattle.scheme.specs.declared.RowAnswer.{RowAnswer}
 use Rattle.scheme.specs.Tables.{tab}
 use Rattle.scheme.specs.Access.{lowerAt, upperAt}
 use Rattle.scheme.specs.Cause.{orElse}
-use Rattle.rows.specs.Rows.{rowAnswer}
+use Rattle.scheme.specs.RowAnswer.{rowAnswer}
 use Rattle.record_spec.specs.Layout.{version1, schemeIn, columnsIn}
 use Rattle.record_spec.specs.Read.{readCause}
 use Rattle.record_spec.specs.RuleRow.{rowCause}
-use Rattle.buffers.specs.Buffers.{bufferCause, buffersCause}
+use Rattle.joguyvi_spec.specs.Buffers.{bufferCause, buffersCause}
 
 -- a row into two buffers: its cause, then 13 where one of them is not of 32 numbers
 abbrev pub putRowNumber : RowAnswer → (lower upper : List ℕ) → ℕ

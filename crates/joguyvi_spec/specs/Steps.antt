@@ -12,7 +12,7 @@ use Rattle.record_spec.specs.Read.{readCause}
 use Rattle.order.specs.States.{at}
 use Rattle.step_spec.specs.Figure.{stepFigure}
 use Rattle.step_spec.specs.StepAnswer.{stepCause, classRow, Reaches}
-use Rattle.buffers.specs.Buffers.{bufferCause}
+use Rattle.joguyvi_spec.specs.Buffers.{bufferCause}
 
 -- a payoff of 32 numbers: what is missing counts as 0, and what lies beyond 32 is ignored
 unfoldable pub payoffOf : List ℕ → List ℕ

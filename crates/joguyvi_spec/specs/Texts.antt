@@ -4,7 +4,7 @@ use mathlib.Core.List.{List, [], _∷_}
 use Rattle.scheme.specs.Cause.{orElse}
 use Rattle.record_spec.specs.Write.{writeNumber, writtenLength}
 use Rattle.sheet_spec.specs.Answer.{sheetAnswer}
-use Rattle.buffers.specs.Buffers.{bufferCause}
+use Rattle.joguyvi_spec.specs.Buffers.{bufferCause}
 
 -- 13 where the text has no room, or the buffer for its length is not of 1 number
 abbrev pub sheetNumber : List ℕ → (out length : List ℕ) → ℕ

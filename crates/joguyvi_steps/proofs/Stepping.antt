@@ -17,9 +17,9 @@ use Rattle.step.specs.Lists.{at}
 use Rattle.step_spec.specs.Figure.{stepFigure}
 use Rattle.step_spec.specs.StepAnswer.{stepCause, classRow, StepAnswered}
 use Rattle.record_spec.specs.Laws.Read.{read-cause, read-passed, read-in}
-use Rattle.buffers.specs.Buffers.{bufferCause, filledWhere}
-use Rattle.buffers.specs.Laws.Sizes.{buffer-size}
-use Rattle.buffers.specs.Laws.Pairs.{Paired}
+use Rattle.joguyvi_spec.specs.Buffers.{bufferCause, filledWhere}
+use Rattle.joguyvi_spec.specs.Laws.Sizes.{buffer-size}
+use Rattle.joguyvi_spec.specs.Laws.Pairs.{Paired}
 use Rattle.joguyvi_spec.specs.Steps.{payoffOf, stepBuffers, stepNumber, figureOf, RowKept}
 use Rattle.joguyvi_spec.specs.Laws.Steps.{row-kept}
 

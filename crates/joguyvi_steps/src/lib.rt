@@ -3,7 +3,7 @@ ghost use mathlib.Core.Path.{_≡_};
 ghost use mathlib.Core.Bool.{false, true};
 ghost use lib.ListN.{getD};
 ghost use Rattle.record_spec.specs.Layout.{schemeIn, version1};
-ghost use Rattle.buffers.specs.Buffers.{filledWhere};
+ghost use Rattle.joguyvi_spec.specs.Buffers.{filledWhere};
 ghost use Rattle.joguyvi_spec.specs.Steps.{figureOf, RowKept, stepNumber};
 
 mod steps;

@@ -1,15 +1,15 @@
 // The one-year step's payoff from a lent buffer, and its answer put into lent buffers.
-use buffers::size_cause;
 use scheme::Scheme;
 use scheme::or_else;
+use scheme::slice_cause;
 use step::StepAnswer;
 ghost use mathlib.Core.Path.{_≡_};
 ghost use mathlib.Core.List.{[], _∷_};
 ghost use lib.ListN.{getD};
-ghost use Rattle.scheme.specs.Cause.{orElse};
+ghost use Rattle.scheme.specs.Cause.{orElse, sliceCause};
 ghost use Rattle.record_spec.specs.Layout.{schemeIn, version1};
 ghost use Rattle.step_spec.specs.StepAnswer.{StepAnswered};
-ghost use Rattle.buffers.specs.Buffers.{bufferCause, filledWhere, sizeCause};
+ghost use Rattle.joguyvi_spec.specs.Buffers.{bufferCause, filledWhere};
 ghost use Rattle.joguyvi_spec.specs.Steps.{figureOf, payoffOf, RowKept, stepBuffers, stepNumber};
 
 // The number at a place of a buffer, or 0 past its end.
@@ -37,10 +37,10 @@ fn payoff_of(numbers: &[u64]) -> [u64; 32]
 
 // Cause 13 of the step's buffers.
 fn buffers_cause(payoff: &[u64], figure: usize, row: usize) -> u8
-    ensures { λ r. ⌜ r ≡ orElse (bufferCause 32 (now (payoff .entry))) (orElse (sizeCause 1 figure) (sizeCause 32 row)) ⌝ }
+    ensures { λ r. ⌜ r ≡ orElse (bufferCause 32 (now (payoff .entry))) (orElse (sliceCause 1 figure) (sliceCause 32 row)) ⌝ }
 {
-    let answers = or_else(size_cause(1, figure), size_cause(32, row));
-    or_else(size_cause(32, payoff.len()), answers)
+    let answers = or_else(slice_cause(1, figure), slice_cause(32, row));
+    or_else(slice_cause(32, payoff.len()), answers)
 }
 
 // Puts a step's figure into a buffer of 1 number and its row into one of 32, and answers the cause, or 0; the payoff was lent as `payoff`.
@@ -56,7 +56,7 @@ fn put_step(answer: StepAnswer, payoff: &[u64], figure: &mut [u64], row: &mut [u
     }
     figure[0] = answer.figure;
     let parts = answer.row;
-    buffers::copy_row(parts, row);
+    rows::copy_row(&parts, row);
     0
 }
 

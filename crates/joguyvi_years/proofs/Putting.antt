@@ -15,8 +15,8 @@ use Rattle.record_spec.specs.Laws.Read.{read-cause, read-passed, read-in}
 use Rattle.bounds_spec.specs.declared.Bounds.{Bounds}
 use Rattle.bounds_spec.specs.Answers.{numberOf, lowOf, highOf, sheetCause, lowShares, highShares}
 use Rattle.bounds_spec.specs.Promises.{SheetPromise}
-use Rattle.buffers.specs.Buffers.{bufferCause, filledWhere}
-use Rattle.buffers.specs.Laws.Sizes.{buffer-out, buffer-fits, thirteen}
+use Rattle.joguyvi_spec.specs.Buffers.{bufferCause, filledWhere}
+use Rattle.joguyvi_spec.specs.Laws.Sizes.{buffer-out, buffer-fits, thirteen}
 use Rattle.joguyvi_spec.specs.Shares.{sharesNumber}
 use Rattle.joguyvi_spec.specs.Figures.{putNumber, putLeaves, boundsNumber, boundsLeaves, BufferKeeps}
 

@@ -4,7 +4,7 @@ ghost use Rattle.record_spec.specs.Layout.{schemeIn, version1};
 ghost use Rattle.bounds_spec.specs.Answers.{highShares, lowShares, meanAnswer, shareAnswer, totalAnswer};
 ghost use Rattle.bounds_spec.specs.Promises.{SheetPromise};
 ghost use Rattle.sheet_spec.specs.Answer.{sheetLeaves};
-ghost use Rattle.buffers.specs.Buffers.{filledWhere};
+ghost use Rattle.joguyvi_spec.specs.Buffers.{filledWhere};
 ghost use Rattle.joguyvi_spec.specs.Figures.{boundsLeaves, boundsNumber, BufferKeeps, MeanKept, ShareKept, TotalKept};
 ghost use Rattle.joguyvi_spec.specs.Shares.{sharesNumber};
 ghost use Rattle.joguyvi_spec.specs.Texts.{sheetLength, sheetNumber};
@@ -88,10 +88,10 @@ pub extern "C" fn joguyvi_sheet(bytes: &[u8], out: &mut [u8], length: &mut [u64]
         return scheme::SLICE_OUT;
     }
     let answer = sheet_text::sheet(bytes, out);
-    let number = buffers::write_number(answer);
+    let number = record_write::write_number(answer);
     if number != 0 {
         return number;
     }
-    length[0] = buffers::written_length(answer);
+    length[0] = record_write::written_length(answer);
     0
 }

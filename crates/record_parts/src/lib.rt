@@ -1,9 +1,10 @@
-// The bands that stand in a record: that of a column, and the band reader, which hands them out in order.
+// Parts of a record: the band of a column, the reader that hands the bands out, and the rule row of a class.
+pub use record_spec::Band;
 ghost use mathlib.Core.Path.{_≡_};
 ghost use Prim.Native.Nat.{_<_};
 ghost use Rattle.record_spec.specs.Read.{readCause};
 ghost use Rattle.record_spec.specs.Reader.{stored, handedOut, bandAt, BandAnswered, afterAt, openPart};
-pub use record_spec::Band;
+ghost use Rattle.record_spec.specs.RuleRow.{rowCause, ruleRow};
 
 // a byte as a count
 fn count(x: u8) -> usize
@@ -110,18 +111,6 @@ pub fn first_band(bytes: &[u8]) -> Band
     let opened = open(bytes);
     let mut reader = opened.reader;
     next(&mut reader)
-}
-
-// The rule row of a class, as it stands in a record.
-ghost use mathlib.Core.Path.{_≡_};
-ghost use Prim.Native.Nat.{_<_};
-ghost use Rattle.record_spec.specs.RuleRow.{rowCause, ruleRow};
-
-// a byte as a count
-fn count(x: u8) -> usize
-    ensures { λ r. ⌜ (r ≡ x) × (r < 256) ⌝ }
-{
-    x as usize
 }
 
 // the first cause of a rule row, or 0

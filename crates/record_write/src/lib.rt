@@ -1,6 +1,6 @@
-// A scheme written as a record.
+// A scheme written as a record, and what writing answered.
 ghost use mathlib.Core.Path.{_≡_};
-ghost use Rattle.record_spec.specs.Write.{writeAnswer, writeLeaves, WritePromise};
+ghost use Rattle.record_spec.specs.Write.{writeAnswer, writeLeaves, writeNumber, writtenLength, WritePromise};
 pub use record_spec::WriteAnswer;
 use scheme::Scheme;
 
@@ -22,4 +22,24 @@ pub fn write(scheme: Scheme, out: &mut [u8]) -> WriteAnswer
     }
     parts::whole(scheme, out, size);
     WriteAnswer::Written(size)
+}
+
+// The number in an answer of writing: the cause, or 0.
+pub fn write_number(answer: WriteAnswer) -> u8
+    ensures { λ r. ⌜ r ≡ writeNumber answer ⌝ }
+{
+    match answer {
+        WriteAnswer::Written(_) => 0,
+        WriteAnswer::Declined(number) => number,
+    }
+}
+
+// The length of what was written, and 0 where the call was declined.
+pub fn written_length(answer: WriteAnswer) -> u64
+    ensures { λ r. ⌜ r ≡ writtenLength answer ⌝ }
+{
+    match answer {
+        WriteAnswer::Written(length) => length as u64,
+        WriteAnswer::Declined(_) => 0,
+    }
 }

@@ -3,3 +3,4 @@ pub mod Clear
 pub mod Raising
 pub mod SumByTarget
 pub mod Entries
+pub mod Copying

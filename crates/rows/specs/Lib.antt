@@ -1,6 +1,3 @@
--- Read in this order: the entries that cells make and the row operation, then worked cases.
--- Ignored proves that values beyond s and m are ignored.
+-- The entries that cells make, as the code makes them; crate scheme has the definition of the row operation.
 pub mod Rows
-pub mod Examples
 pub mod Laws
-pub mod Ignored

@@ -1,41 +1,17 @@
--- The answer of the row operation (document 01, "Interval rows").
-use Prim.Native.Nat.{ℕ, _-_, _*_}
+-- The entries of an interval row as the code makes them from a scheme's parts.
+use Prim.Native.Nat.{ℕ, _*_}
 use mathlib.Core.Bool.{cond}
 use mathlib.Core.List.{List}
 use lib.Dec.{eqb, ltb}
-use lib.ListN.{replicate, take, drop}
+use lib.ListN.{length, take, drop}
 use Rattle.setchain.specs.Sums.{onlyIf}
-use Rattle.scheme.specs.declared.Scheme.{Scheme}
+use Rattle.scheme.specs.declared.RowAnswer.{RowAnswer}
 use Rattle.scheme.specs.Tables.{tab}
-use Rattle.scheme.specs.Cause.{causeOf, orElse, classCause}
-use Rattle.scheme.specs.Rows.{chainOf}
 use Rattle.scheme.specs.Gathered.{gathered}
-use Rattle.rows.specs.declared.RowAnswer.{RowAnswer}
 
 -- the entries of 32 classes that some rules make with their bands' ends: 0 beyond s
 unfoldable pub entriesOf : List ℕ → List ℕ → ℕ → List ℕ
 entriesOf rules ends classes = tab 32 (λ j. onlyIf (ltb j classes) (gathered rules ends j))
-
--- the cause of the row operation: 3, 5 to 10, then 11
-abbrev pub rowCause : Scheme → ℕ → ℕ
-rowCause s class = orElse (causeOf s) (classCause s class)
-
--- a refusal: the number, and 0 everywhere else
-abbrev pub rowRefused : ℕ → RowAnswer
-rowRefused number = record { number = number; lower = replicate 32 0; upper = replicate 32 0 }
-
--- the row of class i + 1, 0 beyond s
-unfoldable pub rowAt : Scheme → ℕ → RowAnswer
-rowAt s i =
-    record {
-      number = 0;
-      lower = tab 32 (λ j. onlyIf (ltb j (s .classes)) (chainOf s .row i .lower j));
-      upper = tab 32 (λ j. onlyIf (ltb j (s .classes)) (chainOf s .row i .upper j));
-    }
-
--- "The row of a queried class is public, lower and upper, with 0 beyond s"; declined: the number, and 0 everywhere
-abbrev pub rowAnswer : Scheme → ℕ → RowAnswer
-rowAnswer s class = cond (eqb (rowCause s class) 0) (rowAt s (class - 1)) (rowRefused (rowCause s class))
 
 -- the row of class i + 1 that the code makes of a scheme's parts
 abbrev pub rowFrom : List ℕ → List ℕ → List ℕ → ℕ → ℕ → ℕ → RowAnswer
@@ -45,3 +21,7 @@ rowFrom rules lowers uppers columns classes i =
       lower = entriesOf (take columns (drop (i * 8) rules)) (take columns lowers) classes;
       upper = entriesOf (take columns (drop (i * 8) rules)) (take columns uppers) classes;
     }
+
+-- a slice after a row is copied into it: the row where it is of the row's length, and otherwise what it held
+abbrev pub copiedInto : (row before : List ℕ) → List ℕ
+copiedInto row before = cond (eqb (length before) (length row)) row before

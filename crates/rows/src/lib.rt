@@ -1,16 +1,16 @@
 // The interval rows of document 01.
+pub use scheme::RowAnswer;
 use scheme::Scheme;
 ghost use mathlib.Core.Path.{_≡_};
-ghost use Rattle.rows.specs.Rows.{rowAnswer};
+ghost use Rattle.scheme.specs.RowAnswer.{rowAnswer};
+ghost use Prim.Native.Nat.{min, _+_, _-_, _≤_};
+ghost use lib.ListN.{length, replicate};
+ghost use Rattle.setchain.specs.Rows.{ONE};
+ghost use Rattle.rows.specs.Rows.{copiedInto};
+ghost use Rattle.scheme.specs.Tables.{tab};
+ghost use Rattle.scheme.specs.Gathered.{gathered, raised, spareOf, Capped};
 
 mod rows;
-
-// The answer of the row operation: a refusal number or 0, and the lower and upper entries.
-pub struct RowAnswer {
-    pub number: u8,
-    pub lower: [u64; 32],
-    pub upper: [u64; 32],
-}
 
 // The interval row of a class.
 pub fn row(scheme: Scheme, class: u64) -> RowAnswer
@@ -30,12 +30,6 @@ pub fn row(scheme: Scheme, class: u64) -> RowAnswer
 }
 
 // The entries that the cells of one class make, over slices.
-ghost use mathlib.Core.Path.{_≡_};
-ghost use Prim.Native.Nat.{min, _+_, _-_, _≤_};
-ghost use lib.ListN.{length, replicate};
-ghost use Rattle.setchain.specs.Rows.{ONE};
-ghost use Rattle.scheme.specs.Tables.{tab};
-ghost use Rattle.scheme.specs.Gathered.{gathered, raised, spareOf, Capped};
 
 // b more than a, at most ONE
 fn add_capped(a: u64, b: u32) -> u64
@@ -115,4 +109,18 @@ pub fn spare(lower: &[u64]) -> u64
         i += 1;
     }
     left
+}
+
+// Copies a row into a slice of its length, and leaves one of another length as it was.
+pub fn copy_row(row: &[u64], out: &mut [u64])
+    ensures { λ _. ⌜ now (out .exit) ≡ copiedInto (now (row .entry)) (now (out .entry)) ⌝ }
+{
+    if out.len() != row.len() {
+        return;
+    }
+    let mut k: usize = 0;
+    while k < row.len() {
+        out[k] = row[k];
+        k += 1;
+    }
 }

@@ -1,6 +1,6 @@
 -- The first cause that applies to a scheme, tests in number order (document 01, "When a call is declined").
 use Prim.Native.Nat.{ℕ}
-use mathlib.Core.Bool.{Bool, cond, _||_}
+use mathlib.Core.Bool.{Bool, cond, not, _||_}
 use lib.Dec.{eqb, ltb}
 use Rattle.setchain.specs.Sums.{sumTo}
 use Rattle.setchain.specs.Rows.{ONE}
@@ -70,3 +70,11 @@ classCause s class = cond (outside (s .classes) class) 11 0
 -- cause 12: queried year above the horizon
 abbrev pub yearCause : Scheme → ℕ → ℕ
 yearCause s year = cond (ltb (s .horizon) year) 12 0
+
+-- cause 13: a lent slice that is not of the size asked for
+abbrev pub sliceCause : (size given : ℕ) → ℕ
+sliceCause size given = cond (not (eqb given size)) 13 0
+
+-- cause 13 of two slices that are to have one size
+abbrev pub slicesCause : (size one other : ℕ) → ℕ
+slicesCause size one other = orElse (sliceCause size one) (sliceCause size other)

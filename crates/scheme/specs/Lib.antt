@@ -1,5 +1,5 @@
 -- Read in this order: tables, the scheme's parts, what acceptance asks, the first cause, the code's stages, interval rows,
--- what the cells of one class come to, what a made scheme holds, when two schemes have the same values, worked cases.
+-- the row operation's answer, what the cells of one class come to, what a made scheme holds, when two schemes have the same values, worked cases.
 -- Ignored proves that values beyond s and m are ignored.
 pub mod Tables
 pub mod Access
@@ -7,10 +7,12 @@ pub mod Accepted
 pub mod Cause
 pub mod Stages
 pub mod Rows
+pub mod RowAnswer
 pub mod Gathered
 pub mod Stored
 pub mod Values
 pub mod Examples
+pub mod RowExamples
 pub mod GatheredExamples
 pub mod BeyondExamples
 pub mod Laws

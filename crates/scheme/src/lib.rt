@@ -1,6 +1,6 @@
 // The scheme of document 01, its limits and its refusal numbers.
 ghost use mathlib.Core.Path.{_≡_};
-ghost use Rattle.scheme.specs.Cause.{outside, orElse};
+ghost use Rattle.scheme.specs.Cause.{outside, orElse, sliceCause, slicesCause};
 
 // The limits of document 01, "Units and the scheme"; ONE is setchain's.
 pub const MOST_CLASSES: u8 = 32;
@@ -55,6 +55,13 @@ pub struct Scheme {
     pub premiums: [u32; 32],
 }
 
+// The answer of the row operation: a refusal number or 0, and the lower and upper entries.
+pub struct RowAnswer {
+    pub number: u8,
+    pub lower: [u64; 32],
+    pub upper: [u64; 32],
+}
+
 // Whether a class is not one of 1 to s: cause 11.
 pub fn class_out(classes: u8, class: u64) -> bool
     ensures { λ r. ⌜ r ≡ outside classes class ⌝ }
@@ -67,4 +74,21 @@ pub fn or_else(first: u8, second: u8) -> u8
     ensures { λ r. ⌜ r ≡ orElse first second ⌝ }
 {
     if first == 0 { second } else { first }
+}
+
+// Cause 13: a length that is not the size asked for.
+pub fn slice_cause(size: usize, given: usize) -> u8
+    ensures { λ r. ⌜ r ≡ sliceCause size given ⌝ }
+{
+    if given != size {
+        return SLICE_OUT;
+    }
+    0
+}
+
+// Cause 13 of two lengths.
+pub fn slices_cause(size: usize, one: usize, other: usize) -> u8
+    ensures { λ r. ⌜ r ≡ slicesCause size one other ⌝ }
+{
+    or_else(slice_cause(size, one), slice_cause(size, other))
 }

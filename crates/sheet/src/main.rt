@@ -13,7 +13,7 @@ fn compose(input: &[u8], n: usize, out: &mut [u8]) -> usize
     ensures { λ r. ⌜ ComposePost (now (input .entry)) n (now (out .exit)) r ⌝ }
 {
     let answer = sheet_text::sheet(&input[..n], out);
-    buffers::written_length(answer) as usize
+    record_write::written_length(answer) as usize
 }
 
 fn main() {

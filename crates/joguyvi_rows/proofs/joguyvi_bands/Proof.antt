@@ -6,10 +6,10 @@ use Rattle.scheme.specs.Cause.{causeOf}
 use Rattle.scheme.specs.Laws.Judged.{accepted-cause}
 use Rattle.record_spec.specs.Layout.{columnsIn, schemeIn, version1}
 use Rattle.record_spec.specs.Read.{frameCause}
-use Rattle.buffers.specs.Buffers.{buffersCause}
+use Rattle.joguyvi_spec.specs.Buffers.{buffersCause}
 use Rattle.joguyvi_spec.specs.Rows.{lowerBands, upperBands}
 use Rattle.record_spec.specs.Laws.Read.{read-cause, read-passed, read-in}
-use Rattle.buffers.specs.Laws.Pairs.{pair-stopped, pair-passed}
+use Rattle.joguyvi_spec.specs.Laws.Pairs.{pair-stopped, pair-passed}
 use Rattle.joguyvi_rows.proofs.Same.{bands-same}
 use borrow.Author.Needs.{needs}
 use Rattle.joguyvi_rows.proofs.joguyvi_bands.Statement.{statement}

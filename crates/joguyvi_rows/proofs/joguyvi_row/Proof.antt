@@ -1,10 +1,10 @@
 -- `joguyvi_row` meets its contract: the cause of reading, or the row put into its buffers.
 -- Assumes nothing.
 use mathlib.Core.Path.{ap, _∙_}
-use Rattle.rows.specs.Rows.{rowAnswer}
+use Rattle.scheme.specs.RowAnswer.{rowAnswer}
 use Rattle.joguyvi_spec.specs.Rows.{rowIn, putRowNumber}
 use Rattle.record_spec.specs.Laws.Read.{read-cause, read-passed, read-in}
-use Rattle.buffers.specs.Laws.Pairs.{pair-stopped, pair-passed}
+use Rattle.joguyvi_spec.specs.Laws.Pairs.{pair-stopped, pair-passed}
 use Rattle.joguyvi_rows.proofs.Same.{row-same}
 use borrow.Author.Needs.{needs}
 use Rattle.joguyvi_rows.proofs.joguyvi_row.Statement.{statement}

@@ -9,7 +9,7 @@ use Rattle.record_spec.specs.Read.{readCause}
 use Rattle.bounds_spec.specs.declared.Bounds.{Bounds}
 use Rattle.bounds_spec.specs.Answers.{numberOf, lowOf, highOf, shareAnswer, meanAnswer, totalAnswer}
 use Rattle.bounds_spec.specs.Laws.Kept.{share-kept, mean-kept, total-kept}
-use Rattle.buffers.specs.Buffers.{bufferCause}
+use Rattle.joguyvi_spec.specs.Buffers.{bufferCause}
 use Rattle.joguyvi_spec.specs.Figures.{putNumber, putLeaves, boundsNumber, boundsLeaves, BufferKeeps, ShareKept, MeanKept, TotalKept}
 
 -- what low and high keep where they are answered, the buffer keeps where the number is 0

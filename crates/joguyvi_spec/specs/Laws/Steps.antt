@@ -10,7 +10,7 @@ use Rattle.scheme.specs.Laws.Cause.{declined, answered}
 use Rattle.step_spec.specs.declared.StepAnswer.{StepAnswer}
 use Rattle.order.specs.States.{at}
 use Rattle.step_spec.specs.StepAnswer.{classRow, Reaches, StepAnswered}
-use Rattle.buffers.specs.Buffers.{filledWhere}
+use Rattle.joguyvi_spec.specs.Buffers.{filledWhere}
 use Rattle.joguyvi_spec.specs.Steps.{payoffOf, RowKept}
 
 -- the row of an answer, put into its buffer where the number n is 0

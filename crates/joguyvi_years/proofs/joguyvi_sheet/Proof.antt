@@ -3,7 +3,7 @@
 use mathlib.Core.Path.{ap, _∙_}
 use Rattle.record_spec.specs.Write.{writeNumber, writtenLength}
 use Rattle.sheet_spec.specs.Answer.{sheetAnswer, sheetLeaves}
-use Rattle.buffers.specs.Laws.Texting.{text-out, text-declined, text-written}
+use Rattle.joguyvi_spec.specs.Laws.Texting.{text-out, text-declined, text-written}
 use Rattle.joguyvi_years.proofs.SheetTexts.{sheet-only, sheet-left}
 use borrow.Author.Needs.{needs}
 use Rattle.joguyvi_years.proofs.joguyvi_sheet.Statement.{statement}

@@ -12,7 +12,7 @@ use borrow.Author.Tests.{lt-ltb, le-ltb}
 use Rattle.setchain.specs.Sums.{onlyIf}
 use Rattle.setchain.specs.Laws.Sums.{onlyIf-true, onlyIf-false}
 use Rattle.scheme.specs.declared.Scheme.{Scheme}
-use Rattle.rows.specs.declared.RowAnswer.{RowAnswer}
+use Rattle.scheme.specs.declared.RowAnswer.{RowAnswer}
 use Rattle.scheme.specs.Tables.{tab}
 use Rattle.scheme.specs.Accepted.{Accepted}
 use Rattle.scheme.specs.Cause.{outside, causeOf, orElse, classCause}
@@ -20,7 +20,8 @@ use Rattle.scheme.specs.Laws.Cause.{outside-false, first-cause, second-cause, d
 use Rattle.scheme.specs.Laws.Judged.{accepted-cause}
 use Rattle.scheme.specs.Gathered.{gathered}
 use Rattle.rows.specs.Laws.SumByTarget.{lower-is, upper-is}
-use Rattle.rows.specs.Rows.{entriesOf, rowCause, rowRefused, rowAt, rowAnswer, rowFrom}
+use Rattle.scheme.specs.RowAnswer.{rowCause, rowRefused, rowAt, rowAnswer}
+use Rattle.rows.specs.Rows.{entriesOf, rowFrom}
 use Rattle.scheme.specs.Laws.Tab.{length-tab, getD-tab, as-tab, tab-eq}
 
 -- gathered entries followed by what stood beyond them

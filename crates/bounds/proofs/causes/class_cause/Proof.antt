@@ -1,7 +1,7 @@
 -- `class_cause` meets its contract.
 use mathlib.Core.Path.{sym, _∙_}
-use Rattle.bounds.proofs.class_cause.Statement.{statement}
-use Rattle.bounds.proofs.class_cause.Tie as tie
+use Rattle.bounds.proofs.causes.class_cause.Statement.{statement}
+use Rattle.bounds.proofs.causes.class_cause.Tie as tie
 
 class-out-requires : tie.Need-class-out-requires
 class-out-requires c κs = tt

@@ -2,8 +2,8 @@
 use mathlib.Core.Path.{ap₂, _∙_}
 use Rattle.scheme.specs.Cause.{orElse}
 use borrow.Author.Needs.{needs}
-use Rattle.bounds.proofs.money_cause.Statement.{statement}
-use Rattle.bounds.proofs.money_cause.Tie as tie
+use Rattle.bounds.proofs.causes.money_cause.Statement.{statement}
+use Rattle.bounds.proofs.causes.money_cause.Tie as tie
 
 cause-requires : tie.Need-cause-requires
 cause-requires c κs = search needs

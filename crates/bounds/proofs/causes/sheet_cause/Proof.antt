@@ -2,8 +2,8 @@
 use mathlib.Core.Path.{ap₂, _∙_}
 use Rattle.scheme.specs.Cause.{orElse}
 use borrow.Author.Needs.{needs}
-use Rattle.bounds.proofs.sheet_cause.Statement.{statement}
-use Rattle.bounds.proofs.sheet_cause.Tie as tie
+use Rattle.bounds.proofs.causes.sheet_cause.Statement.{statement}
+use Rattle.bounds.proofs.causes.sheet_cause.Tie as tie
 
 money-cause-requires : tie.Need-money-cause-requires
 money-cause-requires c κs = search needs

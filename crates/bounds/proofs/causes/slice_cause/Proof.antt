@@ -1,8 +1,8 @@
 -- `slice_cause` meets its contract.
 use native.Mathlib.Omega.{arith}
 use borrow.Author.Tests.{eq-eqb, ne-eqb}
-use Rattle.bounds.proofs.slice_cause.Statement.{statement}
-use Rattle.bounds.proofs.slice_cause.Tie as tie
+use Rattle.bounds.proofs.causes.slice_cause.Statement.{statement}
+use Rattle.bounds.proofs.causes.slice_cause.Tie as tie
 
 returns : tie.Need-returns
 returns c = simp (ne-eqb (c .before .args .low) (c .before .args .size) (c .if1 .taken))

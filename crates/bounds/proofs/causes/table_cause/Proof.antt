@@ -6,8 +6,8 @@ use Rattle.scheme.specs.declared.Scheme.{Scheme}
 use Rattle.scheme.specs.Cause.{orElse}
 use Rattle.bounds_spec.specs.Causes.{slicesCause, tableSize}
 use borrow.Author.Needs.{needs}
-use Rattle.bounds.proofs.table_cause.Statement.{statement}
-use Rattle.bounds.proofs.table_cause.Tie as tie
+use Rattle.bounds.proofs.causes.table_cause.Statement.{statement}
+use Rattle.bounds.proofs.causes.table_cause.Tie as tie
 
 -- the size as the code makes it
 sized : (s : Scheme) → (s .horizon + 1) * (s .classes + 1) + 1 ≡ tableSize s

@@ -3,8 +3,8 @@ use Prim.Native.Nat.{ℕ, _+_, _*_, _≤_, _<_}
 use native.Mathlib.Omega.{arith}
 use native.Mathlib.Nat.{mul-le-mul}
 use borrow.Author.Needs.{needs}
-use Rattle.bounds.proofs.table_size.Statement.{statement}
-use Rattle.bounds.proofs.table_size.Tie as tie
+use Rattle.bounds.proofs.causes.table_size.Statement.{statement}
+use Rattle.bounds.proofs.causes.table_size.Tie as tie
 
 -- two bytes and 1 more multiplied
 few : (horizon classes : ℕ) → horizon < 256 → classes < 256 → (horizon + 1) * (classes + 1) ≤ 65536

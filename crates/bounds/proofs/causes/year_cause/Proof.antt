@@ -1,8 +1,8 @@
 -- `year_cause` meets its contract.
 use native.Mathlib.Omega.{arith}
 use borrow.Author.Tests.{lt-ltb, le-ltb}
-use Rattle.bounds.proofs.year_cause.Statement.{statement}
-use Rattle.bounds.proofs.year_cause.Tie as tie
+use Rattle.bounds.proofs.causes.year_cause.Statement.{statement}
+use Rattle.bounds.proofs.causes.year_cause.Tie as tie
 
 returns : tie.Need-returns
 returns c = simp (lt-ltb (c .before .args .horizon) (c .before .args .year) (omega arith))

@@ -2,7 +2,7 @@
 -- Assumes nothing.
 use mathlib.Core.Path.{ap, _∙_}
 use Rattle.record_spec.specs.Write.{writeNumber, writtenLength, writeAnswer, writeLeaves}
-use Rattle.buffers.specs.Laws.Texting.{text-out, text-declined, text-written}
+use Rattle.joguyvi_spec.specs.Laws.Texting.{text-out, text-declined, text-written}
 use Rattle.joguyvi_records.proofs.RecordTexts.{write-only, write-left}
 use borrow.Author.Needs.{needs}
 use Rattle.joguyvi_records.proofs.records.put_record.Statement.{statement}

@@ -4,9 +4,9 @@ use mathlib.Core.Path.{_≡_, ap, sym, _∙_}
 use native.Mathlib.Omega.{arith}
 use lib.ListN.{getD, length}
 use Rattle.scheme.specs.Tables.{tab}
-use Rattle.buffers.specs.Buffers.{buffersCause}
+use Rattle.joguyvi_spec.specs.Buffers.{buffersCause}
 use Rattle.joguyvi_spec.specs.Rows.{lowerBands, upperBands}
-use Rattle.buffers.specs.Laws.Pairs.{pair-sizes, pair-left, pair-filled}
+use Rattle.joguyvi_spec.specs.Laws.Pairs.{pair-sizes, pair-left, pair-filled}
 use borrow.Author.Needs.{needs}
 use Rattle.joguyvi_rows.proofs.row_buffers.put_bands.Statement.{statement}
 use Rattle.joguyvi_rows.proofs.row_buffers.put_bands.Tie as tie
@@ -14,14 +14,14 @@ use Rattle.joguyvi_rows.proofs.row_buffers.put_bands.Tie as tie
 count-requires : tie.Need-count-requires
 count-requires c κs = search needs
 
-sizes-cause-requires : tie.Need-sizes-cause-requires
-sizes-cause-requires c κs = search needs
+slices-cause-requires : tie.Need-slices-cause-requires
+slices-cause-requires c κs = search needs
 
-cause : (c : tie.After-sizes-cause) → let start = c .before .before .before .before in
-    c .sizes-cause .result ≡ buffersCause (start .args .scheme .columns) (start .args .lower .now) (start .args .upper .now)
+cause : (c : tie.After-slices-cause) → let start = c .before .before .before .before in
+    c .slices-cause .result ≡ buffersCause (start .args .scheme .columns) (start .args .lower .now) (start .args .upper .now)
 cause c =
     let start = c .before .before .before .before in
-    c .sizes-cause .ensures ∙ ap (λ m. buffersCause m (start .args .lower .now) (start .args .upper .now)) (c .before .count .ensures)
+    c .slices-cause .ensures ∙ ap (λ m. buffersCause m (start .args .lower .now) (start .args .upper .now)) (c .before .count .ensures)
 
 sizes : (c : tie.Else1) → let start = c .before .before .before .before .before in
     (length (start .args .lower .now) ≡ start .args .scheme .columns) × (length (start .args .upper .now) ≡ start .args .scheme .columns)
@@ -69,7 +69,7 @@ put-bands-spec =
     tie.close
     (tie.spec
     count-requires
-    sizes-cause-requires
+    slices-cause-requires
     returns
     copy-ends-requires
     copy-ends-requires-2

@@ -3,12 +3,12 @@
 use mathlib.Core.Path.{_≡_, ap, sym, _∙_}
 use mathlib.Core.List.{[], _∷_}
 use native.Mathlib.Omega.{arith}
-use lib.ListN.{length}
+use lib.ListN.{length, length-map}
 use Rattle.scheme.specs.Laws.Cause.{second-none}
 use Rattle.scheme.specs.Cause.{orElse}
-use Rattle.buffers.specs.Laws.Sizes.{one}
-use Rattle.buffers.specs.Laws.Pairs.{pair-left, pair-filled}
-use Rattle.buffers.specs.Laws.Copying.{row-copied}
+use Rattle.joguyvi_spec.specs.Laws.Sizes.{one}
+use Rattle.joguyvi_spec.specs.Laws.Pairs.{pair-left, pair-filled}
+use Rattle.rows.specs.Laws.Copying.{row-copied}
 use Rattle.joguyvi_spec.specs.Steps.{stepBuffers}
 use Rattle.joguyvi_steps.proofs.Stepping.{step-sizes}
 use borrow.Author.Needs.{needs}
@@ -35,6 +35,10 @@ sizes c =
     (second-none (start .args .answer .number) (stepBuffers (start .args .payoff .now) (start .args .figure .now) (start .args .row .now))
     (sym (cause (c .before)) ∙ c .if1 .left))
 
+-- the row of an answer has 32 parts
+row-size : (c : tie.Start) → length (c .args .answer .row) ≡ 32
+row-size c = sym (length-map (c .args .answer .row) (λ v. v)) ∙ c .good .0 .1 .1 .1 .1 .0 .1 .0 .1
+
 returns : tie.Need-returns
 returns c =
     let start = c .before .before .before .before .before .before in
@@ -42,6 +46,9 @@ returns c =
 
 slice-write-figure : tie.Need-slice-write-figure
 slice-write-figure c = omega (arith, sizes c .0)
+
+slice-aggregate-copy-row : tie.Need-slice-aggregate-copy-row
+slice-aggregate-copy-row c = search needs
 
 copy-row-requires : tie.Need-copy-row-requires
 copy-row-requires c κs = search needs
@@ -55,12 +62,13 @@ same-length-2 c = search needs
 returns-2 : tie.Need-returns-2
 returns-2 c =
     let at-copy-row = c .before .before in
-    let at-if1 = at-copy-row .before .before .before in
-    let at-place = at-if1 .before in
-    let start = at-place .before .before .before .before .before in
+    let at-if1 = at-copy-row .before .before .before .before in
+    let at-or-else = at-if1 .before in
+    let start = at-or-else .before .before .before .before .before in
     let fit = sizes at-if1 in
-    pair-filled (start .args .answer .figure ∷ []) (start .args .answer .row) (start .args .figure .now) (start .args .row .now) (cause at-place) (at-if1 .if1 .left)
-    (one (start .args .figure .now) (start .args .answer .figure) (fit .0)) (at-copy-row .copy-row .ensures ∙ row-copied (start .args .answer .row) (start .args .row .now) (fit .1))
+    pair-filled (start .args .answer .figure ∷ []) (start .args .answer .row) (start .args .figure .now) (start .args .row .now) (cause at-or-else) (at-if1 .if1 .left)
+    (one (start .args .figure .now) (start .args .answer .figure) (fit .0))
+    (at-copy-row .copy-row .ensures ∙ row-copied (start .args .answer .row) (start .args .row .now) (fit .1 ∙ sym (row-size start)))
 
 pub put-step-spec : {M : Type 1} → statement M
 put-step-spec =
@@ -70,6 +78,7 @@ put-step-spec =
     or-else-requires
     returns
     slice-write-figure
+    slice-aggregate-copy-row
     copy-row-requires
     same-length
     same-length-2

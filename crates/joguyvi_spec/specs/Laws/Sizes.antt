@@ -7,7 +7,7 @@ use native.Mathlib.Omega.{arith}
 use native.Mathlib.Decide.{ℕ-discrete}
 use lib.ListN.{length, set}
 use borrow.Author.Tests.{eq-eqb, ne-eqb}
-use Rattle.buffers.specs.Buffers.{bufferCause}
+use Rattle.joguyvi_spec.specs.Buffers.{bufferCause}
 
 -- a buffer of another length, and one that fits
 pub buffer-out : (size : ℕ) (out : List ℕ) → (length out ≡ size → ⊥) → bufferCause size out ≡ 13

@@ -7,8 +7,8 @@ use native.Mathlib.Decide.{ℕ-discrete}
 use lib.ListN.{length, set}
 use Rattle.scheme.specs.Cause.{orElse}
 use Rattle.scheme.specs.Laws.Cause.{first-cause, second-cause, declined}
-use Rattle.buffers.specs.Buffers.{bufferCause, filledWhere}
-use Rattle.buffers.specs.Laws.Sizes.{buffer-out, buffer-fits, thirteen, one}
+use Rattle.joguyvi_spec.specs.Buffers.{bufferCause, filledWhere}
+use Rattle.joguyvi_spec.specs.Laws.Sizes.{buffer-out, buffer-fits, thirteen, one}
 
 -- what is answered and left, for a cause n, a length v and what `out` holds afterwards
 abbrev pub Texted : (number cause v : ℕ) (full out size out′ size′ : List ℕ) → Type 0

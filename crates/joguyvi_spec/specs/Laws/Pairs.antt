@@ -6,8 +6,8 @@ use mathlib.Core.List.{List}
 use lib.ListN.{length}
 use Rattle.scheme.specs.Cause.{orElse}
 use Rattle.scheme.specs.Laws.Cause.{first-cause, second-cause, declined, first-none, second-none}
-use Rattle.buffers.specs.Buffers.{bufferCause, buffersCause, filledWhere}
-use Rattle.buffers.specs.Laws.Sizes.{buffer-size}
+use Rattle.joguyvi_spec.specs.Buffers.{bufferCause, buffersCause, filledWhere}
+use Rattle.joguyvi_spec.specs.Laws.Sizes.{buffer-size}
 
 -- two buffers with no cause are of the size asked for
 pub pair-sizes : (size : ℕ) (a b : List ℕ) → buffersCause size a b ≡ 0 → (length a ≡ size) × (length b ≡ size)

@@ -1,8 +1,8 @@
 -- `written_length` meets its contract: the length of what was written, and 0 where it was declined.
 -- Assumes nothing.
 use borrow.Author.Needs.{needs}
-use Rattle.buffers.proofs.written_length.Statement.{statement}
-use Rattle.buffers.proofs.written_length.Tie as tie
+use Rattle.record_write.proofs.written_length.Statement.{statement}
+use Rattle.record_write.proofs.written_length.Tie as tie
 
 enum-known-answer : tie.Need-enum-known-answer
 enum-known-answer c = search needs

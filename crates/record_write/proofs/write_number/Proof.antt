@@ -1,8 +1,8 @@
 -- `write_number` meets its contract: 0 for what was written, and the cause where it was declined.
 -- Assumes nothing.
 use borrow.Author.Needs.{needs}
-use Rattle.buffers.proofs.write_number.Statement.{statement}
-use Rattle.buffers.proofs.write_number.Tie as tie
+use Rattle.record_write.proofs.write_number.Statement.{statement}
+use Rattle.record_write.proofs.write_number.Tie as tie
 
 enum-told : tie.Need-enum-told
 enum-told c = search needs
