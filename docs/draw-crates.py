@@ -1,64 +1,77 @@
 #!/usr/bin/env python3
-"""Draws the crates of crates.txt, each above those that it rests on: docs/draw-crates.py > docs/crates.svg"""
+"""Draws the rooms of crates.txt, each above those that it rests on: docs/draw-crates.py > docs/crates.svg"""
 import pathlib
+import re
+from html import escape
 
-OUTSIDE = {"io", "libc", "console"}  # the kit's own libraries, and the programs' input and output
-ROOT = pathlib.Path(__file__).resolve().parent.parent
-CHECKS = {"cases", "family", "sheets"}
-WIDTH, HEIGHT, GAP, STEP = 122, 34, 16, 78
-
-
-def read(path):
-    """The crates in the order of the file, each with those that it names."""
-    lines = [line for line in path.read_text().splitlines() if line and not line.startswith("#")]
-    pairs = (line.split(":") for line in lines)
-    return {name: [d for d in deps.split() if d not in OUTSIDE] for name, deps in pairs if name not in OUTSIDE}
+WIDTH, PAD, LINE, GAP_X, GAP_Y = 190, 12, 20, 30, 46
 
 
-def direct(crates):
-    """Of each crate's list, those that no other one of the list rests on."""
-    below = {}
-    for name, deps in crates.items():
-        below[name] = set(deps).union(*(below[d] for d in deps)) if deps else set()
-    return {n: [d for d in ds if not any(d in below[e] for e in ds)] for n, ds in crates.items()}
+def rooms():
+    """The rooms in order, each with its crates, and the room of every crate."""
+    names, crates, rests = [], {}, {}
+    for line in pathlib.Path(__file__).parent.parent.joinpath("crates.txt").read_text().splitlines():
+        head = re.match(r"# == ([^:]*):.* ==$", line)
+        if head:
+            names.append(head.group(1))
+            crates[names[-1]] = []
+        elif line and not line.startswith("#"):
+            crate, needs = line.split(":")
+            crates[names[-1]].append(crate)
+            rests[crate] = needs.split()
+    home = {crate: room for room in names for crate in crates[room]}
+    below = {
+        room: {home[need] for crate in crates[room] for need in rests[crate] if need in home} - {room}
+        for room in names
+    }
+    return names, crates, below
 
 
-def levels(crates):
-    level = {}
-    for name, deps in crates.items():
-        level[name] = 1 + max((level[d] for d in deps), default=-1)
-    return level
+def reached(below, room):
+    """All rooms below a room."""
+    found = set(below[room])
+    for other in below[room]:
+        found |= reached(below, other)
+    return found
 
 
-def has_code(name):
-    """Whether a function stands in the crate; else it holds definitions alone."""
-    return any("fn " in path.read_text() for path in (ROOT / "crates" / name / "src").glob("*.rt"))
+def level(below, room):
+    """How many rooms stand below a room, one on another."""
+    return 1 + max((level(below, other) for other in below[room]), default=-1)
 
 
-def draw(crates):
-    level = levels(crates)
-    rows = [[n for n in crates if level[n] == k] for k in range(max(level.values()) + 1)]
-    widest = max(map(len, rows))
-    width = widest * (WIDTH + GAP) + GAP
-    height = len(rows) * STEP + GAP
-    place = {}
-    for k, row in enumerate(rows):
-        left = (width - len(row) * (WIDTH + GAP) + GAP) / 2
-        for i, name in enumerate(row):
-            place[name] = (left + i * (WIDTH + GAP), height - (k + 1) * STEP + GAP)
-    out = [f'<svg xmlns="http://www.w3.org/2000/svg" viewBox="0 0 {width} {height}" font-family="sans-serif" font-size="14">']
-    out.append(f'<rect width="{width}" height="{height}" fill="white"/>')
-    for name, deps in direct(crates).items():
-        x, y = place[name]
-        for d in deps:
-            a, b = place[d]
-            out.append(f'<line x1="{x + WIDTH / 2}" y1="{y + HEIGHT}" x2="{a + WIDTH / 2}" y2="{b}" stroke="#8a94a6"/>')
-    for name, (x, y) in place.items():
-        fill = "#eef1f5" if name in CHECKS else "#cfe3f7" if has_code(name) else "#d8efd3"
-        out.append(f'<rect x="{x}" y="{y}" width="{WIDTH}" height="{HEIGHT}" rx="6" fill="{fill}" stroke="#51607a"/>')
-        out.append(f'<text x="{x + WIDTH / 2}" y="{y + 22}" text-anchor="middle">{name}</text>')
-    out.append("</svg>")
-    return "\n".join(out)
+def main():
+    names, crates, below = rooms()
+    floors = {}
+    for room in names:
+        floors.setdefault(level(below, room), []).append(room)
+    width = max(len(floor) for floor in floors.values()) * (WIDTH + GAP_X) + GAP_X
+    box, top = {}, GAP_Y // 2
+    for floor in sorted(floors, reverse=True):
+        row = floors[floor]
+        tallest = max(len(crates[room]) for room in row)
+        height = PAD * 2 + LINE * (tallest + 1)
+        left = (width - len(row) * (WIDTH + GAP_X) + GAP_X) / 2
+        for place, room in enumerate(row):
+            box[room] = (left + place * (WIDTH + GAP_X), top, height)
+        top += height + GAP_Y
+    total = top - GAP_Y // 2
+    print(f'<svg xmlns="http://www.w3.org/2000/svg" viewBox="0 0 {width} {total}" font-family="sans-serif" font-size="14">')
+    print(f'<rect width="{width}" height="{total}" fill="white"/>')
+    for room in names:
+        # an arrow that other arrows lead along is left out
+        near = below[room] - {far for other in below[room] for far in reached(below, other)}
+        for other in sorted(near, key=names.index):
+            (x, y, height), (u, v, _) = box[room], box[other]
+            print(f'<line x1="{x + WIDTH / 2}" y1="{y + height}" x2="{u + WIDTH / 2}" y2="{v}" stroke="#8a94a6"/>')
+    for room in names:
+        x, y, height = box[room]
+        print(f'<rect x="{x}" y="{y}" width="{WIDTH}" height="{height}" rx="6" fill="#f4f6fa" stroke="#4a5568"/>')
+        print(f'<text x="{x + PAD}" y="{y + PAD + 12}" font-weight="bold">{escape(room)}</text>')
+        for place, crate in enumerate(crates[room]):
+            colour = "#2f6f3e" if crate.endswith("_spec") or crate in ("setchain", "scheme") else "#1f2a44"
+            print(f'<text x="{x + PAD}" y="{y + PAD + 12 + LINE * (place + 1)}" fill="{colour}">{escape(crate)}</text>')
+    print("</svg>")
 
 
-print(draw(read(ROOT / "crates.txt")))
+main()
