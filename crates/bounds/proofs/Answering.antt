@@ -9,7 +9,7 @@ use lib.Dec.{eqb, ltb}
 use lib.ListN.{getD-replicate}
 use borrow.Author.Tests.{ltb-false}
 use Rattle.setchain.specs.Rows.{ONE}
-use Rattle.setchain.specs.Years.{nothing, sharePayoff}
+use Rattle.setchain.specs.Years.{yearsFigure, nothing, sharePayoff, shareFigure, meanFigure, totalFigure}
 use Rattle.setchain.specs.Laws.Sums.{onlyIf-le}
 use Rattle.scheme.specs.declared.Scheme.{Scheme}
 use Rattle.scheme.specs.Access.{premiumAt}
@@ -21,13 +21,11 @@ use Rattle.scheme.specs.Laws.Judged.{accepted-cause}
 use Rattle.bounds_spec.specs.declared.Bounds.{Bounds}
 use Rattle.bounds_spec.specs.declared.Bounds.the-variants.{Answered, Refused}
 use Rattle.step.specs.Lists.{at}
-use Rattle.bounds.specs.Years.{yearsFigure}
 use Rattle.bounds.specs.Start.{Ready, startFigure, startBounds, ShareHeld}
 use Rattle.bounds_spec.specs.Answers.{answerBy, startOf, shareCause, shareAnswer, moneyCause, meanAnswer, totalAnswer}
 use Rattle.bounds_spec.specs.Promises.{SharePromise, MeanPromise, TotalPromise}
 use Rattle.bounds_spec.specs.Laws.Kept.{share-kept, mean-kept, total-kept}
-use Rattle.setchain.specs.Laws.Agreeing.{agree-refl}
-use Rattle.bounds.proofs.Agreeing.{years-same}
+use Rattle.setchain.specs.Laws.Agreeing.{agree-refl, years-agree}
 use Rattle.bounds.proofs.Forming.{zeros}
 
 -- what a call about money, or about a share, may rely on
@@ -62,12 +60,12 @@ module _ (s : Scheme) (ok : Accepted s) where
   start-within = omega (arith, ok .start .positive, ok .start .within)
 
   -- payoffs and gains in arrays, and as functions of the class
-  as-functions : (falling : Bool) (gain payoff : List ℕ) (g f : ℕ → ℕ) (t : ℕ)
+  as-functions : (high : Bool) (gain payoff : List ℕ) (g f : ℕ → ℕ) (t : ℕ)
       → ((j : ℕ) → j < 32 → at payoff j ≡ f j)
       → ((j : ℕ) → j < 32 → at gain j ≡ g j)
-      → startFigure falling s gain payoff t ≡ yearsFigure falling (chainOf s) f g t (startOf s)
-  as-functions falling gain payoff g f t p q =
-      years-same falling refl (λ i l. agree-refl (s .classes) (chainOf s .row i)) (λ j l. p j (below-32 j l)) (λ j l. q j (below-32 j l)) t (startOf s) start-within
+      → startFigure high s gain payoff t ≡ yearsFigure high (chainOf s) f g t (startOf s)
+  as-functions high gain payoff g f t p q =
+      years-agree refl (λ i l. agree-refl (s .classes) (chainOf s .row i)) (λ j l. p j (below-32 j l)) (λ j l. q j (below-32 j l)) high t (startOf s) start-within
 
   -- the share of a class
   module _ {class : ℕ} {payoff : List ℕ} (held : ShareHeld class payoff) (t : ℕ) where
@@ -86,8 +84,8 @@ module _ (s : Scheme) (ok : Accepted s) where
               };
         }
 
-    pub share-figure : (falling : Bool) → startFigure falling s zeros payoff t ≡ yearsFigure falling (chainOf s) (sharePayoff (class - 1)) nothing t (startOf s)
-    share-figure falling = as-functions falling zeros payoff nothing (sharePayoff (class - 1)) t (held .each) no-gain
+    pub share-figure : (high : Bool) → startFigure high s zeros payoff t ≡ shareFigure high (chainOf s) (class - 1) t (startOf s)
+    share-figure high = as-functions high zeros payoff nothing (sharePayoff (class - 1)) t (held .each) no-gain
 
   -- the mean premium
   pub mean-ready : (t : ℕ) → Ready s zeros (s .premiums) t
@@ -105,8 +103,8 @@ module _ (s : Scheme) (ok : Accepted s) where
             };
       }
 
-  pub mean-figure : (falling : Bool) (t : ℕ) → startFigure falling s zeros (s .premiums) t ≡ yearsFigure falling (chainOf s) (premiumAt s) nothing t (startOf s)
-  mean-figure falling t = as-functions falling zeros (s .premiums) nothing (premiumAt s) t (λ j l. refl) no-gain
+  pub mean-figure : (high : Bool) (t : ℕ) → startFigure high s zeros (s .premiums) t ≡ meanFigure high (chainOf s) (premiumAt s) t (startOf s)
+  mean-figure high t = as-functions high zeros (s .premiums) nothing (premiumAt s) t (λ j l. refl) no-gain
 
   -- the total of premiums
   pub total-ready : (t : ℕ) → t ≤ 100 → Ready s (s .premiums) zeros t
@@ -124,8 +122,8 @@ module _ (s : Scheme) (ok : Accepted s) where
             };
       }
 
-  pub total-figure : (falling : Bool) (t : ℕ) → startFigure falling s (s .premiums) zeros t ≡ yearsFigure falling (chainOf s) nothing (premiumAt s) t (startOf s)
-  total-figure falling t = as-functions falling (s .premiums) zeros (premiumAt s) nothing t no-gain (λ j l. refl)
+  pub total-figure : (high : Bool) (t : ℕ) → startFigure high s (s .premiums) zeros t ≡ totalFigure high (chainOf s) (premiumAt s) t (startOf s)
+  total-figure high t = as-functions high (s .premiums) zeros (premiumAt s) nothing t no-gain (λ j l. refl)
 
 -- an answer by its cause, in both cases
 refused : (n m low high : ℕ) → n ≡ m → (n ≡ 0 → ⊥) → Refused n ≡ answerBy m low high

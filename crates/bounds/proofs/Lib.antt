@@ -2,7 +2,6 @@
 pub mod Walking
 pub mod Giving
 pub mod Passing
-pub mod Agreeing
 pub mod Entering
 pub mod Gathering
 pub mod Listing

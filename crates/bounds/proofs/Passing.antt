@@ -2,7 +2,7 @@
 -- Assumes nothing.
 use Prim.Native.Nat.{ℕ, suc, min, _+_, _-_, _*_, _≤_, _<_}
 use mathlib.Core.Path.{_≡_, refl, ap, sym, _∙_, subst}
-use mathlib.Core.Bool.{Bool, true, false}
+use mathlib.Core.Bool.{Bool}
 use mathlib.Core.List.{List, _++_}
 use native.Mathlib.Omega.{arith}
 use native.Mathlib.Numerals.{add-one}
@@ -11,39 +11,33 @@ use lib.Seq.{length-take-le, getD-take, take-at}
 use mir.Syntax.{w64}
 use mir.Val.{Fits}
 use Rattle.setchain.specs.Rows.{ONE, IntervalRow, SoundRow}
-use Rattle.setchain.specs.Step.{room}
+use Rattle.setchain.specs.Step.{rounded, capacity, stepFigure}
 use Rattle.order.specs.Order.{Placed, Arranged, sorted}
 use Rattle.order.specs.Laws.Writing.{Rewritten}
 use Rattle.order.specs.Laws.Arranging.{arranged-placed, sorted-holds}
 use Rattle.step.specs.Lists.{at}
-use Rattle.step_spec.specs.Figure.{stepFigure}
-use Rattle.step.specs.Figure.{rounded, LARGEST}
+use Rattle.step.specs.Figure.{LARGEST}
 use Rattle.bounds.specs.Entries.{lows, rooms, counts, sumOf, listedRow, chainListed, Held}
 use Rattle.bounds.specs.Walk.{leftAt, sumAt, taken, Givable, Given, Walkable, Walked, Settleable, Settled}
 use Rattle.bounds.specs.Years.{Yearly, Formed}
-use Rattle.setchain.specs.Laws.Agreeing.{agree-refl}
-use Rattle.step.specs.Laws.Agreeing.{step-agrees}
+use Rattle.setchain.specs.Laws.Agreeing.{agree-refl, step-agrees}
+use Rattle.setchain.specs.Laws.Step.{rounded-at-most}
 use Rattle.bounds.proofs.Giving.{entry-in}
 use Rattle.bounds.proofs.Walking.{sum-fits, walk-figure}
 use Rattle.bounds.proofs.Forming.{zeros}
 
--- a rounded sum that fits is at most the largest payoff
-rounded-small : (falling : Bool) (x : ℕ) → x ≤ LARGEST * ONE → rounded falling x ≤ LARGEST
-rounded-small false x h = omega arith
-rounded-small true x h = omega arith
-
 -- what a figure is made of: the gain, and the sum rounded
-abbrev pub settled : (gain : List ℕ) → Bool → ℕ → ℕ → ℕ
-settled gain falling k sum = at gain k + rounded falling sum
+abbrev pub settled : (gain : List ℕ) → (high : Bool) → ℕ → ℕ → ℕ
+settled gain high k sum = at gain k + rounded high sum
 
-module _ {gain : List ℕ} (falling : Bool) {sums figures : List ℕ} {i : ℕ} (able : Settleable gain sums)
-    (w : Rewritten (length gain) (settled gain falling) sums figures i) where
-  pub settling-fits : {r : ℕ} → i < length gain → r ≡ rounded falling (at figures i) → Fits w64 (at gain i + r)
+module _ {gain : List ℕ} (high : Bool) {sums figures : List ℕ} {i : ℕ} (able : Settleable gain sums)
+    (w : Rewritten (length gain) (settled gain high) sums figures i) where
+  pub settling-fits : {r : ℕ} → i < length gain → r ≡ rounded high (at figures i) → Fits w64 (at gain i + r)
   settling-fits more is =
       let sum : at figures i ≤ LARGEST * ONE = omega (arith, w .rest i (omega arith), able .fits i more) in
-      omega (arith, is, able .small i more, rounded-small falling (at figures i) sum)
+      omega (arith, is, able .small i more, rounded-at-most high (at figures i) LARGEST sum)
 
-  pub settling-all : length gain ≤ i → Settled gain falling sums figures
+  pub settling-all : length gain ≤ i → Settled gain high sums figures
   settling-all h = record { size = w .size; each = λ k l. w .done k (omega arith) }
 
 -- the entries to the states at the places below k are given
@@ -80,11 +74,11 @@ module _ {entries payoff order left sums₀ : List ℕ} (able : Walkable entries
     one-more i l =
         rw (count-is, here)
         (let r : IntervalRow = listedRow entries i in
-        let m : room r (at order k - 1) ≡ sumOf entries rooms ((at order k - 1) * 32) (at entries (counts + (at order k - 1))) i = omega arith in
+        let m : capacity r (at order k - 1) ≡ sumOf entries rooms ((at order k - 1) * 32) (at entries (counts + (at order k - 1))) i = omega arith in
         omega (
           arith,
           w .sum i l,
-          ap (λ x. (r .lower (at order k - 1) + min x (room r (at order k - 1))) * at payoff (at order k - 1)) (w .rest i l),
+          ap (λ x. (r .lower (at order k - 1) + min x (capacity r (at order k - 1))) * at payoff (at order k - 1)) (w .rest i l),
           ap (λ x. (r .lower (at order k - 1) + min (at left′ i) x) * at payoff (at order k - 1)) m,
         ))
 
@@ -151,12 +145,12 @@ module _ {entries spare gain order before : List ℕ} (w : Yearly entries spare 
   spare-at : (i : ℕ) → i < length gain → at (take (length gain) spare) i ≡ at spare i
   spare-at i l = getD-take (length gain) spare i 0 l
 
-  module _ (falling : Bool) {order′ : List ℕ} (is : order′ ≡ sorted (take (length gain) before) falling order) where
+  module _ (high : Bool) {order′ : List ℕ} (is : order′ ≡ sorted (take (length gain) before) high order) where
     -- the order has the classes by the figures before
-    by-payoff : Arranged (take (length gain) before) falling order′
+    by-payoff : Arranged (take (length gain) before) high order′
     by-payoff =
-        subst (Arranged (take (length gain) before) falling) (sym is)
-        (sorted-holds (take (length gain) before) falling order (subst (λ n. Placed n order) (sym front-count) (w .placed)) (omega (arith, front-count, w .held .few)))
+        subst (Arranged (take (length gain) before) high) (sym is)
+        (sorted-holds (take (length gain) before) high order (subst (λ n. Placed n order) (sym front-count) (w .placed)) (omega (arith, front-count, w .held .few)))
 
     small : (j : ℕ) → j < length gain → at (take (length gain) before) j ≤ LARGEST
     small j l = subst (λ x. x ≤ LARGEST) (sym (getD-take (length gain) before j 0 l)) (w .small j l)
@@ -206,25 +200,25 @@ module _ {entries spare gain order before : List ℕ} (w : Yearly entries spare 
             fits = λ i l. k .fits i (omega (arith, front-count));
           })
 
-      pub year-formed : {figures : List ℕ} (rest′ : List ℕ) → Settled gain falling (take (length gain) (sums ++ rest)) figures
-          → Formed (chainListed (length gain) entries) gain before falling (figures ++ rest′)
+      pub year-formed : {figures : List ℕ} (rest′ : List ℕ) → Settled gain high (take (length gain) (sums ++ rest)) figures
+          → Formed (chainListed (length gain) entries) gain before high (figures ++ rest′)
       year-formed {figures} rest′ s =
           record {
             each = λ i l.
                 List·getD-append figures rest′ 0 i (omega (arith, s .size))
                 ∙ s .each i l
-                ∙ ap (λ x. at gain i + rounded falling (at x i)) lent
-                ∙ ap (λ x. at gain i + rounded falling x) (k .each i (omega (arith, front-count)))
+                ∙ ap (λ x. at gain i + rounded high (at x i)) lent
+                ∙ ap (λ x. at gain i + rounded high x) (k .each i (omega (arith, front-count)))
                 ∙ ap (λ x. at gain i + x) (figure i l);
           }
         where
           figure : (i : ℕ) → i < length gain
-              → rounded falling (sumAt (listedRow entries i) (at (take (length gain) before)) order′ (at (take (length gain) spare) i) (length (take (length gain) before)))
-              ≡ stepFigure falling (length gain) (listedRow entries i) (at before)
+              → rounded high (sumAt (listedRow entries i) (at (take (length gain) before)) order′ (at (take (length gain) spare) i) (length (take (length gain) before)))
+              ≡ stepFigure high (length gain) (listedRow entries i) (at before)
           figure i l =
-              walk-figure falling (listedRow entries i) (take (length gain) before) order′ (at (take (length gain) spare) i)
+              walk-figure high (listedRow entries i) (take (length gain) before) order′ (at (take (length gain) spare) i)
               (subst (λ n. SoundRow n (listedRow entries i)) (sym front-count) (w .held .sound i l)) by-payoff
               (λ j m. small j (omega (arith, front-count)))
               (year-walks .held .whole i (omega (arith, front-count)))
-              ∙ ap (λ n. stepFigure falling n (listedRow entries i) (at (take (length gain) before))) front-count
-              ∙ step-agrees falling (agree-refl (length gain) (listedRow entries i)) (λ j m. getD-take (length gain) before j 0 m)
+              ∙ ap (λ n. stepFigure high n (listedRow entries i) (at (take (length gain) before))) front-count
+              ∙ step-agrees (agree-refl (length gain) (listedRow entries i)) (λ j m. getD-take (length gain) before j 0 m) high

@@ -10,12 +10,20 @@ use lib.ListN.{length, set, length-set}
 use lib.Seq.{getD-set-same, getD-set-other}
 use borrow.Author.Count.{below-more}
 use Rattle.setchain.specs.Rows.{SetChain}
+use Rattle.setchain.specs.Years.{yearsFigure}
+use Rattle.setchain.specs.Laws.Agreeing.{agree-refl, step-agrees}
+use Rattle.setchain.specs.Laws.Step.{years-at-most}
 use Rattle.order.specs.Order.{Placed}
 use Rattle.step.specs.Lists.{at}
 use Rattle.step.specs.Figure.{LARGEST}
 use Rattle.bounds.specs.Entries.{chainListed}
-use Rattle.bounds.specs.Years.{yearFigure, yearsFigure, Yearly, Formed, Roomy, Runnable, Noted, Ran}
-use Rattle.bounds.proofs.Agreeing.{years-none, years-next, years-at-most}
+use Rattle.bounds.specs.Years.{yearFigure, Yearly, Formed, Roomy, Runnable, Noted, Ran}
+
+-- a year's figure from figures that are known
+years-next : (high : Bool) (c : SetChain) (payoff gain f : ℕ → ℕ) (t i : ℕ) → ((j : ℕ) → j < c .states → f j ≡ yearsFigure high c payoff gain t j)
+    → yearFigure high c gain f i ≡ yearsFigure high c payoff gain (suc t) i
+unfolding yearsFigure
+years-next high c payoff gain f t i h = ap (λ x. gain i + x) (step-agrees (agree-refl (c .states) (c .row i)) h high)
 
 -- one figure more
 noted-more : {figure : ℕ → ℕ} {first stride t v : ℕ} {before : List ℕ} (out : List ℕ) (place : ℕ) → place ≡ first + t * stride → 1 ≤ stride → v ≡ figure t
@@ -47,22 +55,20 @@ module _ {entries spare gain order payoff : List ℕ} {t state stride : ℕ} (w 
   chain = chainListed (length gain) entries
 
   -- in no years the figures are the payoff, and none is written yet
-  pub run-none : {falling : Bool} {before : List ℕ} → t ≡ 0 → Ran entries gain payoff falling t state stride t order payoff before before
-  run-none {falling} e =
+  pub run-none : {high : Bool} {before : List ℕ} → t ≡ 0 → Ran entries gain payoff high t state stride t order payoff before before
+  unfolding yearsFigure
+  run-none {high} e =
       record {
         placed = w .placed;
-        each = λ i l.
-            sym
-            (ap (λ k. yearsFigure falling chain (at payoff) (at gain) k i) e
-            ∙ years-none falling chain (at payoff) (at gain) i);
+        each = λ i l. sym (ap (λ k. yearsFigure high chain (at payoff) (at gain) k i) e);
         noted = record { size = refl; done = λ u l. absurd (omega arith); other = λ p o. refl };
       }
 
   -- with the figure of year t written
-  pub run-noted : {falling : Bool} {order′ figures before out : List ℕ}
-      → Ran entries gain payoff falling t state stride t order′ figures before out
-      → Ran entries gain payoff falling t state stride (t + 1) order′ figures before (set out (t * stride) (at figures state))
-  run-noted {falling} {order′} {figures} {before} {out} i =
+  pub run-noted : {high : Bool} {order′ figures before out : List ℕ}
+      → Ran entries gain payoff high t state stride t order′ figures before out
+      → Ran entries gain payoff high t state stride (t + 1) order′ figures before (set out (t * stride) (at figures state))
+  run-noted {high} {order′} {figures} {before} {out} i =
       record { placed = i .placed; each = i .each; noted = noted-more out (t * stride) (omega arith) (w .apart) (i .each state (w .within)) (i .noted) }
 
   -- from t years to fewer, and from the figures of u years to those of one more
@@ -78,8 +84,8 @@ module _ {entries spare gain order payoff : List ℕ} {t state stride : ℕ} (w 
           counted = omega (arith, mul-le-mul-right stride fewer, w .counted);
         }
 
-    module _ {falling : Bool} {order′ figures before out : List ℕ}
-        (r : Ran entries gain payoff falling u state stride (u + 1) order′ figures before out) where
+    module _ {high : Bool} {order′ figures before out : List ℕ}
+        (r : Ran entries gain payoff high u state stride (u + 1) order′ figures before out) where
       pub run-year : Yearly entries spare gain order′ figures
       unfolding run-less roomy-less
       run-year =
@@ -89,22 +95,22 @@ module _ {entries spare gain order payoff : List ℕ} {t state stride : ℕ} (w 
             small = λ j l.
                 subst (λ x. x ≤ LARGEST) (sym (r .each j l))
                 (le-trans
-                (years-at-most falling chain (w .held .sound) (at payoff) (at gain) (w .roomy .top) (w .roomy .rise) (w .roomy .payoffs) (w .roomy .gains) u j l)
+                (years-at-most high chain (w .held .sound) (at payoff) (at gain) (w .roomy .top) (w .roomy .rise) (w .roomy .payoffs) (w .roomy .gains) u j l)
                 (run-less .roomy .room));
             rises = λ j l. le-trans (w .roomy .gains j l) (w .roomy .rises);
           }
 
-      pub run-more : {order″ after : List ℕ} {flag : Bool} → suc u ≡ t → falling ≡ flag
+      pub run-more : {order″ after : List ℕ} {flag : Bool} → suc u ≡ t → high ≡ flag
           → Formed (chainListed (length gain) entries) gain figures flag after → Placed (length gain) order″
-          → Ran entries gain payoff falling t state stride t order″ after before out
+          → Ran entries gain payoff high t state stride t order″ after before out
       run-more {order″} {after} next is f placed =
           record {
             placed = placed;
             each = λ i l.
                 subst (λ x. at after i ≡ yearFigure x chain (at gain) (at figures) i) (sym is) (f .each i l)
-                ∙ years-next falling chain (at payoff) (at gain) (at figures) u i (r .each)
-                ∙ ap (λ k. yearsFigure falling chain (at payoff) (at gain) k i) next;
-            noted = subst (λ k. Noted (λ v. yearsFigure falling chain (at payoff) (at gain) v state) 0 stride k before out) again (r .noted);
+                ∙ years-next high chain (at payoff) (at gain) (at figures) u i (r .each)
+                ∙ ap (λ k. yearsFigure high chain (at payoff) (at gain) k i) next;
+            noted = subst (λ k. Noted (λ v. yearsFigure high chain (at payoff) (at gain) v state) 0 stride k before out) again (r .noted);
           }
         where
           again : u + 1 ≡ t

@@ -8,53 +8,45 @@ use native.Mathlib.Omega.{arith}
 use lib.Dec.{eqb}
 use lib.ListN.{length, set}
 use borrow.Author.Tests.{eqb-true}
-use Rattle.setchain.specs.Years.{sharePayoff, nothing}
+use Rattle.setchain.specs.Years.{shareFigure}
 use Rattle.scheme.specs.declared.Scheme.{Scheme}
 use Rattle.scheme.specs.Accepted.{Accepted}
 use Rattle.scheme.specs.Cause.{orElse}
-use Rattle.scheme.specs.Tables.{tab}
 use Rattle.scheme.specs.Rows.{chainOf}
 use Rattle.scheme.specs.Laws.Cause.{declined, first-none, second-none, test-none}
 use Rattle.scheme.specs.Laws.Tab.{as-tab}
 use Rattle.scheme.specs.Laws.Tables.{or-false-left, or-false-right}
 use Rattle.order.specs.Laws.Writing.{Written, written-more}
-use Rattle.bounds.specs.Years.{yearsFigure}
-use Rattle.bounds.specs.Start.{startFigure, ShareHeld, Sheeted, figureShares}
-use Rattle.bounds_spec.specs.Answers.{startOf, moneyCause, sliceCause, sheetCause, sheetSlice, lowShares, highShares}
+use Rattle.bounds.specs.Start.{startFigure, ShareHeld, Sheeted}
+use Rattle.bounds_spec.specs.Answers.{startOf, moneyCause, sliceCause, sheetCause, sheetSlice, figureShares, lowShares, highShares}
 use Rattle.bounds_spec.specs.Promises.{SheetPromise}
 use Rattle.bounds_spec.specs.Laws.Kept.{sheet-kept}
 use Rattle.bounds.proofs.Forming.{zeros}
 use Rattle.bounds.proofs.Answering.{money-accepted, share-figure}
 
 -- the share of state j as the definition has it
-abbrev pub shareOf : Bool → Scheme → ℕ → ℕ → ℕ
-shareOf falling s year j = yearsFigure falling (chainOf s) (sharePayoff j) nothing year (startOf s)
+abbrev pub shareOf : (high : Bool) → Scheme → ℕ → ℕ → ℕ
+shareOf high s year j = shareFigure high (chainOf s) j year (startOf s)
 
 -- class j + 1's own figures
-share-at : (s : Scheme) → Accepted s → (falling : Bool) {payoff : List ℕ} (j year : ℕ) → ShareHeld (j + 1) payoff → {r : ℕ}
-    → r ≡ startFigure falling s zeros payoff year → r ≡ shareOf falling s year j
-share-at s ok falling j year held e =
-    e ∙ share-figure s ok held year falling ∙ ap (shareOf falling s year) (again j)
+share-at : (s : Scheme) → Accepted s → (high : Bool) {payoff : List ℕ} (j year : ℕ) → ShareHeld (j + 1) payoff → {r : ℕ}
+    → r ≡ startFigure high s zeros payoff year → r ≡ shareOf high s year j
+share-at s ok high j year held e =
+    e ∙ share-figure s ok held year high ∙ ap (shareOf high s year) (again j)
   where
     again : (j : ℕ) → j + 1 - 1 ≡ j
     again j = omega arith
 
-pub sheeting-more : (s : Scheme) (falling : Bool) (year : ℕ) (out : List ℕ) (j : ℕ) → Accepted s → j < s .classes → {payoff : List ℕ} → ShareHeld (j + 1) payoff
-    → {a : ℕ} → a ≡ startFigure falling s zeros payoff year
-    → Written (s .classes) (shareOf falling s year) out j → Written (s .classes) (shareOf falling s year) (set out j a) (j + 1)
-sheeting-more s falling year out j ok l held e w =
-    written-more (s .classes) (shareOf falling s year) out j _ l (share-at s ok falling j year held e) w
+pub sheeting-more : (s : Scheme) (high : Bool) (year : ℕ) (out : List ℕ) (j : ℕ) → Accepted s → j < s .classes → {payoff : List ℕ} → ShareHeld (j + 1) payoff
+    → {a : ℕ} → a ≡ startFigure high s zeros payoff year
+    → Written (s .classes) (shareOf high s year) out j → Written (s .classes) (shareOf high s year) (set out j a) (j + 1)
+sheeting-more s high year out j ok l held e w =
+    written-more (s .classes) (shareOf high s year) out j _ l (share-at s ok high j year held e) w
 
--- the list of a flag
-shared : (s : Scheme) (falling : Bool) (year : ℕ) {out : List ℕ} → out ≡ tab (s .classes) (shareOf falling s year) → out ≡ figureShares falling s year
-unfolding lowShares highShares
-shared s false year e = e
-shared s true year e = e
-
-pub sheeting-all : (s : Scheme) (falling : Bool) (year : ℕ) (out : List ℕ) {j : ℕ} → s .classes ≤ j
-    → Written (s .classes) (shareOf falling s year) out j → out ≡ figureShares falling s year
-sheeting-all s falling year out h w =
-    shared s falling year (as-tab 0 out (s .classes) (shareOf falling s year) (w .size) (λ i l. w .done i (omega arith)))
+pub sheeting-all : (s : Scheme) (high : Bool) (year : ℕ) (out : List ℕ) {j : ℕ} → s .classes ≤ j
+    → Written (s .classes) (shareOf high s year) out j → out ≡ figureShares high s year
+unfolding figureShares
+sheeting-all s high year out h w = as-tab 0 out (s .classes) (shareOf high s year) (w .size) (λ i l. w .done i (omega arith))
 
 -- what a cause of 0 tells of the slices
 pub test-not : (b : Bool) → not b ≡ false → b ≡ true

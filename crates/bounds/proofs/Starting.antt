@@ -13,17 +13,17 @@ use lib.ListN.{length, take, set, getD-replicate, length-append}
 use lib.Seq.{length-take-le, getD-take, take-at, getD-set-same, getD-set-other}
 use borrow.Author.Tests.{eq-eqb, ne-eqb}
 use Rattle.setchain.specs.Rows.{ONE}
-use Rattle.setchain.specs.Years.{sharePayoff}
+use Rattle.setchain.specs.Years.{yearsFigure, sharePayoff}
 use Rattle.setchain.specs.Laws.Sums.{onlyIf-true, onlyIf-false}
+use Rattle.setchain.specs.Laws.Agreeing.{years-agree}
 use Rattle.scheme.specs.declared.Scheme.{Scheme}
 use Rattle.order.specs.Order.{Placed, numbered}
 use Rattle.order.specs.Laws.Arranging.{numbered-placed}
 use Rattle.step.specs.Lists.{at}
 use Rattle.bounds.specs.Entries.{chainListed, Held}
-use Rattle.bounds.specs.Years.{yearsFigure, Runnable, Ran}
+use Rattle.bounds.specs.Years.{Runnable, Ran}
 use Rattle.bounds.specs.Start.{Entered, Ready, startFigure, ShareHeld}
 use Rattle.bounds_spec.specs.Answers.{startOf}
-use Rattle.bounds.proofs.Agreeing.{years-same}
 use Rattle.bounds.proofs.Forming.{zeros}
 
 -- an array of zeros with ONE at a class is its share's payoff
@@ -91,15 +91,15 @@ module _ (s : Scheme) {entries spare gain payoff : List ℕ} {t : ℕ} (w : Read
           counted = counted;
         }
 
-  pub start-years : (falling : Bool) (u i : ℕ) → i ≡ s .start - 1
-      → yearsFigure falling (chainListed (length (take (s .classes) gain)) entries) (at payoff) (at (take (s .classes) gain)) u i
-      ≡ startFigure falling s gain payoff u
-  start-years falling u i g =
-      ap (yearsFigure falling (chainListed (length (take n gain)) entries) (at payoff) (at (take n gain)) u) g
-      ∙ ap (λ k. yearsFigure falling (chainListed k entries) (at payoff) (at (take n gain)) u (startOf s)) gains-count
-      ∙ years-same falling refl (e .agrees) (λ j l. refl) (λ j l. getD-take n gain j 0 l) u (startOf s) (omega (arith, w .accepted .start .positive, w .accepted .start .within))
+  pub start-years : (high : Bool) (u i : ℕ) → i ≡ s .start - 1
+      → yearsFigure high (chainListed (length (take (s .classes) gain)) entries) (at payoff) (at (take (s .classes) gain)) u i
+      ≡ startFigure high s gain payoff u
+  start-years high u i g =
+      ap (yearsFigure high (chainListed (length (take n gain)) entries) (at payoff) (at (take n gain)) u) g
+      ∙ ap (λ k. yearsFigure high (chainListed k entries) (at payoff) (at (take n gain)) u (startOf s)) gains-count
+      ∙ years-agree refl (e .agrees) (λ j l. refl) (λ j l. getD-take n gain j 0 l) high u (startOf s) (omega (arith, w .accepted .start .positive, w .accepted .start .within))
 
-  pub start-is : {falling : Bool} {stride count : ℕ} {order figures before after : List ℕ} (i : ℕ) → i ≡ s .start - 1
-      → Ran entries (take (s .classes) gain) payoff falling t i stride count order figures before after
-      → at figures i ≡ startFigure falling s gain payoff t
-  start-is {falling} i g ran = ran .each i (start-within i g) ∙ start-years falling t i g
+  pub start-is : {high : Bool} {stride count : ℕ} {order figures before after : List ℕ} (i : ℕ) → i ≡ s .start - 1
+      → Ran entries (take (s .classes) gain) payoff high t i stride count order figures before after
+      → at figures i ≡ startFigure high s gain payoff t
+  start-is {high} i g ran = ran .each i (start-within i g) ∙ start-years high t i g

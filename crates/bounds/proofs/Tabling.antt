@@ -2,7 +2,7 @@
 -- Assumes nothing.
 use Prim.Native.Nat.{ℕ, suc, _+_, _-_, _*_, _/_, _%_, _≤_, _<_}
 use mathlib.Core.Path.{_≡_, ap, sym, _∙_, subst}
-use mathlib.Core.Bool.{Bool, true, false}
+use mathlib.Core.Bool.{Bool}
 use mathlib.Core.List.{List, _++_, append-nil}
 use native.Mathlib.Omega.{arith}
 use native.Mathlib.Decide.{decLt}
@@ -12,9 +12,8 @@ use mir.Val.{Fits}
 use lib.ListN.{length, set, take, drop, length-set, length-append, length-drop, List·getD-append}
 use lib.Seq.{length-take-le, take-all, drop-length, getD-set-same, getD-set-other, getD-append-add, getD-take, getD-drop}
 use borrow.Author.Count.{below-none, below-more}
-use Rattle.setchain.specs.Years.{sharePayoff, nothing}
+use Rattle.setchain.specs.Years.{shareFigure}
 use Rattle.scheme.specs.Tables.{tab}
-use Rattle.scheme.specs.Access.{premiumAt}
 use Rattle.scheme.specs.Accepted.{Accepted}
 use Rattle.scheme.specs.Rows.{chainOf}
 use Rattle.scheme.specs.Laws.Tab.{as-tab}
@@ -22,11 +21,11 @@ use Rattle.scheme.specs.declared.Scheme.{Scheme}
 use Rattle.order.specs.Order.{numbered}
 use Rattle.step.specs.Lists.{at}
 use Rattle.step.specs.Figure.{LARGEST}
-use Rattle.bounds.specs.Years.{yearsFigure, Runnable, Noted, Ran}
+use Rattle.bounds.specs.Years.{Runnable, Noted, Ran}
 use Rattle.bounds.specs.Start.{Entered, Ready, startFigure, ShareHeld}
 use Rattle.bounds_spec.specs.Answers.{startOf}
-use Rattle.bounds_spec.specs.Table.{placeOf, totalPlace, tableSize, tableEntry, lowTable, highTable}
-use Rattle.bounds.specs.Columns.{ColumnReady, TableReady, SharesIn, figureTable}
+use Rattle.bounds_spec.specs.Table.{placeOf, totalPlace, tableSize, tableEntry, figureTable}
+use Rattle.bounds.specs.Columns.{ColumnReady, TableReady, SharesIn}
 use Rattle.bounds_spec.specs.Laws.Table.{entry-share, entry-mean, entry-total}
 use Rattle.bounds.proofs.Starting.{start-runs, start-years}
 use Rattle.bounds.proofs.Forming.{zeros}
@@ -99,13 +98,13 @@ module _ (s : Scheme) {entries spare gain payoff : List ℕ} {first : ℕ} {out 
       start-runs s (w .ready) e gainStored order rest is i state (s .classes + 1) (omega arith)
       (omega (arith, table-few s (w .ready .accepted .horizon .within) (w .ready .accepted .size .classes)))
 
-  pub column-noted : {falling : Bool} {order figures after : List ℕ}
-      → Ran entries (take (s .classes) gain) payoff falling (s .horizon) i (s .classes + 1) (s .horizon + 1) order figures
+  pub column-noted : {high : Bool} {order figures after : List ℕ}
+      → Ran entries (take (s .classes) gain) payoff high (s .horizon) i (s .classes + 1) (s .horizon + 1) order figures
       (take (length out - first) (drop first out)) after
-      → Noted (startFigure falling s gain payoff) first (s .classes + 1) (s .horizon + 1) out (take first out ++ (after ++ drop (length out - first) (drop first out)))
-  column-noted {falling} {order} {figures} {after} r =
+      → Noted (startFigure high s gain payoff) first (s .classes + 1) (s .horizon + 1) out (take first out ++ (after ++ drop (length out - first) (drop first out)))
+  column-noted {high} {order} {figures} {after} r =
       let m = noted-part first out after (omega (arith, w .within, w .size)) (r .noted) in
-      record { size = m .size; done = λ u l h. m .done u l h ∙ start-years s (w .ready) e gainStored falling u i state; other = m .other }
+      record { size = m .size; done = λ u l h. m .done u l h ∙ start-years s (w .ready) e gainStored high u i state; other = m .other }
 
 -- a place tells its number in the row
 number-is : (c t j : ℕ) → j ≤ c → (t * suc c + j) % suc c ≡ j
@@ -130,32 +129,32 @@ module _ (s : Scheme) {figure : ℕ → ℕ} {j : ℕ} {before after : List ℕ}
   column-other t k l d = w .other (placeOf s t k) (λ u e. d (columns-apart (s .classes) t k u j l inRow e))
 
 -- the shares, class by class
-pub sharing-none : {falling : Bool} {s : Scheme} {out : List ℕ} → TableReady s out → SharesIn falling s out 0
+pub sharing-none : {high : Bool} {s : Scheme} {out : List ℕ} → TableReady s out → SharesIn high s out 0
 sharing-none w = record { size = w .size; inside = omega arith; done = below-none _ }
 
-module _ (s : Scheme) (ok : Accepted s) {falling : Bool} {out : List ℕ} {j : ℕ} (w : SharesIn falling s out j) (more : j < s .classes)
+module _ (s : Scheme) (ok : Accepted s) {high : Bool} {out : List ℕ} {j : ℕ} (w : SharesIn high s out j) (more : j < s .classes)
     {payoff : List ℕ} (held : ShareHeld (j + 1) payoff) where
   pub sharing-column : ColumnReady s zeros payoff j out
   sharing-column = record { ready = share-ready s ok held (s .horizon); within = omega arith; size = w .size }
 
-  pub sharing-more : {after : List ℕ} → Noted (startFigure falling s zeros payoff) j (s .classes + 1) (s .horizon + 1) out after → SharesIn falling s after (j + 1)
+  pub sharing-more : {after : List ℕ} → Noted (startFigure high s zeros payoff) j (s .classes + 1) (s .horizon + 1) out after → SharesIn high s after (j + 1)
   sharing-more {after} t =
       record {
         size = t .size ∙ w .size;
         inside = omega arith;
         done =
-            below-more (λ k. (u : ℕ) → u ≤ s .horizon → at after (placeOf s u k) ≡ yearsFigure falling (chainOf s) (sharePayoff k) nothing u (startOf s)) j
+            below-more (λ k. (u : ℕ) → u ≤ s .horizon → at after (placeOf s u k) ≡ shareFigure high (chainOf s) k u (startOf s)) j
             (λ k l u h. column-other s (omega arith) (w .size) t u k (omega arith) (λ e. omega arith) ∙ w .done k l u h)
             (λ u h.
             column-own s (omega arith) (w .size) t u h
-            ∙ share-figure s ok held u falling
-            ∙ ap (λ k. yearsFigure falling (chainOf s) (sharePayoff k) nothing u (startOf s)) again);
+            ∙ share-figure s ok held u high
+            ∙ ap (λ k. shareFigure high (chainOf s) k u (startOf s)) again);
       }
     where
       again : j + 1 - 1 ≡ j
       again = omega arith
 
-pub sharing-all : {falling : Bool} {s : Scheme} {out : List ℕ} {j : ℕ} → s .classes ≤ j → SharesIn falling s out j → SharesIn falling s out (s .classes)
+pub sharing-all : {high : Bool} {s : Scheme} {out : List ℕ} {j : ℕ} → s .classes ≤ j → SharesIn high s out j → SharesIn high s out (s .classes)
 sharing-all h w = record { size = w .size; inside = omega arith; done = λ k l. w .done k (omega arith) }
 
 -- shares, means and the total at their places make the list
@@ -189,19 +188,6 @@ module _ (s : Scheme) (share : ℕ → ℕ → ℕ) (mean : ℕ → ℕ) (total 
   table-pinned : out ≡ tab (tableSize s) (tableEntry s share mean total)
   table-pinned = as-tab 0 out (tableSize s) (tableEntry s share mean total) size place-entry
 
--- the table of a flag
-tabled : (s : Scheme) (falling : Bool) {out : List ℕ}
-    → out
-    ≡ tab (tableSize s)
-    (tableEntry s
-    (λ t j. yearsFigure falling (chainOf s) (sharePayoff j) nothing t (startOf s))
-    (λ t. yearsFigure falling (chainOf s) (premiumAt s) nothing t (startOf s))
-    (yearsFigure falling (chainOf s) nothing (premiumAt s) (s .horizon) (startOf s)))
-    → out ≡ figureTable falling s
-unfolding lowTable highTable
-tabled s false e = e
-tabled s true e = e
-
 -- a slice with its last number written is as long as it was
 pub last-length : (after : List ℕ) (v : ℕ) {n : ℕ} → length after ≡ n → length (set after (length after - 1) v) ≡ n
 last-length after v e = length-set after (length after - 1) v ∙ e
@@ -211,7 +197,7 @@ module _ (s : Scheme) (ok : Accepted s) {premiums : List ℕ} (are : premiums �
   pub total-starts : Ready s premiums zeros (s .horizon)
   total-starts = subst (λ x. Ready s x zeros (s .horizon)) (sym are) (total-ready s ok (s .horizon) (ok .horizon .within))
 
-  module _ {falling : Bool} {out : List ℕ} (w : SharesIn falling s out (s .classes)) where
+  module _ {high : Bool} {out : List ℕ} (w : SharesIn high s out (s .classes)) where
     pub mean-column : ColumnReady s zeros premiums (s .classes) out
     mean-column =
         record {
@@ -220,7 +206,7 @@ module _ (s : Scheme) (ok : Accepted s) {premiums : List ℕ} (are : premiums �
           size = w .size;
         }
 
-    module _ {after : List ℕ} (m : Noted (startFigure falling s zeros premiums) (s .classes) (s .classes + 1) (s .horizon + 1) out after) where
+    module _ {after : List ℕ} (m : Noted (startFigure high s zeros premiums) (s .classes) (s .classes + 1) (s .horizon + 1) out after) where
       -- the last place is the total's
       last-place : length after - 1 ≡ totalPlace s
       last-place = omega (arith, m .size, w .size)
@@ -232,18 +218,18 @@ module _ (s : Scheme) (ok : Accepted s) {premiums : List ℕ} (are : premiums �
           let k : suc t * suc (s .classes) ≤ suc (s .horizon) * suc (s .classes) = mul-le-mul-right (suc (s .classes)) (omega arith) in
           omega (arith, last-place))
 
-      pub table-made : (v : ℕ) → v ≡ startFigure falling s premiums zeros (s .horizon) → set after (length after - 1) v ≡ figureTable falling s
+      pub table-made : (v : ℕ) → v ≡ startFigure high s premiums zeros (s .horizon) → set after (length after - 1) v ≡ figureTable high s
+      unfolding figureTable
       table-made v f =
-          tabled s falling
-          (table-pinned s _ _ _ (set after (length after - 1) v) (last-length after v (m .size ∙ w .size))
+          table-pinned s _ _ _ (set after (length after - 1) v) (last-length after v (m .size ∙ w .size))
           (λ t j h l. kept v t j h (omega arith) ∙ column-other s (omega arith) (w .size) m t j (omega arith) (λ g. omega arith) ∙ w .done j l t h)
           (λ t h.
           kept v t (s .classes) h (omega arith)
           ∙ column-own s (omega arith) (w .size) m t h
-          ∙ ap (λ x. startFigure falling s zeros x t) are
-          ∙ mean-figure s ok falling t)
+          ∙ ap (λ x. startFigure high s zeros x t) are
+          ∙ mean-figure s ok high t)
           (ap (at (set after (length after - 1) v)) (sym last-place)
           ∙ getD-set-same after (length after - 1) v 0 (omega (arith, m .size, w .size))
           ∙ f
-          ∙ ap (λ x. startFigure falling s x zeros (s .horizon)) are
-          ∙ total-figure s ok falling (s .horizon)))
+          ∙ ap (λ x. startFigure high s x zeros (s .horizon)) are
+          ∙ total-figure s ok high (s .horizon))

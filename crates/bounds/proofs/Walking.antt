@@ -14,20 +14,18 @@ use borrow.Author.Tests.{eq-eqb}
 use lib.Seq.{getD-set-same, getD-set-other, ext-getD}
 use Rattle.setchain.specs.Sums.{sumTo, onlyIf, dot}
 use Rattle.setchain.specs.Rows.{ONE, IntervalRow, SoundRow}
-use Rattle.setchain.specs.Step.{room}
+use Rattle.setchain.specs.Step.{rounded, capacity, stepFigure}
 use Rattle.setchain.specs.Laws.Sums.{onlyIf-true, sumTo-eq, sumTo-add, sumTo-scale, sumTo-swap, sumTo-point, term-le, eqb-flip, sumTo-front, sumTo-change}
 use Rattle.scheme.specs.Tables.{tab}
 use Rattle.scheme.specs.Laws.Tab.{length-tab, getD-tab}
 use Rattle.order.specs.Order.{Stands, Placed, Arranged}
 use Rattle.order.specs.Laws.Arranging.{arranged-placed}
 use Rattle.step.specs.Lists.{at, rowIn}
-use Rattle.setchain.specs.Laws.Agreeing.{Agree, sound-agrees}
+use Rattle.setchain.specs.Laws.Agreeing.{Agree, sound-agrees, step-agrees}
 use Rattle.step.specs.Fill.{Filled, Pourable}
 use Rattle.step.specs.Step.{Steppable}
-use Rattle.step_spec.specs.Figure.{stepFigure}
-use Rattle.step.specs.Figure.{rounded, LARGEST}
+use Rattle.step.specs.Figure.{LARGEST}
 use Rattle.bounds.specs.Walk.{leftAt, sumAt}
-use Rattle.step.specs.Laws.Agreeing.{step-agrees}
 use Rattle.step.specs.Laws.Filling.{Filling, filling-none, filling-more, filling-last}
 use Rattle.step.specs.Laws.Reaching.{step-reached}
 
@@ -130,7 +128,7 @@ module _ (n : ℕ) (r : IntervalRow) (f : ℕ → ℕ) (order : List ℕ) (spare
         arith,
         sum-parts k (omega arith),
         left-le k,
-        mul-le-mul-left (r .lower (at order k - 1) + min (leftAt r order spare k) (room r (at order k - 1))) (small (at order k - 1) (omega (arith, p .within k h))),
+        mul-le-mul-left (r .lower (at order k - 1) + min (leftAt r order spare k) (capacity r (at order k - 1))) (small (at order k - 1) (omega (arith, p .within k h))),
       )
 
   pub sum-fits : (k : ℕ) → k ≤ n → sumAt r f order spare k ≤ LARGEST * ONE
@@ -173,7 +171,7 @@ dot-set n row f j given l e =
     )
 
 -- the figure: the walk gives as the fill does
-module _ (d : Bool) (r : IntervalRow) (payoff order : List ℕ) (spare : ℕ) (sound : SoundRow (length payoff) r) (arranged : Arranged payoff d order)
+module _ (high : Bool) (r : IntervalRow) (payoff order : List ℕ) (spare : ℕ) (sound : SoundRow (length payoff) r) (arranged : Arranged payoff high order)
     (small : (j : ℕ) → j < length payoff → at payoff j ≤ LARGEST) (whole : sumTo (length payoff) (r .lower) + spare ≡ ONE) where
   abbrev n : ℕ
   n = length payoff
@@ -199,7 +197,7 @@ module _ (d : Bool) (r : IntervalRow) (payoff order : List ℕ) (spare : ℕ) (s
   agree : Agree n r (rowIn lower upper)
   agree = record { lower = λ j l. sym (low-at j l); upper = λ j l. sym (up-at j l) }
 
-  steppable : Steppable lower upper payoff order d lower
+  steppable : Steppable lower upper payoff order high lower
   steppable =
       record {
         uppers = length-tab n (r .upper) ∙ sym lower-size;
@@ -259,7 +257,7 @@ module _ (d : Bool) (r : IntervalRow) (payoff order : List ℕ) (spare : ℕ) (s
         held = omega (arith, placed .within k more)
 
     -- the sums when state j gets `given`
-    sums-more : (row : List ℕ) (given : ℕ) → length row ≡ n → given ≡ min (leftAt r order spare k) (room r j)
+    sums-more : (row : List ℕ) (given : ℕ) → length row ≡ n → given ≡ min (leftAt r order spare k) (capacity r j)
         → sumAt r (at payoff) order spare k + dot n (r .lower) (at payoff) ≡ bare k + dot n (at row) (at payoff)
         → sumAt r (at payoff) order spare (suc k) + dot n (r .lower) (at payoff) ≡ bare (suc k) + dot n (at (set row j (at row j + given))) (at payoff)
     unfolding sumAt bare sumTo
@@ -282,7 +280,7 @@ module _ (d : Bool) (r : IntervalRow) (payoff order : List ℕ) (spare : ℕ) (s
             }
         by s (no h) =
             let more′ : at upper j - at (w .row) j < left = omega arith in
-            let e : left - (at upper j - at (w .row) j) ≡ left - room r j = omega (arith, still s, up-at j here) in
+            let e : left - (at upper j - at (w .row) j) ≡ left - capacity r j = omega (arith, still s, up-at j here) in
             let o : k + 1 ≡ suc k = omega arith in
             record {
               row = set (w .row) j (at (w .row) j + (at upper j - at (w .row) j));
@@ -304,7 +302,7 @@ module _ (d : Bool) (r : IntervalRow) (payoff order : List ℕ) (spare : ℕ) (s
   poured (suc k) h = pouring-more h (poured k (omega arith))
 
   -- the sum at the end of the walk is the filled row's
-  pub walk-figure : rounded d (sumAt r (at payoff) order spare n) ≡ stepFigure d n r (at payoff)
+  pub walk-figure : rounded high (sumAt r (at payoff) order spare n) ≡ stepFigure high n r (at payoff)
   unfolding bare
   walk-figure = ⊎-elim (λ s. absurd (omega (arith, s .inside, lower-size))) by (w .state)
     where
@@ -314,9 +312,9 @@ module _ (d : Bool) (r : IntervalRow) (payoff order : List ℕ) (spare : ℕ) (s
       sums-are : sumAt r (at payoff) order spare n ≡ dot n (at (w .row)) (at payoff)
       sums-are = omega (arith, w .sums, sum-along n order placed (λ j. r .lower j * at payoff j))
 
-      by : Done (w .row) (leftAt r order spare n) → rounded d (sumAt r (at payoff) order spare n) ≡ stepFigure d n r (at payoff)
+      by : Done (w .row) (leftAt r order spare n) → rounded high (sumAt r (at payoff) order spare n) ≡ stepFigure high n r (at payoff)
       by s =
-          ap (rounded d) (sums-are ∙ ap (λ k. dot k (at (w .row)) (at payoff)) (sym lower-size))
-          ∙ step-reached d steppable (s .filled)
-          ∙ ap (λ k. stepFigure d k (rowIn lower upper) (at payoff)) lower-size
-          ∙ sym (step-agrees d agree (λ j l. refl))
+          ap (rounded high) (sums-are ∙ ap (λ k. dot k (at (w .row)) (at payoff)) (sym lower-size))
+          ∙ step-reached steppable (s .filled)
+          ∙ ap (λ k. stepFigure high k (rowIn lower upper) (at payoff)) lower-size
+          ∙ sym (step-agrees agree (λ j l. refl) high)

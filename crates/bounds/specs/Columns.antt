@@ -1,18 +1,17 @@
 -- The columns of a sheet's table: what the private functions take and leave.
 use Prim.Native.Nat.{ℕ, _≤_, _<_}
 use mathlib.Core.Path.{_≡_}
-use mathlib.Core.Bool.{Bool, true, false}
+use mathlib.Core.Bool.{Bool}
 use mathlib.Core.List.{List}
 use lib.ListN.{length}
-use Rattle.setchain.specs.Years.{sharePayoff, nothing}
+use Rattle.setchain.specs.Years.{shareFigure}
 use Rattle.scheme.specs.declared.Scheme.{Scheme}
 use Rattle.scheme.specs.Accepted.{Accepted}
 use Rattle.scheme.specs.Rows.{chainOf}
 use Rattle.step.specs.Lists.{at}
-use Rattle.bounds.specs.Years.{yearsFigure}
 use Rattle.bounds.specs.Start.{Ready}
 use Rattle.bounds_spec.specs.Answers.{startOf}
-use Rattle.bounds_spec.specs.Table.{placeOf, tableSize, lowTable, highTable}
+use Rattle.bounds_spec.specs.Table.{placeOf, tableSize}
 
 -- what a column of the start class's figures takes: a scheme that is ready, a place in a year's row, and a slice of the table's size
 pub record ColumnReady (s : Scheme) (gain payoff : List ℕ) (first : ℕ) (out : List ℕ) : Type 0 where
@@ -26,12 +25,7 @@ pub record TableReady (s : Scheme) (out : List ℕ) : Type 0 where
   pub size : length out ≡ tableSize s
 
 -- the shares of the first j classes stand at their places in every year
-pub record SharesIn (falling : Bool) (s : Scheme) (out : List ℕ) (j : ℕ) : Type 0 where
+pub record SharesIn (high : Bool) (s : Scheme) (out : List ℕ) (j : ℕ) : Type 0 where
   pub size : length out ≡ tableSize s
   pub inside : j ≤ s .classes
-  pub done : (k : ℕ) → k < j → (t : ℕ) → t ≤ s .horizon → at out (placeOf s t k) ≡ yearsFigure falling (chainOf s) (sharePayoff k) nothing t (startOf s)
-
--- the low figures, or the high ones where payoffs fall along the order
-abbrev pub figureTable : Bool → Scheme → List ℕ
-figureTable false = lowTable
-figureTable true = highTable
+  pub done : (k : ℕ) → k < j → (t : ℕ) → t ≤ s .horizon → at out (placeOf s t k) ≡ shareFigure high (chainOf s) k t (startOf s)

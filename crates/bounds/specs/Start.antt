@@ -4,7 +4,7 @@ use mathlib.Core.Path.{_≡_}
 use mathlib.Core.Bool.{Bool, true, false}
 use mathlib.Core.List.{List}
 use lib.ListN.{length}
-use Rattle.setchain.specs.Years.{sharePayoff}
+use Rattle.setchain.specs.Years.{yearsFigure, sharePayoff}
 use Rattle.scheme.specs.declared.Scheme.{Scheme}
 use Rattle.scheme.specs.Accepted.{Accepted}
 use Rattle.scheme.specs.Rows.{chainOf}
@@ -13,8 +13,8 @@ use Rattle.bounds_spec.specs.declared.Bounds.the-variants.{Answered}
 use Rattle.step.specs.Lists.{at}
 use Rattle.setchain.specs.Laws.Agreeing.{Agree}
 use Rattle.bounds.specs.Entries.{listedRow, Held}
-use Rattle.bounds.specs.Years.{yearsFigure, Roomy}
-use Rattle.bounds_spec.specs.Answers.{startOf, lowShares, highShares}
+use Rattle.bounds.specs.Years.{Roomy}
+use Rattle.bounds_spec.specs.Answers.{startOf}
 
 -- the lists hold the interval rows of an accepted scheme
 pub record Entered (s : Scheme) (entries spare : List ℕ) : Type 0 where
@@ -27,8 +27,8 @@ pub record Ready (s : Scheme) (gain payoff : List ℕ) (t : ℕ) : Type 0 where
   pub roomy : Roomy (s .classes) gain payoff t
 
 -- the start class's figure of t years
-abbrev pub startFigure : Bool → Scheme → List ℕ → List ℕ → ℕ → ℕ
-startFigure falling s gain payoff t = yearsFigure falling (chainOf s) (at payoff) (at gain) t (startOf s)
+abbrev pub startFigure : (high : Bool) → Scheme → List ℕ → List ℕ → ℕ → ℕ
+startFigure high s gain payoff t = yearsFigure high (chainOf s) (at payoff) (at gain) t (startOf s)
 
 -- low and high of the start class
 abbrev pub startBounds : Scheme → List ℕ → List ℕ → ℕ → Bounds
@@ -42,8 +42,3 @@ pub record ShareHeld (class : ℕ) (payoff : List ℕ) : Type 0 where
 pub record Sheeted (s : Scheme) (out : List ℕ) : Type 0 where
   pub accepted : Accepted s
   pub size : length out ≡ s .classes
-
--- the low shares of all classes in order, or the high ones where payoffs fall along the order
-abbrev pub figureShares : Bool → Scheme → ℕ → List ℕ
-figureShares false = lowShares
-figureShares true = highShares

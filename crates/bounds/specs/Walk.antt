@@ -5,22 +5,22 @@ use mathlib.Core.Bool.{Bool}
 use mathlib.Core.List.{List}
 use lib.ListN.{length}
 use Rattle.setchain.specs.Rows.{ONE, IntervalRow}
-use Rattle.setchain.specs.Step.{room}
+use Rattle.setchain.specs.Step.{rounded, capacity}
 use Rattle.order.specs.Order.{Placed}
 use Rattle.step.specs.Lists.{at}
-use Rattle.step.specs.Figure.{rounded, LARGEST}
+use Rattle.step.specs.Figure.{LARGEST}
 use Rattle.bounds.specs.Entries.{lows, rooms, sumOf, listedRow, Held}
 
 -- the spare parts that a row has left when the states at the first k places of the order had theirs
 unfoldable pub leftAt : IntervalRow → List ℕ → ℕ → ℕ → ℕ
 leftAt r order spare zero = spare
-leftAt r order spare (suc k) = leftAt r order spare k - room r (at order k - 1)
+leftAt r order spare (suc k) = leftAt r order spare k - capacity r (at order k - 1)
 
 -- the sum of part times payoff over those states
 unfoldable pub sumAt : IntervalRow → (ℕ → ℕ) → List ℕ → ℕ → ℕ → ℕ
 sumAt r f order spare zero = 0
 sumAt r f order spare (suc k) =
-    sumAt r f order spare k + (r .lower (at order k - 1) + min (leftAt r order spare k) (room r (at order k - 1))) * f (at order k - 1)
+    sumAt r f order spare k + (r .lower (at order k - 1) + min (leftAt r order spare k) (capacity r (at order k - 1))) * f (at order k - 1)
 
 -- the parts that row i takes of the entries to one state
 abbrev pub taken : (entries : List ℕ) → (first end : ℕ) → List ℕ → ℕ → ℕ
@@ -64,6 +64,6 @@ pub record Settleable (gain sums : List ℕ) : Type 0 where
   pub fits : (i : ℕ) → i < length gain → at sums i ≤ LARGEST * ONE
 
 -- the figures that they make
-pub record Settled (gain : List ℕ) (falling : Bool) (sums figures : List ℕ) : Type 0 where
+pub record Settled (gain : List ℕ) (high : Bool) (sums figures : List ℕ) : Type 0 where
   pub size : length figures ≡ length gain
-  pub each : (i : ℕ) → i < length gain → at figures i ≡ at gain i + rounded falling (at sums i)
+  pub each : (i : ℕ) → i < length gain → at figures i ≡ at gain i + rounded high (at sums i)

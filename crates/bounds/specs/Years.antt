@@ -1,27 +1,22 @@
 -- Years over lists (document 01, "Years"): one year's figures, and the figures of t years.
 use Prim.Native.Nat.{ℕ, _+_, _*_, _≤_, _<_}
 use mathlib.Core.Path.{_≡_}
-use mathlib.Core.Bool.{Bool, true, false}
+use mathlib.Core.Bool.{Bool}
 use mathlib.Core.List.{List}
 use mir.Syntax.{w64}
 use mir.Val.{Fits}
 use lib.ListN.{length}
 use Rattle.setchain.specs.Rows.{SetChain}
-use Rattle.setchain.specs.Years.{lowYears, highYears}
+use Rattle.setchain.specs.Step.{stepFigure}
+use Rattle.setchain.specs.Years.{yearsFigure}
 use Rattle.order.specs.Order.{Placed}
 use Rattle.step.specs.Lists.{at}
-use Rattle.step_spec.specs.Figure.{stepFigure}
 use Rattle.step.specs.Figure.{LARGEST}
 use Rattle.bounds.specs.Entries.{chainListed, Held}
 
--- what one year makes of the figures f of the year before: the gain and the step's figure, low where payoffs rise and high where they fall
-abbrev pub yearFigure : Bool → SetChain → (gain f : ℕ → ℕ) → ℕ → ℕ
-yearFigure falling c gain f i = gain i + stepFigure falling (c .states) (c .row i) f
-
--- the figures of t years: low figures feed the low step, high figures the high step
-abbrev pub yearsFigure : Bool → SetChain → (payoff gain : ℕ → ℕ) → ℕ → ℕ → ℕ
-yearsFigure false = lowYears
-yearsFigure true = highYears
+-- what one year makes of the figures f of the year before: the gain and the step's figure, low or high
+abbrev pub yearFigure : (high : Bool) → SetChain → (gain f : ℕ → ℕ) → ℕ → ℕ
+yearFigure high c gain f i = gain i + stepFigure high (c .states) (c .row i) f
 
 -- no number of the first n is so large that a sum does not fit
 abbrev pub Small : ℕ → List ℕ → Type 0
@@ -44,8 +39,8 @@ pub record Yearly (entries spare gain order before : List ℕ) : Type 0 where
   pub rises : Small (length gain) gain
 
 -- each figure of the chain's states is the year's
-pub record Formed (c : SetChain) (gain before : List ℕ) (falling : Bool) (figures : List ℕ) : Type 0 where
-  pub each : (i : ℕ) → i < c .states → at figures i ≡ yearFigure falling c (at gain) (at before) i
+pub record Formed (c : SetChain) (gain before : List ℕ) (high : Bool) (figures : List ℕ) : Type 0 where
+  pub each : (i : ℕ) → i < c .states → at figures i ≡ yearFigure high c (at gain) (at before) i
 
 -- what t years take: lists that hold sound rows, an order, payoffs and gains that leave room, a state of the chain, and places that are apart and can be counted
 pub record Runnable (entries spare gain order payoff : List ℕ) (t state stride : ℕ) : Type 0 where
@@ -63,7 +58,7 @@ pub record Noted (figure : ℕ → ℕ) (first stride count : ℕ) (before after
   pub other : (p : ℕ) → ((u : ℕ) → p ≡ first + u * stride → ⊥) → at after p ≡ at before p
 
 -- what t years leave: an order of the states, each state's figure of t years, and one state's figures of the first `count` years at their places
-pub record Ran (entries gain payoff : List ℕ) (falling : Bool) (t state stride count : ℕ) (order figures before after : List ℕ) : Type 0 where
+pub record Ran (entries gain payoff : List ℕ) (high : Bool) (t state stride count : ℕ) (order figures before after : List ℕ) : Type 0 where
   pub placed : Placed (length gain) order
-  pub each : (i : ℕ) → i < length gain → at figures i ≡ yearsFigure falling (chainListed (length gain) entries) (at payoff) (at gain) t i
-  pub noted : Noted (λ u. yearsFigure falling (chainListed (length gain) entries) (at payoff) (at gain) u state) 0 stride count before after
+  pub each : (i : ℕ) → i < length gain → at figures i ≡ yearsFigure high (chainListed (length gain) entries) (at payoff) (at gain) t i
+  pub noted : Noted (λ u. yearsFigure high (chainListed (length gain) entries) (at payoff) (at gain) u state) 0 stride count before after

@@ -4,12 +4,13 @@ use crate::payoffs::share_payoff;
 use crate::start::start_figure;
 use scheme::Scheme;
 ghost use mathlib.Core.Path.{_≡_};
-ghost use Rattle.bounds.specs.Start.{Sheeted, figureShares};
+ghost use Rattle.bounds_spec.specs.Answers.{figureShares};
+ghost use Rattle.bounds.specs.Start.{Sheeted};
 
-// Writes the low share of each class, or the high one where payoffs fall along the order.
-pub fn write_shares(scheme: Scheme, year: u64, falling: bool, out: &mut [u64])
+// Writes the low share of each class, or, where `high` is set, the high one.
+pub fn write_shares(scheme: Scheme, year: u64, high: bool, out: &mut [u64])
     requires { ⌜ Sheeted scheme (now out) ⌝ }
-    ensures { λ _. ⌜ now (out .exit) ≡ figureShares falling scheme year ⌝ }
+    ensures { λ _. ⌜ now (out .exit) ≡ figureShares high scheme year ⌝ }
 {
     let mut entries = [0u32; 3104];
     let mut spare = [0u32; 32];
@@ -18,7 +19,7 @@ pub fn write_shares(scheme: Scheme, year: u64, falling: bool, out: &mut [u64])
     let mut j: usize = 0;
     while j < out.len() {
         let payoff = share_payoff((j + 1) as u64);
-        out[j] = start_figure(scheme, &entries, &spare, gain, falling, payoff, year);
+        out[j] = start_figure(scheme, &entries, &spare, gain, high, payoff, year);
         j += 1;
     }
 }

@@ -8,18 +8,18 @@ use order::state;
 ghost use mathlib.Core.Path.{_≡_};
 ghost use Rattle.bounds.specs.Start.{Entered, Ready, startBounds, startFigure};
 
-// The low figure of a scheme's start class, or the high one where payoffs fall along the order.
+// The low figure of a scheme's start class, or, where `high` is set, the high one.
 pub fn start_figure(
     scheme: Scheme,
     entries: &[u32; 3104],
     spare: &[u32; 32],
     gain: [u64; 32],
-    falling: bool,
+    high: bool,
     payoff: [u64; 32],
     t: u64,
 ) -> u64
     requires { ⌜ (Ready scheme gain payoff t) × Entered scheme (now entries) (now spare) ⌝ }
-    ensures { λ r. ⌜ r ≡ startFigure falling scheme gain payoff t ⌝ }
+    ensures { λ r. ⌜ r ≡ startFigure high scheme gain payoff t ⌝ }
 {
     let n = scheme.classes as usize;
     let mut order = [0u8; 32];
@@ -31,7 +31,7 @@ pub fn start_figure(
         entries,
         spare,
         &gain[..n],
-        falling,
+        high,
         &mut order[..n],
         &mut figures,
         t as usize,

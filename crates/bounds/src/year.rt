@@ -64,13 +64,13 @@ fn walk(entries: &[u32; 3104], payoff: &[u64], order: &[u8], left: &mut [u32], s
 }
 
 // Makes each sum of part times payoff a figure: rounded, and with the row's gain.
-fn settle(gain: &[u64], falling: bool, sums: &mut [u64])
+fn settle(gain: &[u64], high: bool, sums: &mut [u64])
     requires { ⌜ Settleable (now gain) (now sums) ⌝ }
-    ensures { λ _. ⌜ Settled (now (gain .entry)) falling (now (sums .entry)) (now (sums .exit)) ⌝ }
+    ensures { λ _. ⌜ Settled (now (gain .entry)) high (now (sums .entry)) (now (sums .exit)) ⌝ }
 {
     let mut i: usize = 0;
     while i < gain.len() {
-        sums[i] = gain[i] + direction::round(sums[i], falling);
+        sums[i] = gain[i] + direction::round(sums[i], high);
         i += 1;
     }
 }
@@ -81,19 +81,19 @@ pub fn year(
     entries: &[u32; 3104],
     spare: &[u32; 32],
     gain: &[u64],
-    falling: bool,
+    high: bool,
     order: &mut [u8],
     before: [u64; 32],
 ) -> [u64; 32]
     requires { ⌜ Yearly (now entries) (now spare) (now gain) (now order) before ⌝ }
-    ensures figures { λ r. ⌜ Formed (chainListed (length (now (gain .entry))) (now (entries .entry))) (now (gain .entry)) before falling r ⌝ }
+    ensures figures { λ r. ⌜ Formed (chainListed (length (now (gain .entry))) (now (entries .entry))) (now (gain .entry)) before high r ⌝ }
     ensures order { λ _. ⌜ Placed (length (now (gain .entry))) (now (order .exit)) ⌝ }
 {
     let n = gain.len();
-    sort(&before[..n], falling, order);
+    sort(&before[..n], high, order);
     let mut left = *spare;
     let mut sums = [0u64; 32];
     walk(entries, &before[..n], order, &mut left[..n], &mut sums[..n]);
-    settle(gain, falling, &mut sums[..n]);
+    settle(gain, high, &mut sums[..n]);
     sums
 }

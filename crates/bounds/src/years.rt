@@ -12,16 +12,16 @@ fn advance(
     entries: &[u32; 3104],
     spare: &[u32; 32],
     gain: &[u64],
-    falling: bool,
+    high: bool,
     order: &mut [u8],
     figures: &mut [u64; 32],
 )
     requires { ⌜ Yearly (now entries) (now spare) (now gain) (now order) (now figures) ⌝ }
-    ensures figures { λ _. ⌜ Formed (chainListed (length (now (gain .entry))) (now (entries .entry))) (now (gain .entry)) (now (figures .entry)) falling (now (figures .exit)) ⌝ }
+    ensures figures { λ _. ⌜ Formed (chainListed (length (now (gain .entry))) (now (entries .entry))) (now (gain .entry)) (now (figures .entry)) high (now (figures .exit)) ⌝ }
     ensures order { λ _. ⌜ Placed (length (now (gain .entry))) (now (order .exit)) ⌝ }
 {
     let before = *figures;
-    *figures = year(entries, spare, gain, falling, order, before);
+    *figures = year(entries, spare, gain, high, order, before);
 }
 
 // Writes a figure at a place of the slice, where the slice has it.
@@ -39,7 +39,7 @@ pub fn years(
     entries: &[u32; 3104],
     spare: &[u32; 32],
     gain: &[u64],
-    falling: bool,
+    high: bool,
     order: &mut [u8],
     figures: &mut [u64; 32],
     t: usize,
@@ -48,7 +48,7 @@ pub fn years(
     out: &mut [u64],
 )
     requires { ⌜ Runnable (now entries) (now spare) (now gain) (now order) (now figures) t state stride ⌝ }
-    ensures { λ _. ⌜ Ran (now (entries .entry)) (now (gain .entry)) (now (figures .entry)) falling t state stride (t + 1)
+    ensures { λ _. ⌜ Ran (now (entries .entry)) (now (gain .entry)) (now (figures .entry)) high t state stride (t + 1)
         (now (order .exit)) (now (figures .exit)) (now (out .entry)) (now (out .exit)) ⌝ }
 {
     if t != 0 {
@@ -56,7 +56,7 @@ pub fn years(
             entries,
             spare,
             gain,
-            falling,
+            high,
             order,
             figures,
             t - 1,
@@ -65,7 +65,7 @@ pub fn years(
             out,
         );
         // Low figures feed the low step, high figures the high step. Two calls: with one alone the compiler lays a whole year into every frame.
-        if falling {
+        if high {
             advance(entries, spare, gain, true, order, figures);
         } else {
             advance(entries, spare, gain, false, order, figures);

@@ -1,10 +1,10 @@
 -- What the calls answer (document 01, "Years" and "When a call is declined").
 use Prim.Native.Nat.{ℕ, _-_}
-use mathlib.Core.Bool.{cond}
+use mathlib.Core.Bool.{Bool, true, false, cond}
 use mathlib.Core.List.{List}
 use lib.Dec.{eqb}
 use lib.ListN.{length}
-use Rattle.setchain.specs.Years.{lowShare, highShare, lowMean, highMean, lowTotal, highTotal}
+use Rattle.setchain.specs.Years.{shareFigure, lowShare, highShare, lowMean, highMean, lowTotal, highTotal}
 use Rattle.scheme.specs.declared.Scheme.{Scheme}
 use Rattle.scheme.specs.Tables.{tab}
 use Rattle.scheme.specs.Access.{premiumAt}
@@ -70,10 +70,14 @@ sheetCause s year low high = sheetLengthsCause s year (length low) (length high)
 abbrev pub sheetSlice : ℕ → List ℕ → List ℕ → List ℕ
 sheetSlice number shares before = cond (eqb number 0) shares before
 
--- the low shares of all classes in order
-unfoldable pub lowShares : Scheme → ℕ → List ℕ
-lowShares s year = tab (s .classes) (λ j. lowShare (chainOf s) j year (startOf s))
+-- the shares of all classes in order, low or high
+unfoldable pub figureShares : (high : Bool) → Scheme → ℕ → List ℕ
+figureShares high s year = tab (s .classes) (λ j. shareFigure high (chainOf s) j year (startOf s))
 
--- the high shares of all classes in order
-unfoldable pub highShares : Scheme → ℕ → List ℕ
-highShares s year = tab (s .classes) (λ j. highShare (chainOf s) j year (startOf s))
+-- the low shares
+abbrev pub lowShares : Scheme → ℕ → List ℕ
+lowShares = figureShares false
+
+-- the high shares
+abbrev pub highShares : Scheme → ℕ → List ℕ
+highShares = figureShares true

@@ -1,16 +1,17 @@
 -- Document 01's examples that are marked (m), under one theorem; and Example A's share sheet and table, computed.
 use Prim.Native.Nat.{ℕ, zero, suc, _*_, _≤_}
 use mathlib.Core.Path.{_≡_, refl, ap, ap₂, sym, _∙_, subst}
+use mathlib.Core.Bool.{Bool, true, false}
 use mathlib.Core.List.{[], _∷_}
 use native.Mathlib.Omega.{arith}
 use native.Mathlib.Nat.{le-refl}
 use borrow.Author.Tests.{le-ltb}
-use Rattle.setchain.specs.Sums.{sumTo, onlyIf}
+use Rattle.setchain.specs.Sums.{sumTo, onlyIf, dot}
 use Rattle.setchain.specs.Rows.{ONE, IntervalRow, SoundRow, SetChain, SoundChain}
-use Rattle.setchain.specs.Step.{roomBefore, fillRow, lowStep, highStep}
-use Rattle.setchain.specs.Years.{lowYears, highYears, lowShare, highShare}
+use Rattle.setchain.specs.Step.{rounded, capacityBefore, fillRow, extremeRow, stepFigure}
+use Rattle.setchain.specs.Years.{yearsFigure, shareFigure}
 use Rattle.setchain.specs.Examples.{StepExamples, step-examples}
-use Rattle.setchain.specs.Laws.Step.{low-parts, high-parts}
+use Rattle.setchain.specs.Laws.Step.{extreme-parts}
 use Rattle.scheme.specs.declared.Scheme.{Scheme}
 use Rattle.scheme.specs.Tables.{anyBelow, tab}
 use Rattle.scheme.specs.Accepted.{Accepted}
@@ -21,8 +22,8 @@ use Rattle.scheme.specs.Laws.Cause.{answered, second-cause, cond-false, inside-
 use Rattle.scheme.specs.Laws.Judged.{cause-accepted}
 use Rattle.scheme.specs.Laws.Sound.{accepted-sound}
 use Rattle.bounds_spec.specs.declared.Bounds.the-variants.{Answered, Refused}
-use Rattle.bounds_spec.specs.Answers.{startOf, shareCause, shareAnswer, moneyCause, meanAnswer, totalAnswer, lowShares, highShares}
-use Rattle.bounds_spec.specs.Table.{tableEntry, lowTable, highTable}
+use Rattle.bounds_spec.specs.Answers.{startOf, shareCause, shareAnswer, moneyCause, meanAnswer, totalAnswer, figureShares, lowShares, highShares}
+use Rattle.bounds_spec.specs.Table.{tableEntry, figureTable, lowTable, highTable}
 
 -- "Both classes 0→1, 1+→2; bands 333333333 and 666666667, each lower = upper; premiums 10, 11"
 abbrev pub schemeThirds : Scheme
@@ -38,33 +39,27 @@ schemeThirds =
       premiums = padded 30 (10 ∷ 11 ∷ []);
     }
 
+-- whole units stay as they are
+rounded-units : (high : Bool) (x : ℕ) → rounded high (x * ONE) ≡ x
+rounded-units false x = omega arith
+rounded-units true x = omega arith
+
 -- with one state the row is ONE, so a step changes nothing
-one-low : (r : IntervalRow) → SoundRow 1 r → (f : ℕ → ℕ) → lowStep 1 r f ≡ f 0
-unfolding lowStep sumTo
-one-low r sound f = omega (arith, ap (λ p. p * f 0) (low-parts 1 r sound f .sums))
+one-step : (high : Bool) (r : IntervalRow) → SoundRow 1 r → (f : ℕ → ℕ) → stepFigure high 1 r f ≡ f 0
+unfolding stepFigure sumTo
+one-step high r sound f =
+    let units : dot 1 (extremeRow high 1 r f) f ≡ f 0 * ONE = omega (arith, ap (λ p. p * f 0) (extreme-parts 1 r sound high f .sums)) in
+    ap (rounded high) units ∙ rounded-units high (f 0)
 
-one-high : (r : IntervalRow) → SoundRow 1 r → (f : ℕ → ℕ) → highStep 1 r f ≡ f 0
-unfolding highStep sumTo
-one-high r sound f = omega (arith, ap (λ p. p * f 0) (high-parts 1 r sound f .sums))
+module _ (high : Bool) (c : SetChain) (sound : SoundChain c) (one : c .states ≡ 1) where
+  only-step : (f : ℕ → ℕ) → stepFigure high (c .states) (c .row 0) f ≡ f 0
+  only-step f =
+      subst (λ n. SoundRow n (c .row 0) → stepFigure high n (c .row 0) f ≡ f 0) (sym one) (λ w. one-step high (c .row 0) w f) (sound 0 (omega arith))
 
-module _ (c : SetChain) (sound : SoundChain c) (one : c .states ≡ 1) where
-  only-low : (f : ℕ → ℕ) → lowStep (c .states) (c .row 0) f ≡ f 0
-  only-low f =
-      subst (λ n. SoundRow n (c .row 0) → lowStep n (c .row 0) f ≡ f 0) (sym one) (λ w. one-low (c .row 0) w f) (sound 0 (omega arith))
-
-  only-high : (f : ℕ → ℕ) → highStep (c .states) (c .row 0) f ≡ f 0
-  only-high f =
-      subst (λ n. SoundRow n (c .row 0) → highStep n (c .row 0) f ≡ f 0) (sym one) (λ w. one-high (c .row 0) w f) (sound 0 (omega arith))
-
-  only-low-share : (t : ℕ) → lowShare c 0 t 0 ≡ ONE
-  unfolding lowYears onlyIf
-  only-low-share zero = refl
-  only-low-share (suc t) = omega (arith, only-low (lowShare c 0 t), only-low-share t)
-
-  only-high-share : (t : ℕ) → highShare c 0 t 0 ≡ ONE
-  unfolding highYears onlyIf
-  only-high-share zero = refl
-  only-high-share (suc t) = omega (arith, only-high (highShare c 0 t), only-high-share t)
+  only-share : (t : ℕ) → shareFigure high c 0 t 0 ≡ ONE
+  unfolding yearsFigure onlyIf
+  only-share zero = refl
+  only-share (suc t) = omega (arith, only-step (shareFigure high c 0 t), only-share t)
 
 -- a call for a class and a year that are there
 no-year-cause : (s : Scheme) (t : ℕ) → t ≤ s .horizon → yearCause s t ≡ 0
@@ -80,15 +75,16 @@ one-class : (s : Scheme) → Accepted s → s .classes ≡ 1 → (t : ℕ) → t
 unfolding shareAnswer
 one-class s ok one t h =
     answered (shareCause s 1 t) _ _ (no-share-cause s ok 1 t (le-refl 1) (ok .size .someClass) h)
-    ∙ ap₂ Answered
-    (ap (lowShare (chainOf s) 0 t) first ∙ only-low-share (chainOf s) (accepted-sound s ok) one t)
-    (ap (highShare (chainOf s) 0 t) first ∙ only-high-share (chainOf s) (accepted-sound s ok) one t)
+    ∙ ap₂ Answered (whole false) (whole true)
   where
     first : startOf s ≡ 0
     first = omega (arith, ok .start .within, one)
 
+    whole : (high : Bool) → shareFigure high (chainOf s) 0 t (startOf s) ≡ ONE
+    whole high = ap (shareFigure high (chainOf s) 0 t) first ∙ only-share high (chainOf s) (accepted-sound s ok) one t
+
 horizon-zero : (s : Scheme) → Accepted s → s .horizon ≡ 0 → totalAnswer s 0 ≡ Answered 0 0
-unfolding totalAnswer lowYears highYears
+unfolding totalAnswer yearsFigure
 horizon-zero s ok none =
     answered (moneyCause s 0) (Answered 0 0) (Refused (moneyCause s 0))
     (second-cause (causeOf s) (yearCause s 0) (cause-accepted s ok) ∙ no-year-cause s 0 (omega arith))
@@ -115,7 +111,7 @@ pub record DocumentExamples : Type 0 where
   pub thirds : meanAnswer schemeThirds 1 ≡ Answered 10 11
 
 pub document-examples : DocumentExamples
-unfolding shareAnswer meanAnswer totalAnswer causeWhere sizeOut startOut horizonOut ruleOut bandOut sumOut premiumOut anyBelow lowYears highYears lowStep highStep fillRow roomBefore sumTo onlyIf
+unfolding shareAnswer meanAnswer totalAnswer causeWhere sizeOut startOut horizonOut ruleOut bandOut sumOut premiumOut anyBelow yearsFigure stepFigure fillRow capacityBefore sumTo onlyIf
 document-examples =
     record {
       rows = rows-a;
@@ -139,5 +135,5 @@ pub record SheetsA : Type 0 where
   pub highs : highTable schemeA ≡ 0 ∷ 1000000000 ∷ 15000 ∷ 900000000 ∷ 200000000 ∷ 11000 ∷ 990000000 ∷ 80000000 ∷ 10400 ∷ 26000 ∷ []
 
 pub sheets-a : SheetsA
-unfolding lowShares highShares lowTable highTable tableEntry tab lowYears highYears lowStep highStep fillRow roomBefore sumTo onlyIf
+unfolding figureShares figureTable tableEntry tab yearsFigure stepFigure fillRow capacityBefore sumTo onlyIf
 sheets-a = record { lowShares1 = refl; highShares1 = refl; lows = refl; highs = refl }

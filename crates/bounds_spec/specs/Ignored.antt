@@ -1,17 +1,21 @@
 -- The calls for bounds look at no value beyond s and m (document 01, "Units and the scheme").
 use Prim.Native.Nat.{ℕ, _-_}
 use mathlib.Core.Path.{_≡_, refl, ap, ap₂}
+use mathlib.Core.Bool.{Bool, true, false}
 use mathlib.Core.List.{List}
 use lib.ListN.{length}
+use Rattle.setchain.specs.Years.{shareFigure, meanFigure, totalFigure}
 use Rattle.scheme.specs.declared.Scheme.{Scheme}
+use Rattle.scheme.specs.Access.{premiumAt}
+use Rattle.scheme.specs.Rows.{chainOf}
 use Rattle.scheme.specs.Stored.{cleared}
 use Rattle.scheme.specs.Values.{SameValues}
 use Rattle.scheme.specs.Laws.Cause.{by-cause}
 use Rattle.scheme.specs.Laws.Values.{Alike, same, cleared-alike}
 use Rattle.bounds_spec.specs.declared.Bounds.the-variants.{Answered, Refused}
 use Rattle.bounds_spec.specs.Causes.{shareCause, moneyCause, sheetLengthsCause, tableLengthsCause}
-use Rattle.bounds_spec.specs.Answers.{answerBy, shareAnswer, meanAnswer, totalAnswer, sheetCause, sheetSlice, lowShares, highShares}
-use Rattle.bounds_spec.specs.Table.{lowTable, highTable, tableCause}
+use Rattle.bounds_spec.specs.Answers.{answerBy, startOf, shareAnswer, meanAnswer, totalAnswer, sheetCause, sheetSlice, figureShares, lowShares, highShares}
+use Rattle.bounds_spec.specs.Table.{figureTable, lowTable, highTable, tableCause}
 use Rattle.bounds_spec.specs.Laws.Alike as alike
 
 -- every answer for one scheme is that for the other, and the slices hold the same afterwards
@@ -34,41 +38,53 @@ pub record SameAnswers (s s′ : Scheme) : Type 0 where
 answer-same : {n n′ low low′ high high′ : ℕ} → n ≡ n′ → (n ≡ 0 → low ≡ low′) → (n ≡ 0 → high ≡ high′) → answerBy n low high ≡ answerBy n′ low′ high′
 answer-same e low high = by-cause e (λ z. ap₂ Answered (low z) (high z)) (ap Refused e)
 
-alike-answers : {s s′ : Scheme} → Alike s s′ → SameAnswers s s′
-unfolding shareAnswer meanAnswer totalAnswer sheetCause tableCause
-alike-answers w =
-    record {
-      shareNumber = alike.share-cause w;
-      moneyNumber = alike.money-cause w;
-      sheetLengths = alike.sheet-cause w;
-      tableLengths = alike.table-cause w;
-      share = λ class year.
-          answer-same (alike.share-cause w class year)
-          (λ z. let none = alike.of-share w class year z in alike.low-share-same (alike.values w none) none year (class - 1))
-          (λ z. let none = alike.of-share w class year z in alike.high-share-same (alike.values w none) none year (class - 1));
-      mean = λ year.
-          answer-same (alike.money-cause w year)
-          (λ z. let none = alike.of-money w year z in alike.low-mean-same (alike.values w none) none year)
-          (λ z. let none = alike.of-money w year z in alike.high-mean-same (alike.values w none) none year);
-      total = λ year.
-          answer-same (alike.money-cause w year)
-          (λ z. let none = alike.of-money w year z in alike.low-total-same (alike.values w none) none year)
-          (λ z. let none = alike.of-money w year z in alike.high-total-same (alike.values w none) none year);
-      sheet = λ year low high. alike.sheet-cause w year (length low) (length high);
-      lowSheet = λ year low high.
-          by-cause (alike.sheet-cause w year (length low) (length high))
-          (λ z. let none = alike.of-sheet w year (length low) (length high) z in alike.low-shares-same (alike.values w none) none year) refl;
-      highSheet = λ year low high.
-          by-cause (alike.sheet-cause w year (length low) (length high))
-          (λ z. let none = alike.of-sheet w year (length low) (length high) z in alike.high-shares-same (alike.values w none) none year) refl;
-      table = λ low high. alike.table-cause w (length low) (length high);
-      lows = λ low high.
-          by-cause (alike.table-cause w (length low) (length high))
-          (λ z. let none = alike.of-table w (length low) (length high) z in alike.low-table-same (alike.values w none) none) refl;
-      highs = λ low high.
-          by-cause (alike.table-cause w (length low) (length high))
-          (λ z. let none = alike.of-table w (length low) (length high) z in alike.high-table-same (alike.values w none) none) refl;
-    }
+module _ {s s′ : Scheme} (w : Alike s s′) where
+  -- one figure of each answer, low or high
+  share-figure : (high : Bool) (class year : ℕ) → shareCause s class year ≡ 0
+      → shareFigure high (chainOf s) (class - 1) year (startOf s) ≡ shareFigure high (chainOf s′) (class - 1) year (startOf s′)
+  share-figure high class year z = let none = alike.of-share w class year z in alike.share-same (alike.values w none) none high year (class - 1)
+
+  mean-figure : (high : Bool) (year : ℕ) → moneyCause s year ≡ 0
+      → meanFigure high (chainOf s) (premiumAt s) year (startOf s) ≡ meanFigure high (chainOf s′) (premiumAt s′) year (startOf s′)
+  mean-figure high year z = let none = alike.of-money w year z in alike.mean-same (alike.values w none) none high year
+
+  total-figure : (high : Bool) (year : ℕ) → moneyCause s year ≡ 0
+      → totalFigure high (chainOf s) (premiumAt s) year (startOf s) ≡ totalFigure high (chainOf s′) (premiumAt s′) year (startOf s′)
+  total-figure high year z = let none = alike.of-money w year z in alike.total-same (alike.values w none) none high year
+
+  -- one slice of a share sheet, and of all figures
+  sheet-slice : (side : Bool) (year : ℕ) (low high before : List ℕ)
+      → sheetSlice (sheetCause s year low high) (figureShares side s year) before ≡ sheetSlice (sheetCause s′ year low high) (figureShares side s′ year) before
+  unfolding sheetCause
+  sheet-slice side year low high before =
+      by-cause (alike.sheet-cause w year (length low) (length high))
+      (λ z. let none = alike.of-sheet w year (length low) (length high) z in alike.shares-same (alike.values w none) none side year) refl
+
+  table-slice : (side : Bool) (low high before : List ℕ)
+      → sheetSlice (tableCause s low high) (figureTable side s) before ≡ sheetSlice (tableCause s′ low high) (figureTable side s′) before
+  unfolding tableCause
+  table-slice side low high before =
+      by-cause (alike.table-cause w (length low) (length high))
+      (λ z. let none = alike.of-table w (length low) (length high) z in alike.table-same (alike.values w none) none side) refl
+
+  alike-answers : SameAnswers s s′
+  unfolding shareAnswer meanAnswer totalAnswer sheetCause tableCause
+  alike-answers =
+      record {
+        shareNumber = alike.share-cause w;
+        moneyNumber = alike.money-cause w;
+        sheetLengths = alike.sheet-cause w;
+        tableLengths = alike.table-cause w;
+        share = λ class year. answer-same (alike.share-cause w class year) (share-figure false class year) (share-figure true class year);
+        mean = λ year. answer-same (alike.money-cause w year) (mean-figure false year) (mean-figure true year);
+        total = λ year. answer-same (alike.money-cause w year) (total-figure false year) (total-figure true year);
+        sheet = λ year low high. alike.sheet-cause w year (length low) (length high);
+        lowSheet = λ year low high. sheet-slice false year low high low;
+        highSheet = λ year low high. sheet-slice true year low high high;
+        table = λ low high. alike.table-cause w (length low) (length high);
+        lows = λ low high. table-slice false low high low;
+        highs = λ low high. table-slice true low high high;
+      }
 
 -- schemes with the same values have the same answers, declined or not
 pub same-answers : {s s′ : Scheme} → SameValues s s′ → SameAnswers s s′

@@ -1,11 +1,11 @@
 -- All figures of a sheet in one table (document 01, "Sheet program and examples"): for each year from 0 to the horizon the shares of the
 -- classes in order and the mean premium, and last the total of the horizon's premiums.
 use Prim.Native.Nat.{ℕ, suc, _+_, _*_, _/_, _%_}
-use mathlib.Core.Bool.{cond}
+use mathlib.Core.Bool.{Bool, true, false, cond}
 use mathlib.Core.List.{List}
 use lib.Dec.{ltb}
 use lib.ListN.{length}
-use Rattle.setchain.specs.Years.{lowShare, highShare, lowMean, highMean, lowTotal, highTotal}
+use Rattle.setchain.specs.Years.{shareFigure, meanFigure, totalFigure}
 use Rattle.scheme.specs.declared.Scheme.{Scheme}
 use Rattle.scheme.specs.Tables.{tab}
 use Rattle.scheme.specs.Access.{premiumAt}
@@ -25,23 +25,22 @@ tableEntry s share mean total p =
     (cond (ltb (p % suc (s .classes)) (s .classes)) (share (p / suc (s .classes)) (p % suc (s .classes))) (mean (p / suc (s .classes))))
     total
 
--- the low figures
-unfoldable pub lowTable : Scheme → List ℕ
-lowTable s =
+-- all figures, low or high
+unfoldable pub figureTable : (high : Bool) → Scheme → List ℕ
+figureTable high s =
     tab (tableSize s)
     (tableEntry s
-    (λ t j. lowShare (chainOf s) j t (startOf s))
-    (λ t. lowMean (chainOf s) (premiumAt s) t (startOf s))
-    (lowTotal (chainOf s) (premiumAt s) (s .horizon) (startOf s)))
+    (λ t j. shareFigure high (chainOf s) j t (startOf s))
+    (λ t. meanFigure high (chainOf s) (premiumAt s) t (startOf s))
+    (totalFigure high (chainOf s) (premiumAt s) (s .horizon) (startOf s)))
+
+-- the low figures
+abbrev pub lowTable : Scheme → List ℕ
+lowTable = figureTable false
 
 -- the high figures
-unfoldable pub highTable : Scheme → List ℕ
-highTable s =
-    tab (tableSize s)
-    (tableEntry s
-    (λ t j. highShare (chainOf s) j t (startOf s))
-    (λ t. highMean (chainOf s) (premiumAt s) t (startOf s))
-    (highTotal (chainOf s) (premiumAt s) (s .horizon) (startOf s)))
+abbrev pub highTable : Scheme → List ℕ
+highTable = figureTable true
 
 -- causes 3 and 5 to 10, then 13: a slice that is not of the table's size
 unfoldable pub tableCause : Scheme → List ℕ → List ℕ → ℕ

@@ -1,4 +1,4 @@
--- Read in this order: rounding and comparing, then worked cases.
+-- Read in this order: comparing payoffs, then worked cases.
 pub mod Direction
 pub mod Examples
 pub mod Laws

@@ -6,7 +6,7 @@ use mathlib.Core.List.{List, [], _∷_, _++_}
 use lib.ListN.{length, getD, replicate}
 use native.Mathlib.Omega.{arith}
 use Rattle.setchain.specs.Sums.{sumTo, onlyIf}
-use Rattle.setchain.specs.Step.{lowStep, highStep, fillRow, roomBefore}
+use Rattle.setchain.specs.Step.{capacityBefore, fillRow, stepFigure}
 use Rattle.scheme.specs.declared.Scheme.{Scheme}
 use Rattle.scheme.specs.Tables.{tab, anyBelow}
 use Rattle.scheme.specs.Cause.{sizeOut, startOut, horizonOut, ruleOut, bandOut, sumOut, premiumOut, causeWhere, orElse}
@@ -186,5 +186,5 @@ step-a = (refl, after-a _, after-a _)
 
 -- the low figure of Example A's class 2, and the high one
 pub figures-a : (figureOf false inA thirtyTen 2 ≡ 26 ∷ []) × (figureOf true inA thirtyTen 2 ≡ 28 ∷ [])
-unfolding payoffOf lowStep highStep fillRow roomBefore sumTo onlyIf beAt schemeOf upTo tab
+unfolding payoffOf stepFigure fillRow capacityBefore sumTo onlyIf beAt schemeOf upTo tab
 figures-a = (refl, refl)

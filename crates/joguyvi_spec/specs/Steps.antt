@@ -4,14 +4,14 @@ use mathlib.Core.Path.{_≡_}
 use mathlib.Core.Bool.{Bool}
 use mathlib.Core.List.{List, [], _∷_}
 use lib.ListN.{length}
+use Rattle.setchain.specs.Step.{stepFigure, Reaches}
 use Rattle.scheme.specs.declared.Scheme.{Scheme}
 use Rattle.scheme.specs.Tables.{tab}
 use Rattle.scheme.specs.Cause.{orElse}
 use Rattle.record_spec.specs.Layout.{version1, schemeIn}
 use Rattle.record_spec.specs.Read.{readCause}
 use Rattle.order.specs.States.{at}
-use Rattle.step_spec.specs.Figure.{stepFigure}
-use Rattle.step_spec.specs.StepAnswer.{stepCause, classRow, Reaches}
+use Rattle.step_spec.specs.StepAnswer.{stepCause, classRow}
 use Rattle.joguyvi_spec.specs.Buffers.{bufferCause}
 
 -- a payoff of 32 numbers: what is missing counts as 0, and what lies beyond 32 is ignored
@@ -38,5 +38,5 @@ pub record RowKept (high : Bool) (s : Scheme) (payoff : List ℕ) (class number 
   pub size : number ≡ 0 → length after ≡ 32
   -- "with 0 beyond s"
   pub beyond : number ≡ 0 → (j : ℕ) → s .classes ≤ j → at after j ≡ 0
-  -- it lies inside the class's interval and reaches its unrounded figure (crate step_spec, `StepAnswer`)
+  -- it lies inside the class's interval and reaches its unrounded figure (crate setchain, `Step`)
   pub reaches : number ≡ 0 → Reaches high (s .classes) (classRow s class) (at (payoffOf payoff)) (at after) figure

@@ -13,9 +13,7 @@ use Rattle.record_spec.specs.declared.ReadAnswer.{ReadAnswer}
 use Rattle.record_spec.specs.Layout.{schemeIn, version1}
 use Rattle.record_spec.specs.Read.{readCause, readAnswer}
 use Rattle.step_spec.specs.declared.StepAnswer.{StepAnswer}
-use Rattle.step.specs.Lists.{at}
-use Rattle.step_spec.specs.Figure.{stepFigure}
-use Rattle.step_spec.specs.StepAnswer.{stepCause, classRow, StepAnswered}
+use Rattle.step_spec.specs.StepAnswer.{stepCause, StepAnswered}
 use Rattle.record_spec.specs.Laws.Read.{read-cause, read-passed, read-in}
 use Rattle.joguyvi_spec.specs.Buffers.{bufferCause, filledWhere}
 use Rattle.joguyvi_spec.specs.Laws.Sizes.{buffer-size}
@@ -54,7 +52,7 @@ module _ (high : Bool) (s : Scheme) (payoff : List ℕ) (class : ℕ) (figure ro
       let own : n ≡ 0 → answer .number ≡ 0 = λ z. first-none (answer .number) (stepBuffers payoff figure row) (sym (told .0) ∙ z) in
       let shown : n ≡ 0 → figure′ ≡ answer .figure ∷ [] = λ z. told .1 .0 ∙ answered n (answer .figure ∷ []) figure z in
       let same : n ≡ 0 → answer .figure ∷ [] ≡ figureOf high s payoff class =
-      λ z. ap (λ x. x ∷ []) (is .figure ∙ answered cause (stepFigure high (s .classes) (classRow s class) (at (payoffOf payoff))) 0 (sym (is .number) ∙ own z)) in (
+      λ z. ap (λ x. x ∷ []) (is .figure ∙ answered cause _ 0 (sym (is .number) ∙ own z)) in (
         told .0 ∙ ap (λ x. orElse x (stepBuffers payoff figure row)) (is .number),
         (
           told .1 .0 ∙ filled-same n (answer .figure ∷ []) (figureOf high s payoff class) figure same (ℕ-discrete n 0),

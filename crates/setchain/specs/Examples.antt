@@ -1,14 +1,15 @@
 -- Worked figures, computed: document 01's two examples of the step, Example A's figures on its interval rows, and exact figures of small picks.
 use Prim.Native.Nat.{ℕ, zero, suc, _*_}
 use mathlib.Core.Path.{_≡_, refl}
+use mathlib.Core.Bool.{true, false}
 use mathlib.Core.List.{List, [], _∷_}
 use lib.ListN.{getD}
 use Rattle.setchain.specs.Sums.{sumTo, onlyIf}
 use Rattle.setchain.specs.Fractions.{sumFractions}
 use Rattle.setchain.specs.Rows.{IntervalRow, SetChain}
 use Rattle.setchain.specs.Cells.{Cells, rowOf}
-use Rattle.setchain.specs.Step.{roomBefore, fillRow, lowStep, highStep}
-use Rattle.setchain.specs.Years.{lowYears, highYears, lowShare, highShare, lowMean, highMean, lowTotal, highTotal}
+use Rattle.setchain.specs.Step.{rounded, capacityBefore, fillRow, stepFigure, lowStep, highStep}
+use Rattle.setchain.specs.Years.{yearsFigure, lowShare, highShare, lowMean, highMean, lowTotal, highTotal}
 use Rattle.setchain.specs.Picks.{Matrix, product, exactMean, exactTotal}
 
 -- a list read by state
@@ -36,8 +37,12 @@ pub record StepExamples : Type 0 where
   pub bareHigh : highStep 3 bareRow payoff ≡ 24
 
 pub step-examples : StepExamples
-unfolding lowStep highStep fillRow roomBefore sumTo onlyIf
+unfolding stepFigure fillRow capacityBefore sumTo onlyIf
 step-examples = record { low = refl; high = refl; bareLow = refl; bareHigh = refl }
+
+-- one part more than two units, and two units: down, and up
+pub rounded-examples : (rounded false 2000000001 ≡ 2) × (rounded true 2000000001 ≡ 3) × (rounded false 2000000000 ≡ 2) × (rounded true 2000000000 ≡ 2)
+rounded-examples = (refl, refl, refl, refl)
 
 -- Example A's class 1: the first two columns lead to class 1 and are summed, also the upper ends, which are held to ONE; the third leads to class 2
 abbrev cellsA : Cells
@@ -105,5 +110,5 @@ pub record FiguresA : Type 0 where
   pub total : (lowTotal chainA premiumA 2 1 ≡ 25500) × (highTotal chainA premiumA 2 1 ≡ 26000)
 
 pub figures-a : FiguresA
-unfolding lowYears highYears lowStep highStep fillRow roomBefore sumTo onlyIf
+unfolding yearsFigure stepFigure fillRow capacityBefore sumTo onlyIf
 figures-a = record { share1 = (refl, refl); share2 = (refl, refl); mean = (refl, refl); total = (refl, refl) }

@@ -1,6 +1,7 @@
--- What the promises allow and what they forbid, on small numbers and on Example A's interval rows (document 01, "Years").
+-- What the promises and the step's words allow and what they forbid, on small numbers and on Example A's interval rows (document 01, "One year" and "Years").
 use Prim.Native.Nat.{ℕ, zero, suc, _+_, _*_, _≤_, _<_}
 use mathlib.Core.Path.{_≡_, refl}
+use mathlib.Core.Bool.{Bool, true, false}
 use mathlib.Core.List.{List, [], _∷_}
 use native.Mathlib.Omega.{arith}
 use Rattle.setchain.specs.Sums.{sumTo, onlyIf}
@@ -8,8 +9,8 @@ use Rattle.setchain.specs.Fractions.{Fraction, whole, sumFractions}
 use Rattle.setchain.specs.Rows.{ONE, IntervalRow, Row, Inside, SoundRow, SoundChain}
 use Rattle.setchain.specs.Picks.{Matrix, InsideEach, none, also, PicksFor, product, exactShare, exactMean, exactTotal}
 use Rattle.setchain.specs.Promise.{shareInParts, Between, Near}
-use Rattle.setchain.specs.Step.{roomBefore, fillRow, lowStep, highStep}
-use Rattle.setchain.specs.Years.{lowYears, highYears, lowShare, highShare, lowMean, highMean}
+use Rattle.setchain.specs.Step.{capacityBefore, fillRow, stepFigure, Parts, Reaches}
+use Rattle.setchain.specs.Years.{yearsFigure, lowShare, highShare, lowMean, highMean}
 use Rattle.setchain.specs.Laws.Sums.{below-two}
 use Rattle.setchain.specs.Theorems.{low-to-bound, bound-to-high, share-promise, mean-promise, exact-proper}
 use Rattle.setchain.specs.Examples.{from, chainA, premiumA}
@@ -110,6 +111,37 @@ inside-examples =
       overNone = λ h. omega (arith, h .positive);
     }
 
+-- class 2's row, with a payoff of 30 in class 1 and 10 in class 2
+abbrev ReachesA : Bool → (first second : ℕ) → ℕ → Type 0
+ReachesA high first second figure = Reaches high 2 (chainA .row 1) (from (30 ∷ 10 ∷ [])) (from (first ∷ second ∷ [])) figure
+
+-- "a row inside the interval that reaches its unrounded figure": the least and the greatest row do; another row inside, another figure and a row outside do not
+pub record ReachesExamples : Type 0 where
+  pub low : ReachesA false 800000000 200000000 26
+  pub high : ReachesA true 900000000 100000000 28
+  pub greatestForLow : ReachesA false 900000000 100000000 28 → ⊥
+  pub leastForHigh : ReachesA true 800000000 200000000 26 → ⊥
+  pub otherFigure : ReachesA false 800000000 200000000 27 → ⊥
+  pub outside : ReachesA false 700000000 300000000 24 → ⊥
+
+pub reaches-examples : ReachesExamples
+unfolding sumTo
+reaches-examples =
+    record {
+      low = record { inside = least; extreme = λ q inside. omega (arith, inside .sums, inside .above 0 (omega arith)); rounded = refl };
+      high = record { inside = greatest; extreme = λ q inside. omega (arith, inside .sums, inside .below 0 (omega arith)); rounded = refl };
+      greatestForLow = λ h. omega (arith, h .extreme (from (800000000 ∷ 200000000 ∷ [])) least);
+      leastForHigh = λ h. omega (arith, h .extreme (from (900000000 ∷ 100000000 ∷ [])) greatest);
+      otherFigure = λ h. omega (arith, h .rounded);
+      outside = λ h. omega (arith, h .inside .above 0 (omega arith));
+    }
+  where
+    least : Parts 2 (chainA .row 1) (from (800000000 ∷ 200000000 ∷ []))
+    least = inside-two (chainA .row 1) ONE 800000000 200000000 (omega arith) refl (omega arith) (omega arith) (omega arith) (omega arith)
+
+    greatest : Parts 2 (chainA .row 1) (from (900000000 ∷ 100000000 ∷ []))
+    greatest = inside-two (chainA .row 1) ONE 900000000 100000000 (omega arith) refl (omega arith) (omega arith) (omega arith) (omega arith)
+
 -- the year that has the row outside is no pick
 no-outside : {ps : List Matrix} → InsideEach chainA (outsideYear ∷ ps) → ⊥
 no-outside (also inside rest) = inside-examples .tooLow (inside 1 (omega arith))
@@ -196,7 +228,7 @@ sound-a = below-two (λ i. SoundRow 2 (chainA .row i)) first second
 
 -- the figures of year 1 from class 2
 year-one : (lowShare chainA 0 1 1 ≡ 800000000) × (highShare chainA 0 1 1 ≡ 900000000) × (lowMean chainA premiumA 1 1 ≡ 10500) × (highMean chainA premiumA 1 1 ≡ 11000)
-unfolding lowYears highYears lowStep highStep fillRow roomBefore sumTo onlyIf
+unfolding yearsFigure stepFigure fillRow capacityBefore sumTo onlyIf
 year-one = (refl, refl, refl, refl)
 
 -- "always 0 and ONE for a share" is shut out by closeness: no picks for a year bring the share of class 1 within 1 of 0, or of ONE;

@@ -1,25 +1,24 @@
 -- Demand 3 on the definitions (document 01, "Years"): for every set-chain with sound rows, any number of states, any t and ALL picks.
 use Prim.Native.Nat.{ℕ, _+_, _-_, _≤_, _<_}
 use mathlib.Core.Path.{sym, subst}
+use mathlib.Core.Bool.{Bool, true, false, not}
 use mathlib.Core.List.{List}
 use lib.ListN.{length}
 use native.Mathlib.Omega.{arith}
-use native.Mathlib.Nat.{le-refl, le-of-eq, mul-pos, mul-le-mul-right, le-of-mul-le-mul-right}
-use Rattle.setchain.specs.Fractions.{Fraction, whole, _≼_}
+use native.Mathlib.Nat.{le-refl, mul-pos, mul-le-mul-right, le-of-mul-le-mul-right}
+use Rattle.setchain.specs.Fractions.{Fraction, whole}
 use Rattle.setchain.specs.Rows.{SetChain, SoundChain}
-use Rattle.setchain.specs.Years.{lowYears, highYears, nothing, sharePayoff, lowShare, highShare, lowMean, highMean, lowTotal, highTotal}
+use Rattle.setchain.specs.Years.{yearsFigure, nothing, sharePayoff, lowShare, highShare, lowMean, highMean, lowTotal, highTotal}
 use Rattle.setchain.specs.Picks.{Matrix, InsideEach, PicksFor, exactMean, exactTotal}
-use Rattle.setchain.specs.Promise.{shareInParts, Between, Near, Containment, Promise}
-use Rattle.setchain.specs.Laws.Fractions.{Proper, _≈_, at-most-trans}
-use Rattle.setchain.specs.Laws.Value.{value, proper-value, value-least, value-most, lowPicks, lowPicks-for, value-low-near, highPicks, highPicks-for, value-high-near}
+use Rattle.setchain.specs.Promise.{shareInParts, Between, Near, Closeness, Promise}
+use Rattle.setchain.specs.Laws.Fractions.{Proper, _≈_, BoundOf, bound-trans, bound-same}
+use Rattle.setchain.specs.Laws.Value.{value, inward, proper-value, value-bound, extremePicks, extreme-picks-for, value-near}
 use Rattle.setchain.specs.Laws.Exact.{proper-product, share-value, proper-exact-mean, mean-value, proper-exact-total, total-value}
 
--- no further than t, from one side and the other
-near-low : (t b : ℕ) (x : Fraction) → whole b ≼ x → x ≼ whole (b + t) → Near t b x
-near-low t b x h k = record { under = omega arith; over = omega arith }
-
-near-high : (t b : ℕ) (x : Fraction) → x ≼ whole b → whole (b - t) ≼ x → Near t b x
-near-high t b x h k = record { under = omega arith; over = omega (arith, mul-le-mul-right (x .den) (cover t b)) }
+-- no further than t: a bound, and the same moved inward by t, one on each side
+near-bound : (high : Bool) (t b : ℕ) (x : Fraction) → BoundOf high (whole b) x → BoundOf (not high) (whole (inward high t b)) x → Near t b x
+near-bound false t b x h k = record { under = omega arith; over = omega arith }
+near-bound true t b x h k = record { under = omega arith; over = omega (arith, mul-le-mul-right (x .den) (cover t b)) }
   where
     cover : (t b : ℕ) → b ≤ b - t + t
     cover t b = omega arith
@@ -37,44 +36,36 @@ module _ (c : SetChain) (sound : SoundChain c) where
   module _ (payoff gain : ℕ → ℕ) (exact : List Matrix → ℕ → Fraction)
       (proper : (ps : List Matrix) → InsideEach c ps → (i : ℕ) → i < c .states → Proper (exact ps i))
       (same : (ps : List Matrix) → InsideEach c ps → (i : ℕ) → i < c .states → exact ps i ≈ value (c .states) payoff gain ps i) where
-    at-least : (ps : List Matrix) → InsideEach c ps → (i : ℕ) → i < c .states → (b : ℕ) → whole b ≼ value (c .states) payoff gain ps i → whole b ≼ exact ps i
-    at-least ps inside i l b h =
-        at-most-trans (whole b) (value (c .states) payoff gain ps i) (exact ps i) (proper-value c sound payoff gain ps inside i l) h (le-of-eq (sym (same ps inside i l)))
+    bound-exact : (high : Bool) (ps : List Matrix) → InsideEach c ps → (i : ℕ) → i < c .states → (b : ℕ)
+        → BoundOf high (whole b) (value (c .states) payoff gain ps i) → BoundOf high (whole b) (exact ps i)
+    bound-exact high ps inside i l b h =
+        bound-trans high (whole b) (value (c .states) payoff gain ps i) (exact ps i) (proper-value c sound payoff gain ps inside i l) h
+        (bound-same high (value (c .states) payoff gain ps i) (exact ps i) (sym (same ps inside i l)))
 
-    at-most : (ps : List Matrix) → InsideEach c ps → (i : ℕ) → i < c .states → (b : ℕ) → value (c .states) payoff gain ps i ≼ whole b → exact ps i ≼ whole b
-    at-most ps inside i l b h =
-        at-most-trans (exact ps i) (value (c .states) payoff gain ps i) (whole b) (proper-value c sound payoff gain ps inside i l) (le-of-eq (same ps inside i l)) h
+    bounded : (high : Bool) (t : ℕ) (ps : List Matrix) → PicksFor c t ps → (i : ℕ) → i < c .states → BoundOf high (whole (yearsFigure high c payoff gain t i)) (exact ps i)
+    bounded high t ps picks i l =
+        subst (λ u. BoundOf high (whole (yearsFigure high c payoff gain u i)) (exact ps i)) (picks .years)
+        (bound-exact high ps (picks .inside) i l (yearsFigure high c payoff gain (length ps) i) (value-bound c sound payoff gain high ps (picks .inside) i l))
 
-    contained : (t : ℕ) → Containment c t (lowYears c payoff gain t) (highYears c payoff gain t) exact
-    contained t ps picks i l =
-        subst (λ u. Between (lowYears c payoff gain u i) (highYears c payoff gain u i) (exact ps i)) (picks .years)
-        (record {
-          least = at-least ps (picks .inside) i l (lowYears c payoff gain (length ps) i) (value-least c sound payoff gain ps (picks .inside) i l);
-          most = at-most ps (picks .inside) i l (highYears c payoff gain (length ps) i) (value-most c sound payoff gain ps (picks .inside) i l);
-        })
+    close : (high : Bool) (t : ℕ) → Closeness c t (yearsFigure high c payoff gain t) exact
+    close high t =
+        let ps = extremePicks c sound payoff gain high t in
+        let picks = extreme-picks-for c sound payoff gain high t in
+        record {
+          picks = ps;
+          made = picks;
+          near = λ i l.
+              near-bound high t (yearsFigure high c payoff gain t i) (exact ps i)
+              (bounded high t ps picks i l)
+              (bound-exact (not high) ps (picks .inside) i l (inward high t (yearsFigure high c payoff gain t i)) (value-near c sound payoff gain high t i l));
+        }
 
-    pub promised : (t : ℕ) → Promise c t (lowYears c payoff gain t) (highYears c payoff gain t) exact
+    pub promised : (t : ℕ) → Promise c t (yearsFigure false c payoff gain t) (yearsFigure true c payoff gain t) exact
     promised t =
         record {
-          contains = contained t;
-          lowClose =
-              record {
-                picks = lowPicks c sound payoff gain t;
-                made = lowPicks-for c sound payoff gain t;
-                near = λ i l.
-                    near-low t (lowYears c payoff gain t i) (exact (lowPicks c sound payoff gain t) i)
-                    (contained t (lowPicks c sound payoff gain t) (lowPicks-for c sound payoff gain t) i l .least)
-                    (at-most (lowPicks c sound payoff gain t) (lowPicks-for c sound payoff gain t .inside) i l (lowYears c payoff gain t i + t) (value-low-near c sound payoff gain t i l));
-              };
-          highClose =
-              record {
-                picks = highPicks c sound payoff gain t;
-                made = highPicks-for c sound payoff gain t;
-                near = λ i l.
-                    near-high t (highYears c payoff gain t i) (exact (highPicks c sound payoff gain t) i)
-                    (contained t (highPicks c sound payoff gain t) (highPicks-for c sound payoff gain t) i l .most)
-                    (at-least (highPicks c sound payoff gain t) (highPicks-for c sound payoff gain t .inside) i l (highYears c payoff gain t i - t) (value-high-near c sound payoff gain t i l));
-              };
+          contains = λ ps picks i l. record { least = bounded false t ps picks i l; most = bounded true t ps picks i l };
+          lowClose = close false t;
+          highClose = close true t;
         }
 
   -- the share of state j after t years
@@ -97,7 +88,7 @@ module _ (c : SetChain) (sound : SoundChain c) where
 
   -- the promises are not empty: picks for any number of years exist, and no exact figure that they bring has the denominator 0
   pub some-picks : (t : ℕ) → (ps : List Matrix) × PicksFor c t ps
-  some-picks t = (lowPicks c sound nothing nothing t, lowPicks-for c sound nothing nothing t)
+  some-picks t = (extremePicks c sound nothing nothing false t, extreme-picks-for c sound nothing nothing false t)
 
   pub exact-proper : (premium : ℕ → ℕ) (j t : ℕ) (ps : List Matrix) → PicksFor c t ps → (i : ℕ) → i < c .states
       → Proper (shareInParts (c .states) j ps i) × Proper (exactMean (c .states) premium ps i) × Proper (exactTotal (c .states) premium ps i)

@@ -18,11 +18,11 @@ use Rattle.rows.specs.Laws.SumByTarget.{lower-is, upper-is}
 use Rattle.scheme.specs.Laws.Tables.{any-false}
 use Rattle.step_spec.specs.declared.StepAnswer.{StepAnswer}
 use Rattle.step.specs.Lists.{at}
-use Rattle.setchain.specs.Laws.Agreeing.{Agree, agree-sym, sound-agrees}
-use Rattle.step_spec.specs.Figure.{stepFigure}
-use Rattle.step_spec.specs.StepAnswer.{payoffOut, stepCause, classRow, Reaches, StepAnswered}
+use Rattle.setchain.specs.Step.{stepFigure, Reaches}
+use Rattle.setchain.specs.Laws.Agreeing.{Agree, agree-sym, sound-agrees, reaches-agree}
+use Rattle.setchain.specs.Laws.Step.{reached-figure}
+use Rattle.step_spec.specs.StepAnswer.{payoffOut, stepCause, classRow, StepAnswered}
 use Rattle.step.specs.Solve.{rowFromParts, Answerable, Made}
-use Rattle.step.proofs.Solving.{reaches-same, reached-figure}
 
 -- a second test of cause 10 comes after all that the first has
 joined : (a b c d e f g h : Bool)
@@ -79,12 +79,12 @@ module _ (s : Scheme) (payoff : List ℕ) (class : ℕ) where
         cause-none h = sym (rest ∙ cond-false (outside (s .classes) class) 11 0 h)
 
   -- a call that is declined: the number, and 0 everywhere else
-  pub step-declined : {d : Bool} (n : ℕ) → n ≡ stepCause s payoff class → (n ≡ 0 → ⊥)
-      → StepAnswered d s payoff class (record { number = n; figure = 0; row = replicate 32 0 })
-  step-declined {d} n is some =
+  pub step-declined : {high : Bool} (n : ℕ) → n ≡ stepCause s payoff class → (n ≡ 0 → ⊥)
+      → StepAnswered high s payoff class (record { number = n; figure = 0; row = replicate 32 0 })
+  step-declined {high} n is some =
       record {
         number = is;
-        figure = sym (declined (stepCause s payoff class) (stepFigure d (s .classes) (classRow s class) (at payoff)) 0 (λ z. some (is ∙ z)));
+        figure = sym (declined (stepCause s payoff class) (stepFigure high (s .classes) (classRow s class) (at payoff)) 0 (λ z. some (is ∙ z)));
         size = length-replicate {A = ℕ} 32 0;
         declinedRow = λ h. refl;
         beyond = λ z. absurd (some z);
@@ -141,18 +141,18 @@ module _ (s : Scheme) (payoff : List ℕ) (class : ℕ) where
         }
 
     -- the answer made of them is the one promised
-    pub step-answered : {d : Bool} {r : StepAnswer} → Made (s .rules) (s .lowers) (s .uppers) payoff (s .columns) (s .classes) class d r → StepAnswered d s payoff class r
-    step-answered {d} {r} w =
+    pub step-answered : {high : Bool} {r : StepAnswer} → Made (s .rules) (s .lowers) (s .uppers) payoff (s .columns) (s .classes) class high r → StepAnswered high s payoff class r
+    step-answered {high} {r} w =
         record {
           number = w .number ∙ sym none ∙ is;
           figure =
-              reached-figure d (s .classes) (classRow s class) (accepted-sound s ok (class - 1) (omega (arith, range))) (at payoff) (at (r .row)) (r .figure) reached
-              ∙ sym (answered (stepCause s payoff class) (stepFigure d (s .classes) (classRow s class) (at payoff)) 0 (sym is ∙ none));
+              reached-figure (s .classes) (classRow s class) (accepted-sound s ok (class - 1) (omega (arith, range))) high (at payoff) (at (r .row)) (r .figure) reached
+              ∙ sym (answered (stepCause s payoff class) (stepFigure high (s .classes) (classRow s class) (at payoff)) 0 (sym is ∙ none));
           size = w .size;
           declinedRow = λ h. absurd (h (w .number));
           beyond = λ z. w .beyond;
           reaches = λ z. reached;
         }
       where
-        reached : Reaches d (s .classes) (classRow s class) (at payoff) (at (r .row)) (r .figure)
-        reached = reaches-same same (λ j l. refl) (λ j l. refl) (w .reaches)
+        reached : Reaches high (s .classes) (classRow s class) (at payoff) (at (r .row)) (r .figure)
+        reached = reaches-agree same (λ j l. refl) (λ j l. refl) (w .reaches)

@@ -1,59 +1,31 @@
 -- The step over gathered entries: rows, payoffs and intervals that agree at every state have the same figure.
 -- Assumes nothing.
 use Prim.Native.Nat.{ℕ, _+_, _-_, _*_, _≤_, _<_}
-use mathlib.Core.Path.{_≡_, refl, ap, sym, _∙_, subst, subst₂}
-use mathlib.Core.Bool.{Bool, true, false}
+use mathlib.Core.Path.{_≡_, refl, ap, sym, _∙_, subst}
+use mathlib.Core.Bool.{Bool}
 use mathlib.Core.List.{List, _++_}
 use native.Mathlib.Decide.{decLt}
 use native.Mathlib.Omega.{arith}
 use lib.ListN.{length, getD, take, drop, replicate, length-append, length-replicate, length-drop, getD-replicate, List·getD-append, List·getD-eq-default}
 use lib.Seq.{take-at, length-take-le, getD-take, getD-drop, getD-append-add}
-use Rattle.setchain.specs.Sums.{dot}
-use Rattle.setchain.specs.Rows.{IntervalRow, SoundRow}
-use Rattle.setchain.specs.Laws.Sums.{sumTo-eq}
-use Rattle.setchain.specs.Laws.Step.{low-figure-only, high-figure-only}
+use Rattle.setchain.specs.Rows.{SoundRow}
+use Rattle.setchain.specs.Step.{Reaches}
 use Rattle.scheme.specs.Tables.{tab}
 use Rattle.scheme.specs.Gathered.{gathered}
 use Rattle.scheme.specs.Laws.Tab.{length-tab, getD-tab}
-use Rattle.order.specs.Order.{NotAfter, Arranged, Placed, numbered, sorted}
+use Rattle.order.specs.Order.{Arranged, Placed, numbered, sorted}
 use Rattle.order.specs.Laws.Arranging.{numbered-placed, sorted-holds}
 use Rattle.step.specs.Lists.{at, rowIn, gatheredRow}
-use Rattle.setchain.specs.Laws.Agreeing.{Agree, agree-sym, parts-agree, sound-agrees}
-use Rattle.step_spec.specs.Figure.{stepFigure}
-use Rattle.step.specs.Figure.{rounded}
+use Rattle.setchain.specs.Laws.Agreeing.{Agree, agree-sym, sound-agrees, reaches-agree}
 use Rattle.step.specs.Step.{Steppable, Stepped}
-use Rattle.step_spec.specs.StepAnswer.{Reaches}
 use Rattle.step.specs.Solve.{rowFromParts, Solvable, Solved, Answerable, Made}
 
--- the sum of part times payoff looks at states below n alone
-dot-same : (n : ℕ) (p p′ f f′ : ℕ → ℕ) → ((j : ℕ) → j < n → p j ≡ p′ j) → ((j : ℕ) → j < n → f j ≡ f′ j) → dot n p f ≡ dot n p′ f′
-dot-same n p p′ f f′ e g = sumTo-eq n (λ j. p j * f j) (λ j. p′ j * f′ j) (λ j l. ap (λ x. x * f j) (e j l) ∙ ap (λ x. p′ j * x) (g j l))
-
--- so a figure that is reached is reached for all that agrees below n
-pub reaches-same : {d : Bool} {n : ℕ} {r r′ : IntervalRow} {f f′ p p′ : ℕ → ℕ} {v : ℕ}
-    → Agree n r r′ → ((j : ℕ) → j < n → f j ≡ f′ j) → ((j : ℕ) → j < n → p j ≡ p′ j) → Reaches d n r f p v → Reaches d n r′ f′ p′ v
-reaches-same {d} {n} {r} {r′} {f} {f′} {p} {p′} {v} s g e w =
-    record {
-      inside = parts-agree s e (w .inside);
-      extreme = λ q h.
-          subst₂ (NotAfter d) (dot-same n p p′ f f′ e g) (dot-same n q q f f′ (λ j l. refl) g)
-          (w .extreme q (parts-agree (agree-sym s) (λ j l. refl) h));
-      rounded = w .rounded ∙ ap (rounded d) (dot-same n p p′ f f′ e g);
-    }
-
--- a figure that is reached is the step's
-pub reached-figure : (d : Bool) (n : ℕ) (r : IntervalRow) → SoundRow n r → (f p : ℕ → ℕ) (v : ℕ) → Reaches d n r f p v → v ≡ stepFigure d n r f
-reached-figure false n r sound f p v w =
-    low-figure-only n r sound f v (record { parts = p; inside = w .inside; least = w .extreme; rounded = w .rounded })
-reached-figure true n r sound f p v w =
-    high-figure-only n r sound f v (record { parts = p; inside = w .inside; greatest = w .extreme; rounded = w .rounded })
-
 -- the classes in the order of their numbers, sorted, are arranged
-pub numbers-arranged : (payoff before order : List ℕ) {order′ : List ℕ} {d : Bool} → length before ≡ length payoff → length payoff ≤ 128
-    → order ≡ numbered before → order′ ≡ sorted payoff d order → Arranged payoff d order′
-numbers-arranged payoff before order {order′} {d} e few n s =
+pub numbers-arranged : (payoff before order : List ℕ) {order′ : List ℕ} {high : Bool} → length before ≡ length payoff → length payoff ≤ 128
+    → order ≡ numbered before → order′ ≡ sorted payoff high order → Arranged payoff high order′
+numbers-arranged payoff before order {order′} {high} e few n s =
     let placed : Placed (length payoff) order = subst (λ o. Placed (length payoff) o) (sym n) (subst (λ k. Placed k (numbered before)) e (numbered-placed before (omega arith))) in
-    subst (Arranged payoff d) (sym s) (sorted-holds payoff d order placed few)
+    subst (Arranged payoff high) (sym s) (sorted-holds payoff high order placed few)
 
 -- a part of an array that was lent, back in its place before the rest
 pub back-room : (n : ℕ) (g rest : List ℕ) → length g ≡ n → n ≤ length (g ++ rest)
@@ -85,56 +57,55 @@ module _ {rules lowers uppers payoff row : List ℕ} (able : Solvable rules lowe
   n = length payoff
 
   -- the lower ends as a list
-  low : List ℕ
-  low = tab n (gathered rules lowers)
+  lowerEnds : List ℕ
+  lowerEnds = tab n (gathered rules lowers)
 
   -- the upper ends as a list
-  high : List ℕ
-  high = tab n (gathered rules uppers)
+  upperEnds : List ℕ
+  upperEnds = tab n (gathered rules uppers)
 
   -- over the parts that were lent before
-  module _ {d : Bool} (g u o rest : List ℕ)
+  module _ {high : Bool} (g u o rest : List ℕ)
       (lower : g ≡ tab (length (take (length payoff) (replicate {A = ℕ} 32 0))) (gathered rules lowers))
       (upper : u ≡ tab (length (take (length payoff) (replicate {A = ℕ} 32 0))) (gathered rules uppers))
-      (by-payoff : Arranged payoff d o) where
+      (by-payoff : Arranged payoff high o) where
     -- the step over the lists that were gathered
-    steps : Steppable low high payoff o d row
-    unfolding low high n
+    steps : Steppable lowerEnds upperEnds payoff o high row
+    unfolding lowerEnds upperEnds n
     steps =
         record {
           uppers = length-tab n (gathered rules uppers) ∙ sym (length-tab n (gathered rules lowers));
           payoffs = sym (length-tab n (gathered rules lowers));
           rows = able .rows ∙ sym (length-tab n (gathered rules lowers));
           sound =
-              subst (λ k. SoundRow k (rowIn low high)) (sym (length-tab n (gathered rules lowers)))
+              subst (λ k. SoundRow k (rowIn lowerEnds upperEnds)) (sym (length-tab n (gathered rules lowers)))
               (sound-agrees (agree-sym (tab-same n (gathered rules lowers) (gathered rules uppers))) (able .sound));
           small = λ j l. able .small j (omega (arith, length-tab n (gathered rules lowers)));
           arranged = by-payoff;
         }
 
     -- the same over the parts as they were lent again
-    pub solve-steps : Steppable (take (length payoff) (g ++ rest)) (take (length payoff) (u ++ rest)) payoff (take (length payoff) (o ++ rest)) d row
-    unfolding low high n
+    pub solve-steps : Steppable (take (length payoff) (g ++ rest)) (take (length payoff) (u ++ rest)) payoff (take (length payoff) (o ++ rest)) high row
+    unfolding lowerEnds upperEnds n
     solve-steps =
         rw (gather-back n (gathered rules lowers) g rest (able .few) lower, gather-back n (gathered rules uppers) u rest (able .few) upper, take-at o rest n (by-payoff .size)) steps
 
     -- what the step leaves is what is asked
-    pub solve-solved : {row′ : List ℕ} {r : ℕ} → Stepped (take (length payoff) (g ++ rest)) (take (length payoff) (u ++ rest)) payoff d row′ r
-        → Solved rules lowers uppers payoff d row′ r
-    unfolding low high n
+    pub solve-solved : {row′ : List ℕ} {r : ℕ} → Stepped (take (length payoff) (g ++ rest)) (take (length payoff) (u ++ rest)) payoff high row′ r
+        → Solved rules lowers uppers payoff high row′ r
+    unfolding lowerEnds upperEnds n
     solve-solved {row′} {r} w = made (rw (gather-back n (gathered rules lowers) g rest (able .few) lower, gather-back n (gathered rules uppers) u rest (able .few) upper) at w)
       where
-        size : length low ≡ n
+        size : length lowerEnds ≡ n
         size = length-tab n (gathered rules lowers)
 
-        made : Stepped low high payoff d row′ r → Solved rules lowers uppers payoff d row′ r
+        made : Stepped lowerEnds upperEnds payoff high row′ r → Solved rules lowers uppers payoff high row′ r
         made w =
             record {
               size = w .size ∙ size;
               reaches =
-                  reaches-same (tab-same n (gathered rules lowers) (gathered rules uppers)) (λ j l. refl) (λ j l. refl)
-                  (subst (λ k. Reaches d k (rowIn low high) (at payoff) (at row′) r) size
-                  (record { inside = w .parts; extreme = w .extreme; rounded = w .reached }));
+                  reaches-agree (tab-same n (gathered rules lowers) (gathered rules uppers)) (λ j l. refl) (λ j l. refl)
+                  (subst (λ k. Reaches high k (rowIn lowerEnds upperEnds) (at payoff) (at row′) r) size (w .reaches));
             }
 
 -- the whole answer from a scheme's parts
@@ -163,8 +134,8 @@ module _ {rules lowers uppers payoff : List ℕ} {columns classes class : ℕ} (
         small = λ j l. let h : j < classes = rw count at l in omega (arith, pays j h, able .small j h);
       })
 
-  module _ {d : Bool} (g : List ℕ) {r : ℕ}
-      (solved : Solved (take ((class - 1) * 8 + columns - (class - 1) * 8) (drop ((class - 1) * 8) rules)) (take columns lowers) (take columns uppers) (take classes payoff) d g r) where
+  module _ {high : Bool} (g : List ℕ) {r : ℕ}
+      (solved : Solved (take ((class - 1) * 8 + columns - (class - 1) * 8) (drop ((class - 1) * 8) rules)) (take columns lowers) (take columns uppers) (take classes payoff) high g r) where
     -- what stands beyond the part that was lent
     rest : List ℕ
     rest = drop classes (replicate 32 0)
@@ -194,7 +165,7 @@ module _ {rules lowers uppers payoff : List ℕ} {columns classes class : ℕ} (
         by (no h) = List·getD-eq-default (g ++ rest) 0 {n = j} (omega (arith, whole))
 
     -- the answer that holds them
-    pub answer-made : Made rules lowers uppers payoff columns classes class d (record { number = 0; figure = r; row = g ++ drop classes (replicate 32 0) })
+    pub answer-made : Made rules lowers uppers payoff columns classes class high (record { number = 0; figure = r; row = g ++ drop classes (replicate 32 0) })
     unfolding rest
     answer-made =
         record {
@@ -202,8 +173,8 @@ module _ {rules lowers uppers payoff : List ℕ} {columns classes class : ℕ} (
           size = whole;
           beyond = past;
           reaches =
-              reaches-same (record { lower = λ j l. refl; upper = λ j l. refl }) pays
+              reaches-agree (record { lower = λ j l. refl; upper = λ j l. refl }) pays
               (λ j l. sym (List·getD-append g rest 0 j (omega (arith, size))))
-              (subst (λ k. Reaches d k (rowFromParts rules lowers uppers columns class) (at (take classes payoff)) (at g) r) count
-              (subst (λ w. Reaches d (length (take classes payoff)) (gatheredRow (take w (drop ((class - 1) * 8) rules)) (take columns lowers) (take columns uppers)) (at (take classes payoff)) (at g) r) width (solved .reaches)));
+              (subst (λ k. Reaches high k (rowFromParts rules lowers uppers columns class) (at (take classes payoff)) (at g) r) count
+              (subst (λ w. Reaches high (length (take classes payoff)) (gatheredRow (take w (drop ((class - 1) * 8) rules)) (take columns lowers) (take columns uppers)) (at (take classes payoff)) (at g) r) width (solved .reaches)));
         }

@@ -5,7 +5,6 @@ use mathlib.Core.List.{List}
 use lib.ListN.{length}
 use Rattle.setchain.specs.Sums.{sumTo, dot}
 use Rattle.setchain.specs.Rows.{ONE}
-pub use Rattle.direction.specs.Direction.{rounded}
 use Rattle.step.specs.Lists.{at}
 
 -- the largest payoff for which every sum of part times payoff fits 64 bits

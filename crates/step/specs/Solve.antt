@@ -5,10 +5,10 @@ use mathlib.Core.Bool.{Bool}
 use mathlib.Core.List.{List}
 use lib.ListN.{length, take, drop}
 use Rattle.setchain.specs.Rows.{IntervalRow, SoundRow}
+use Rattle.setchain.specs.Step.{Reaches}
 use Rattle.step_spec.specs.declared.StepAnswer.{StepAnswer}
 use Rattle.step.specs.Lists.{at, gatheredRow}
 use Rattle.step.specs.Figure.{LARGEST}
-use Rattle.step_spec.specs.StepAnswer.{Reaches}
 
 -- the interval row of a class from a scheme's parts
 abbrev pub rowFromParts : List ℕ → List ℕ → List ℕ → ℕ → ℕ → IntervalRow
@@ -23,9 +23,9 @@ pub record Solvable (rules lowers uppers payoff row : List ℕ) : Type 0 where
   pub small : (j : ℕ) → j < length payoff → at payoff j ≤ LARGEST
 
 -- the figure r, and a row that reaches it
-pub record Solved (rules lowers uppers payoff : List ℕ) (falling : Bool) (row : List ℕ) (r : ℕ) : Type 0 where
+pub record Solved (rules lowers uppers payoff : List ℕ) (high : Bool) (row : List ℕ) (r : ℕ) : Type 0 where
   pub size : length row ≡ length payoff
-  pub reaches : Reaches falling (length payoff) (gatheredRow rules lowers uppers) (at payoff) (at row) r
+  pub reaches : Reaches high (length payoff) (gatheredRow rules lowers uppers) (at payoff) (at row) r
 
 -- a class of a scheme that has no cause, by the scheme's parts
 pub record Answerable (rules lowers uppers payoff : List ℕ) (columns classes class : ℕ) : Type 0 where
@@ -37,8 +37,8 @@ pub record Answerable (rules lowers uppers payoff : List ℕ) (columns classes c
   pub small : (j : ℕ) → j < classes → at payoff j ≤ LARGEST
 
 -- the answer that is made of it
-pub record Made (rules lowers uppers payoff : List ℕ) (columns classes class : ℕ) (falling : Bool) (r : StepAnswer) : Type 0 where
+pub record Made (rules lowers uppers payoff : List ℕ) (columns classes class : ℕ) (high : Bool) (r : StepAnswer) : Type 0 where
   pub number : r .number ≡ 0
   pub size : length (r .row) ≡ 32
   pub beyond : (j : ℕ) → classes ≤ j → at (r .row) j ≡ 0
-  pub reaches : Reaches falling classes (rowFromParts rules lowers uppers columns class) (at payoff) (at (r .row)) (r .figure)
+  pub reaches : Reaches high classes (rowFromParts rules lowers uppers columns class) (at payoff) (at (r .row)) (r .figure)

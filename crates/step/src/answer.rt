@@ -49,12 +49,12 @@ fn cause(scheme: Scheme, payoff: [u64; 32], class: u64) -> u8
 }
 
 // Puts all classes in the order of their payoffs.
-fn arrange(payoff: &[u64], falling: bool, order: &mut [u8])
+fn arrange(payoff: &[u64], high: bool, order: &mut [u8])
     requires { ⌜ (length (now order) ≡ length (now payoff)) × (length (now payoff) ≤ 128) ⌝ }
-    ensures { λ _. ⌜ Arranged (now (payoff .entry)) falling (now (order .exit)) ⌝ }
+    ensures { λ _. ⌜ Arranged (now (payoff .entry)) high (now (order .exit)) ⌝ }
 {
     number(order);
-    sort(payoff, falling, order);
+    sort(payoff, high, order);
 }
 
 // The figure of a class from its rules and their bands' ends, and in `row` a row that reaches it.
@@ -63,11 +63,11 @@ fn solve(
     lowers: &[u32],
     uppers: &[u32],
     payoff: &[u64],
-    falling: bool,
+    high: bool,
     row: &mut [u64],
 ) -> u64
     requires { ⌜ Solvable (now rules) (now lowers) (now uppers) (now payoff) (now row) ⌝ }
-    ensures { λ r. ⌜ Solved (now (rules .entry)) (now (lowers .entry)) (now (uppers .entry)) (now (payoff .entry)) falling (now (row .exit)) r ⌝ }
+    ensures { λ r. ⌜ Solved (now (rules .entry)) (now (lowers .entry)) (now (uppers .entry)) (now (payoff .entry)) high (now (row .exit)) r ⌝ }
 {
     let n = payoff.len();
     let mut lower = [0u64; 32];
@@ -75,8 +75,8 @@ fn solve(
     let mut upper = [0u64; 32];
     gather(rules, uppers, &mut upper[..n]);
     let mut order = [0u8; 32];
-    arrange(payoff, falling, &mut order[..n]);
-    step(&lower[..n], &upper[..n], payoff, &order[..n], falling, row)
+    arrange(payoff, high, &mut order[..n]);
+    step(&lower[..n], &upper[..n], payoff, &order[..n], high, row)
 }
 
 // The answer for a class of a scheme that has no cause, from the scheme's parts.
@@ -88,10 +88,10 @@ fn answered(
     columns: u8,
     classes: u8,
     class: u64,
-    falling: bool,
+    high: bool,
 ) -> StepAnswer
     requires { ⌜ Answerable rules lowers uppers payoff columns classes class ⌝ }
-    ensures { λ r. ⌜ Made rules lowers uppers payoff columns classes class falling r ⌝ }
+    ensures { λ r. ⌜ Made rules lowers uppers payoff columns classes class high r ⌝ }
 {
     let m = columns as usize;
     let n = classes as usize;
@@ -103,7 +103,7 @@ fn answered(
         &lowers[..m],
         &uppers[..m],
         &payoff[..n],
-        falling,
+        high,
         &mut row[..n],
     );
     StepAnswer {
@@ -113,9 +113,9 @@ fn answered(
     }
 }
 
-// The low step's answer, or the high step's where payoffs fall along the order.
-pub fn answer(scheme: Scheme, payoff: [u64; 32], class: u64, falling: bool) -> StepAnswer
-    ensures { λ r. ⌜ StepAnswered falling scheme payoff class r ⌝ }
+// The low step's answer, or, where `high` is set, the high step's.
+pub fn answer(scheme: Scheme, payoff: [u64; 32], class: u64, high: bool) -> StepAnswer
+    ensures { λ r. ⌜ StepAnswered high scheme payoff class r ⌝ }
 {
     let number = cause(scheme, payoff, class);
     if number != 0 {
@@ -136,6 +136,6 @@ pub fn answer(scheme: Scheme, payoff: [u64; 32], class: u64, falling: bool) -> S
         scheme.columns,
         scheme.classes,
         class,
-        falling,
+        high,
     )
 }

@@ -2,9 +2,10 @@
 ghost use mathlib.Core.Path.{_≡_};
 ghost use Prim.Native.Nat.{_*_};
 ghost use lib.ListN.{length};
+ghost use Rattle.setchain.specs.Step.{rounded};
 ghost use Rattle.setchain.specs.Sums.{dot};
 ghost use Rattle.step.specs.Lists.{at};
-ghost use Rattle.step.specs.Figure.{Weighable, Weighed, rounded};
+ghost use Rattle.step.specs.Figure.{Weighable, Weighed};
 
 // The sum of part times payoff.
 fn weigh(row: &[u64], payoff: &[u64]) -> u64
@@ -21,9 +22,9 @@ fn weigh(row: &[u64], payoff: &[u64]) -> u64
 }
 
 // The row's figure: rounded down for a low figure, up for a high one.
-pub fn figure(row: &[u64], payoff: &[u64], falling: bool) -> u64
+pub fn figure(row: &[u64], payoff: &[u64], high: bool) -> u64
     requires { ⌜ Weighable (now row) (now payoff) ⌝ }
-    ensures { λ r. ⌜ r ≡ rounded falling (dot (length (now (row .entry))) (at (now (row .entry))) (at (now (payoff .entry)))) ⌝ }
+    ensures { λ r. ⌜ r ≡ rounded high (dot (length (now (row .entry))) (at (now (row .entry))) (at (now (payoff .entry)))) ⌝ }
 {
-    direction::round(weigh(row, payoff), falling)
+    direction::round(weigh(row, payoff), high)
 }

@@ -3,18 +3,18 @@ use crate::figure::figure;
 use crate::fill::fill;
 ghost use Rattle.step.specs.Step.{Steppable, Stepped};
 
-// The low figure, or the high one where payoffs fall along the order, and in `row` a row inside the interval that reaches it.
+// The low figure, or, where `high` is set, the high one, and in `row` a row inside the interval that reaches it.
 pub fn step(
     lower: &[u64],
     upper: &[u64],
     payoff: &[u64],
     order: &[u8],
-    falling: bool,
+    high: bool,
     row: &mut [u64],
 ) -> u64
-    requires { ⌜ Steppable (now lower) (now upper) (now payoff) (now order) falling (now row) ⌝ }
-    ensures { λ r. ⌜ Stepped (now (lower .entry)) (now (upper .entry)) (now (payoff .entry)) falling (now (row .exit)) r ⌝ }
+    requires { ⌜ Steppable (now lower) (now upper) (now payoff) (now order) high (now row) ⌝ }
+    ensures { λ r. ⌜ Stepped (now (lower .entry)) (now (upper .entry)) (now (payoff .entry)) high (now (row .exit)) r ⌝ }
 {
     fill(lower, upper, order, row);
-    figure(row, payoff, falling)
+    figure(row, payoff, high)
 }

@@ -9,14 +9,13 @@ use lib.ListN.{replicate, getD-replicate, length-replicate, List·getD-eq-defaul
 use Rattle.setchain.specs.Sums.{sumTo, onlyIf}
 use Rattle.setchain.specs.Rows.{ONE}
 use Rattle.setchain.specs.Laws.Sums.{below-two}
-use Rattle.setchain.specs.Step.{roomBefore, fillRow, lowStep, highStep}
+use Rattle.setchain.specs.Step.{capacityBefore, fillRow, stepFigure, Reaches}
 use Rattle.scheme.specs.Tables.{tab, anyBelow}
 use Rattle.scheme.specs.Cause.{sizeOut, startOut, horizonOut, ruleOut, bandOut, sumOut, premiumOut, causeWhere}
 use Rattle.scheme.specs.Examples.{schemeA}
 use Rattle.order.specs.States.{at}
 use Rattle.step_spec.specs.declared.StepAnswer.{StepAnswer}
-use Rattle.step_spec.specs.Figure.{stepFigure}
-use Rattle.step_spec.specs.StepAnswer.{payoffOut, stepCause, classRow, Reaches, StepAnswered}
+use Rattle.step_spec.specs.StepAnswer.{payoffOut, stepCause, classRow, StepAnswered}
 
 -- a payoff of 30 in class 1 and 10 in class 2
 abbrev thirtyTen : List ℕ
@@ -24,7 +23,7 @@ thirtyTen = 30 ∷ 10 ∷ []
 
 -- four fifths and one fifth for the low figure, nine tenths and one tenth for the high one
 pub figures-a : (stepFigure false 2 (classRow schemeA 2) (at thirtyTen) ≡ 26) × (stepFigure true 2 (classRow schemeA 2) (at thirtyTen) ≡ 28)
-unfolding lowStep highStep fillRow roomBefore sumTo onlyIf
+unfolding stepFigure fillRow capacityBefore sumTo onlyIf
 figures-a = (refl, refl)
 
 -- no cause; a class that there is not; and, before that, a payoff above its limit
@@ -64,23 +63,25 @@ beyond-a (suc (suc j)) h = by (decLt j 30)
 abbrev answerA : (number figure : ℕ) → List ℕ → StepAnswer
 answerA number figure row = record { number = number; figure = figure; row = row }
 
--- what the low step may answer for class 2, and what not: a part beyond s, another figure, another length; and for class 3, which there is not, the number 11 with no figure and no part
+-- what the low step may answer for class 2, and what not: a part beyond s, another figure, another length; what the high step may not, the low figure; and for class 3, which there is not, the number 11 with no figure and no part
 pub record StepAnswers : Type 0 where
   pub answered : StepAnswered false schemeA thirtyTen 2 (answerA 0 26 fourFifths)
   pub partBeyond : StepAnswered false schemeA thirtyTen 2 (answerA 0 26 (800000000 ∷ 200000000 ∷ 1 ∷ replicate 29 0)) → ⊥
   pub otherFigure : StepAnswered false schemeA thirtyTen 2 (answerA 0 27 fourFifths) → ⊥
+  pub lowFigure : StepAnswered true schemeA thirtyTen 2 (answerA 0 26 fourFifths) → ⊥
   pub shortRow : StepAnswered false schemeA thirtyTen 2 (answerA 0 26 (800000000 ∷ 200000000 ∷ [])) → ⊥
   pub declined : StepAnswered false schemeA thirtyTen 3 (answerA 11 0 (replicate 32 0))
   pub declinedFigure : StepAnswered false schemeA thirtyTen 3 (answerA 11 26 (replicate 32 0)) → ⊥
   pub declinedRow : StepAnswered false schemeA thirtyTen 3 (answerA 11 0 (1 ∷ replicate 31 0)) → ⊥
 
 pub step-answers : StepAnswers
-unfolding payoffOut causeWhere sizeOut startOut horizonOut ruleOut bandOut sumOut premiumOut anyBelow tab lowStep highStep fillRow roomBefore sumTo onlyIf
+unfolding payoffOut causeWhere sizeOut startOut horizonOut ruleOut bandOut sumOut premiumOut anyBelow tab stepFigure fillRow capacityBefore sumTo onlyIf
 step-answers =
     record {
       answered = record { number = refl; figure = refl; size = refl; declinedRow = λ some. absurd (some refl); beyond = λ none. beyond-a; reaches = λ none. reaches-a };
       partBeyond = λ h. omega (arith, h .beyond refl 2 (omega arith));
       otherFigure = λ h. omega (arith, h .figure);
+      lowFigure = λ h. omega (arith, h .figure);
       shortRow = λ h. omega (arith, h .size);
       declined = record { number = refl; figure = refl; size = refl; declinedRow = λ some. refl; beyond = λ none. absurd (omega arith); reaches = λ none. absurd (omega arith) };
       declinedFigure = λ h. omega (arith, h .figure);

@@ -5,10 +5,8 @@ use mathlib.Core.Bool.{Bool, true, false, _||_}
 use mathlib.Core.List.{List}
 use lib.Dec.{ltb}
 use native.Mathlib.Omega.{arith}
-use Rattle.setchain.specs.Sums.{dot}
-use Rattle.setchain.specs.Rows.{IntervalRow}
-use Rattle.setchain.specs.Laws.Sums.{sumTo-eq}
-use Rattle.setchain.specs.Laws.Agreeing.{agree-refl, low-step-agrees, high-step-agrees}
+use Rattle.setchain.specs.Step.{stepFigure, Reaches}
+use Rattle.setchain.specs.Laws.Agreeing.{agree-refl, step-agrees, reaches-agree}
 use Rattle.scheme.specs.declared.Scheme.{Scheme}
 use Rattle.scheme.specs.Cause.{premiumOut, causeWhere, classCause}
 use Rattle.scheme.specs.Stored.{schemeOf, cleared}
@@ -16,28 +14,9 @@ use Rattle.scheme.specs.Values.{SameValues}
 use Rattle.scheme.specs.Laws.Tables.{any-eq}
 use Rattle.scheme.specs.Laws.Cause.{first-none, second-none, class-fits, by-cause}
 use Rattle.scheme.specs.Laws.Values.{Alike, same, alike-where, alike-values, alike-back, cleared-alike, premiums-same, class-same, row-same}
-use Rattle.direction.specs.Direction.{rounded, NotAfter}
 use Rattle.order.specs.States.{at}
 use Rattle.step_spec.specs.declared.StepAnswer.{StepAnswer}
-use Rattle.step_spec.specs.Figure.{stepFigure}
-use Rattle.step_spec.specs.StepAnswer.{payoffOut, stepCause, classRow, Reaches, StepAnswered}
-
--- payoffs that agree on n states: the same figure, reached by the same rows
-module _ (high : Bool) (n : ℕ) (r : IntervalRow) {f g : ℕ → ℕ} (payoffs : (j : ℕ) → j < n → f j ≡ g j) where
-  dot-same : (p : ℕ → ℕ) → dot n p f ≡ dot n p g
-  dot-same p = sumTo-eq n (λ j. p j * f j) (λ j. p j * g j) (λ j l. ap (λ x. p j * x) (payoffs j l))
-
-  reaches-same : {row : ℕ → ℕ} {figure : ℕ} → Reaches high n r f row figure → Reaches high n r g row figure
-  reaches-same {row} w =
-      record {
-        inside = w .inside;
-        extreme = λ p inside. subst₂ (NotAfter high) (dot-same row) (dot-same p) (w .extreme p inside);
-        rounded = w .rounded ∙ ap (rounded high) (dot-same row);
-      }
-
-figure-same : (high : Bool) (n : ℕ) (r : IntervalRow) {f g : ℕ → ℕ} → ((j : ℕ) → j < n → f j ≡ g j) → stepFigure high n r f ≡ stepFigure high n r g
-figure-same false n r payoffs = low-step-agrees (agree-refl n r) payoffs
-figure-same true n r payoffs = high-step-agrees (agree-refl n r) payoffs
+use Rattle.step_spec.specs.StepAnswer.{payoffOut, stepCause, classRow, StepAnswered}
 
 -- what is answered for one scheme and payoff is answered for the other
 module _ {s s′ : Scheme} (w : Alike s s′) (payoff payoff′ : List ℕ) (payoffs : (j : ℕ) → j < s .classes → at payoff j ≡ at payoff′ j) (class : ℕ) where
@@ -66,7 +45,7 @@ module _ {s s′ : Scheme} (w : Alike s s′) (payoff payoff′ : List ℕ) (pay
             a .figure
             ∙ by-cause cause-same
             (λ z.
-            figure-same high (s .classes) (classRow s class) payoffs
+            step-agrees (agree-refl (s .classes) (classRow s class)) payoffs high
             ∙ ap₂ (λ n q. stepFigure high n q (at payoff′)) (values z .classes) (row z))
             refl;
         size = a .size;
@@ -74,7 +53,7 @@ module _ {s s′ : Scheme} (w : Alike s s′) (payoff payoff′ : List ℕ) (pay
         beyond = λ z j l. let v = values (sym (a .number) ∙ z) in a .beyond z j (omega arith);
         reaches = λ z.
             subst₂ (λ n q. Reaches high n q (at payoff′) (at (r .row)) (r .figure)) (values (sym (a .number) ∙ z) .classes) (row (sym (a .number) ∙ z))
-            (reaches-same high (s .classes) (classRow s class) payoffs (a .reaches z));
+            (reaches-agree (agree-refl (s .classes) (classRow s class)) payoffs (λ j l. refl) (a .reaches z));
       }
 
 -- the low and high step of one scheme and payoff have the same answers as those of another

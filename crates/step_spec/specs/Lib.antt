@@ -1,6 +1,5 @@
--- Read in this order: the figure of a class, the answer of the public one-year step, worked cases.
+-- Read in this order: the answer of the public one-year step, worked cases.
 -- Ignored proves that values beyond s and m are ignored, and payoffs beyond s.
-pub mod Figure
 pub mod StepAnswer
 pub mod Examples
 pub mod Ignored

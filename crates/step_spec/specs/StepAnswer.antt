@@ -5,17 +5,14 @@ use mathlib.Core.Bool.{Bool, cond, _||_}
 use mathlib.Core.List.{List}
 use lib.Dec.{eqb, ltb}
 use lib.ListN.{length, replicate}
-use Rattle.setchain.specs.Sums.{dot}
 use Rattle.setchain.specs.Rows.{IntervalRow}
-use Rattle.setchain.specs.Step.{Parts}
+use Rattle.setchain.specs.Step.{stepFigure, Reaches}
 use Rattle.scheme.specs.declared.Scheme.{Scheme}
 use Rattle.scheme.specs.Tables.{anyBelow}
 use Rattle.scheme.specs.Cause.{premiumOut, causeWhere, orElse, classCause}
 use Rattle.scheme.specs.Rows.{chainOf}
-use Rattle.direction.specs.Direction.{rounded, NotAfter}
 use Rattle.step_spec.specs.declared.StepAnswer.{StepAnswer}
 use Rattle.order.specs.States.{at}
-use Rattle.step_spec.specs.Figure.{stepFigure}
 
 -- "A payoff is a whole number for each class, 0 to 1,000,000,000": some class's is above; "payoffs stored beyond s are ignored"
 unfoldable pub payoffOut : Scheme → List ℕ → Bool
@@ -28,15 +25,6 @@ stepCause s payoff class = orElse (causeWhere s (premiumOut s || payoffOut s pay
 -- the interval row of a class, numbered from 1
 abbrev pub classRow : Scheme → ℕ → IntervalRow
 classRow s class = chainOf s .row (class - 1)
-
--- "a row inside the interval that reaches its unrounded figure", low or high: over n states, for an interval row, a payoff and a figure
-pub record Reaches (high : Bool) (n : ℕ) (interval : IntervalRow) (payoff row : ℕ → ℕ) (figure : ℕ) : Type 0 where
-  -- whole parts inside the interval; "its parts sum to exactly ONE"
-  pub inside : Parts n interval row
-  -- no row of whole parts inside the interval has a smaller sum of part times payoff (for the high step: a greater)
-  pub extreme : (p : ℕ → ℕ) → Parts n interval p → NotAfter high (dot n row payoff) (dot n p payoff)
-  -- the figure is this row's sum of part times payoff over ONE, rounded down (for the high step: up)
-  pub rounded : figure ≡ rounded high (dot n row payoff)
 
 -- what the low step answers (`high` is false), and the high step (`high` is true)
 pub record StepAnswered (high : Bool) (s : Scheme) (payoff : List ℕ) (class : ℕ) (r : StepAnswer) : Type 0 where

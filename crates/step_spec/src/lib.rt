@@ -1,4 +1,4 @@
-// What the one-year step answers, and the limit of its payoffs. The figures, the causes and the rows that reach the figures are defined in specs/.
+// What the one-year step answers, and the limit of its payoffs. The answer and its causes are defined in specs/, the figures and the rows that reach them in crate `setchain`.
 
 // The limit of a payoff in the one-year step.
 pub const MOST_PAYOFF: u64 = 1_000_000_000;

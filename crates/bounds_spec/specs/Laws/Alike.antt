@@ -1,11 +1,11 @@
 -- Schemes with the same values have the same causes of a query and, where they are accepted, the same figures.
 use Prim.Native.Nat.{ℕ, suc, _+_, _-_, _*_, _/_, _%_, _<_}
 use mathlib.Core.Path.{_≡_, refl, ap, ap₂, _∙_}
-use mathlib.Core.Bool.{cond}
+use mathlib.Core.Bool.{Bool, cond}
 use lib.Dec.{ltb}
 use native.Mathlib.Omega.{arith}
-use Rattle.setchain.specs.Years.{lowYears, highYears, lowShare, highShare, lowMean, highMean, lowTotal, highTotal}
-use Rattle.setchain.specs.Laws.Agreeing.{Agree, low-years-agree, high-years-agree}
+use Rattle.setchain.specs.Years.{yearsFigure, shareFigure, meanFigure, totalFigure}
+use Rattle.setchain.specs.Laws.Agreeing.{Agree, years-agree}
 use Rattle.scheme.specs.declared.Scheme.{Scheme}
 use Rattle.scheme.specs.Tables.{tab}
 use Rattle.scheme.specs.Access.{premiumAt}
@@ -16,8 +16,8 @@ use Rattle.scheme.specs.Laws.Cause.{first-none, by-cause}
 use Rattle.scheme.specs.Laws.Judged.{accepted-cause}
 use Rattle.scheme.specs.Laws.Values.{Alike, alike-values, alike-next, class-same, year-same, lower-same, upper-same}
 use Rattle.bounds_spec.specs.Causes.{shareCause, moneyCause, slicesCause, sheetLengthsCause, tableSize, tableLengthsCause}
-use Rattle.bounds_spec.specs.Answers.{startOf, lowShares, highShares}
-use Rattle.bounds_spec.specs.Table.{tableEntry, lowTable, highTable}
+use Rattle.bounds_spec.specs.Answers.{startOf, figureShares}
+use Rattle.bounds_spec.specs.Table.{tableEntry, figureTable}
 
 -- the figures of accepted schemes with the same values
 module _ {s s′ : Scheme} (v : SameValues s s′) (none : causeOf s ≡ 0) where
@@ -30,58 +30,36 @@ module _ {s s′ : Scheme} (v : SameValues s s′) (none : causeOf s ≡ 0) wher
   start : startOf s ≡ startOf s′
   start = ap (λ x. x - 1) (v .start)
 
-  module _ {payoff payoff′ gain gain′ : ℕ → ℕ}
+  module _ (high : Bool) {payoff payoff′ gain gain′ : ℕ → ℕ}
       (payoffs : (i : ℕ) → i < s .classes → payoff i ≡ payoff′ i) (gains : (i : ℕ) → i < s .classes → gain i ≡ gain′ i) (t : ℕ) where
-    low-start : lowYears (chainOf s) payoff gain t (startOf s) ≡ lowYears (chainOf s′) payoff′ gain′ t (startOf s′)
-    low-start = low-years-agree (v .classes) rows payoffs gains t (startOf s) within ∙ ap (lowYears (chainOf s′) payoff′ gain′ t) start
+    figure-start : yearsFigure high (chainOf s) payoff gain t (startOf s) ≡ yearsFigure high (chainOf s′) payoff′ gain′ t (startOf s′)
+    figure-start = years-agree (v .classes) rows payoffs gains high t (startOf s) within ∙ ap (yearsFigure high (chainOf s′) payoff′ gain′ t) start
 
-    high-start : highYears (chainOf s) payoff gain t (startOf s) ≡ highYears (chainOf s′) payoff′ gain′ t (startOf s′)
-    high-start = high-years-agree (v .classes) rows payoffs gains t (startOf s) within ∙ ap (highYears (chainOf s′) payoff′ gain′ t) start
+  module _ (high : Bool) where
+    pub share-same : (t j : ℕ) → shareFigure high (chainOf s) j t (startOf s) ≡ shareFigure high (chainOf s′) j t (startOf s′)
+    share-same t j = figure-start high (λ i l. refl) (λ i l. refl) t
 
-  pub low-share-same : (t j : ℕ) → lowShare (chainOf s) j t (startOf s) ≡ lowShare (chainOf s′) j t (startOf s′)
-  low-share-same t j = low-start (λ i l. refl) (λ i l. refl) t
+    pub mean-same : (t : ℕ) → meanFigure high (chainOf s) (premiumAt s) t (startOf s) ≡ meanFigure high (chainOf s′) (premiumAt s′) t (startOf s′)
+    mean-same t = figure-start high (v .premiums) (λ i l. refl) t
 
-  pub high-share-same : (t j : ℕ) → highShare (chainOf s) j t (startOf s) ≡ highShare (chainOf s′) j t (startOf s′)
-  high-share-same t j = high-start (λ i l. refl) (λ i l. refl) t
+    pub total-same : (t : ℕ) → totalFigure high (chainOf s) (premiumAt s) t (startOf s) ≡ totalFigure high (chainOf s′) (premiumAt s′) t (startOf s′)
+    total-same t = figure-start high (λ i l. refl) (v .premiums) t
 
-  pub low-mean-same : (t : ℕ) → lowMean (chainOf s) (premiumAt s) t (startOf s) ≡ lowMean (chainOf s′) (premiumAt s′) t (startOf s′)
-  low-mean-same t = low-start (v .premiums) (λ i l. refl) t
+    pub shares-same : (year : ℕ) → figureShares high s year ≡ figureShares high s′ year
+    unfolding figureShares
+    shares-same year = λ k. tab (v .classes k) (λ j. share-same year j k)
 
-  pub high-mean-same : (t : ℕ) → highMean (chainOf s) (premiumAt s) t (startOf s) ≡ highMean (chainOf s′) (premiumAt s′) t (startOf s′)
-  high-mean-same t = high-start (v .premiums) (λ i l. refl) t
-
-  pub low-total-same : (t : ℕ) → lowTotal (chainOf s) (premiumAt s) t (startOf s) ≡ lowTotal (chainOf s′) (premiumAt s′) t (startOf s′)
-  low-total-same t = low-start (λ i l. refl) (v .premiums) t
-
-  pub high-total-same : (t : ℕ) → highTotal (chainOf s) (premiumAt s) t (startOf s) ≡ highTotal (chainOf s′) (premiumAt s′) t (startOf s′)
-  high-total-same t = high-start (λ i l. refl) (v .premiums) t
-
-  pub low-shares-same : (year : ℕ) → lowShares s year ≡ lowShares s′ year
-  unfolding lowShares
-  low-shares-same year = λ k. tab (v .classes k) (λ j. low-share-same year j k)
-
-  pub high-shares-same : (year : ℕ) → highShares s year ≡ highShares s′ year
-  unfolding highShares
-  high-shares-same year = λ k. tab (v .classes k) (λ j. high-share-same year j k)
-
-  -- tables of the same figures
-  table-same : (share share′ : ℕ → ℕ → ℕ) (mean mean′ : ℕ → ℕ) (total total′ : ℕ)
-      → ((t j : ℕ) → share t j ≡ share′ t j) → ((t : ℕ) → mean t ≡ mean′ t) → total ≡ total′
-      → tab (tableSize s) (tableEntry s share mean total) ≡ tab (tableSize s′) (tableEntry s′ share′ mean′ total′)
-  unfolding tableEntry
-  table-same share share′ mean mean′ total total′ es em et =
-      λ k.
-      let row : ℕ = suc (v .classes k) in
-      let place : ℕ = suc (v .horizon k) * row in
-      tab (place + 1) (λ p. cond (ltb p place) (cond (ltb (p % row) (v .classes k)) (es (p / row) (p % row) k) (em (p / row) k)) (et k))
-
-  pub low-table-same : lowTable s ≡ lowTable s′
-  unfolding lowTable
-  low-table-same = table-same _ _ _ _ _ _ low-share-same low-mean-same (low-total-same (s .horizon) ∙ ap (λ t. lowTotal (chainOf s′) (premiumAt s′) t (startOf s′)) (v .horizon))
-
-  pub high-table-same : highTable s ≡ highTable s′
-  unfolding highTable
-  high-table-same = table-same _ _ _ _ _ _ high-share-same high-mean-same (high-total-same (s .horizon) ∙ ap (λ t. highTotal (chainOf s′) (premiumAt s′) t (startOf s′)) (v .horizon))
+    -- tables of the same figures
+    pub table-same : figureTable high s ≡ figureTable high s′
+    unfolding figureTable tableEntry
+    table-same =
+        λ k.
+        let row : ℕ = suc (v .classes k) in
+        let place : ℕ = suc (v .horizon k) * row in
+        tab (place + 1) (λ p. cond (ltb p place) (cond (ltb (p % row) (v .classes k)) (share-same (p / row) (p % row) k) (mean-same (p / row) k)) (total k))
+      where
+        total : totalFigure high (chainOf s) (premiumAt s) (s .horizon) (startOf s) ≡ totalFigure high (chainOf s′) (premiumAt s′) (s′ .horizon) (startOf s′)
+        total = total-same (s .horizon) ∙ ap (λ t. totalFigure high (chainOf s′) (premiumAt s′) t (startOf s′)) (v .horizon)
 
 -- the causes of schemes that no operation tells apart, and what holds where there is none
 module _ {s s′ : Scheme} (w : Alike s s′) where

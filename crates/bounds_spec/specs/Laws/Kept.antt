@@ -2,14 +2,14 @@
 use Prim.Native.Nat.{ℕ, _-_, _<_}
 use mathlib.Core.Path.{_≡_, ap, sym, _∙_, subst, subst₂}
 use mathlib.Core.List.{List}
-use mathlib.Core.Bool.{cond, not, _||_}
+use mathlib.Core.Bool.{Bool, true, false, cond, not, _||_}
 use lib.Dec.{eqb}
 use lib.ListN.{getD, length}
 use native.Mathlib.Decide.{ℕ-discrete}
 use native.Mathlib.Omega.{arith}
 use Rattle.setchain.specs.Fractions.{Fraction}
 use Rattle.setchain.specs.Picks.{Matrix, PicksFor, exactMean, exactTotal}
-use Rattle.setchain.specs.Years.{lowShare, highShare, lowMean, highMean, lowTotal, highTotal}
+use Rattle.setchain.specs.Years.{shareFigure, lowShare, highShare, lowMean, highMean, lowTotal, highTotal}
 use Rattle.setchain.specs.Promise.{shareInParts, Promise}
 use Rattle.setchain.specs.Theorems.{share-promise, mean-promise, total-promise, some-picks}
 use Rattle.scheme.specs.declared.Scheme.{Scheme}
@@ -22,10 +22,10 @@ use Rattle.scheme.specs.Laws.Judged.{accepted-cause}
 use Rattle.scheme.specs.Laws.Sound.{accepted-sound}
 use Rattle.scheme.specs.Laws.Tab.{getD-tab}
 use Rattle.bounds_spec.specs.declared.Bounds.the-variants.{Answered, Refused}
-use Rattle.bounds_spec.specs.Answers.{numberOf, lowOf, highOf, answerBy, startOf, shareCause, shareAnswer, moneyCause, meanAnswer, totalAnswer, sheetCause, sliceCause, sheetSlice, lowShares, highShares}
+use Rattle.bounds_spec.specs.Answers.{numberOf, lowOf, highOf, answerBy, startOf, shareCause, shareAnswer, moneyCause, meanAnswer, totalAnswer, sheetCause, sliceCause, sheetSlice, figureShares, lowShares, highShares}
 use Rattle.bounds_spec.specs.Promises.{Kept, startShare, startMean, startTotal, SharePromise, MeanPromise, TotalPromise, SheetPromise, TableKept, FiguresPromise}
 use Rattle.bounds_spec.specs.Table.{tableSize, lowTable, highTable, tableCause}
-use Rattle.bounds_spec.specs.Laws.Table.{low-share-at, high-share-at, low-mean-at, high-mean-at, low-total-at, high-total-at}
+use Rattle.bounds_spec.specs.Laws.Table.{share-at, mean-at, total-at}
 
 -- a promise for every state, at the start class
 at-start : (s : Scheme) → Accepted s → (t : ℕ) (low high : ℕ → ℕ) (exact : List Matrix → ℕ → Fraction) → Promise (chainOf s) t low high exact
@@ -39,6 +39,21 @@ at-start s ok t low high exact p =
   where
     within : startOf s < s .classes
     within = omega (arith, ok .start .positive, ok .start .within)
+
+-- the three figures of a state, each by its theorem
+module _ (s : Scheme) (ok : Accepted s) (t : ℕ) where
+  share-at-start : (j : ℕ) → Kept s t (startShare s j) (lowShare (chainOf s) j t (startOf s)) (highShare (chainOf s) j t (startOf s))
+  share-at-start j = at-start s ok t (lowShare (chainOf s) j t) (highShare (chainOf s) j t) (shareInParts (s .classes) j) (share-promise (chainOf s) (accepted-sound s ok) j t)
+
+  mean-at-start : Kept s t (startMean s) (lowMean (chainOf s) (premiumAt s) t (startOf s)) (highMean (chainOf s) (premiumAt s) t (startOf s))
+  mean-at-start =
+      at-start s ok t (lowMean (chainOf s) (premiumAt s) t) (highMean (chainOf s) (premiumAt s) t) (exactMean (s .classes) (premiumAt s))
+      (mean-promise (chainOf s) (accepted-sound s ok) (premiumAt s) t)
+
+  total-at-start : Kept s t (startTotal s) (lowTotal (chainOf s) (premiumAt s) t (startOf s)) (highTotal (chainOf s) (premiumAt s) t (startOf s))
+  total-at-start =
+      at-start s ok t (lowTotal (chainOf s) (premiumAt s) t) (highTotal (chainOf s) (premiumAt s) t) (exactTotal (s .classes) (premiumAt s))
+      (total-promise (chainOf s) (accepted-sound s ok) (premiumAt s) t)
 
 -- an answer's number is its cause
 answer-number : (n low high : ℕ) → numberOf (answerBy n low high) ≡ n
@@ -59,47 +74,37 @@ pub share-kept : (s : Scheme) (class year : ℕ) → SharePromise s class year (
 unfolding shareAnswer
 share-kept s class year =
     kept-answer s year (shareCause s class year) _ _ (startShare s (class - 1))
-    (λ z.
-    let ok : Accepted s = accepted-cause s (first-none (causeOf s) (orElse (classCause s class) (yearCause s year)) z) in
-    at-start s ok year (lowShare (chainOf s) (class - 1) year) (highShare (chainOf s) (class - 1) year) (shareInParts (s .classes) (class - 1))
-    (share-promise (chainOf s) (accepted-sound s ok) (class - 1) year))
+    (λ z. share-at-start s (accepted-cause s (first-none (causeOf s) (orElse (classCause s class) (yearCause s year)) z)) year (class - 1))
 
 pub mean-kept : (s : Scheme) (year : ℕ) → MeanPromise s year (meanAnswer s year)
 unfolding meanAnswer
 mean-kept s year =
     kept-answer s year (moneyCause s year) _ _ (startMean s)
-    (λ z.
-    let ok : Accepted s = accepted-cause s (first-none (causeOf s) (yearCause s year) z) in
-    at-start s ok year (lowMean (chainOf s) (premiumAt s) year) (highMean (chainOf s) (premiumAt s) year) (exactMean (s .classes) (premiumAt s))
-    (mean-promise (chainOf s) (accepted-sound s ok) (premiumAt s) year))
+    (λ z. mean-at-start s (accepted-cause s (first-none (causeOf s) (yearCause s year) z)) year)
 
 pub total-kept : (s : Scheme) (year : ℕ) → TotalPromise s year (totalAnswer s year)
 unfolding totalAnswer
 total-kept s year =
     kept-answer s year (moneyCause s year) _ _ (startTotal s)
-    (λ z.
-    let ok : Accepted s = accepted-cause s (first-none (causeOf s) (yearCause s year) z) in
-    at-start s ok year (lowTotal (chainOf s) (premiumAt s) year) (highTotal (chainOf s) (premiumAt s) year) (exactTotal (s .classes) (premiumAt s))
-    (total-promise (chainOf s) (accepted-sound s ok) (premiumAt s) year))
+    (λ z. total-at-start s (accepted-cause s (first-none (causeOf s) (yearCause s year) z)) year)
 
 -- of the slices as a share sheet leaves them
 pub sheet-kept : (s : Scheme) (year : ℕ) (low high : List ℕ)
     → SheetPromise s year (sheetCause s year low high)
     (sheetSlice (sheetCause s year low high) (lowShares s year) low)
     (sheetSlice (sheetCause s year low high) (highShares s year) high)
-unfolding sheetCause lowShares highShares
-sheet-kept s year low high z j l =
-    subst₂ (λ a b. Kept s year (startShare s j) a b)
-    (sym (ap (λ x. getD x j 0) (answered number (lowShares s year) low z) ∙ getD-tab (s .classes) (λ k. lowShare (chainOf s) k year (startOf s)) j 0 l))
-    (sym (ap (λ x. getD x j 0) (answered number (highShares s year) high z) ∙ getD-tab (s .classes) (λ k. highShare (chainOf s) k year (startOf s)) j 0 l))
-    (at-start s ok year (lowShare (chainOf s) j year) (highShare (chainOf s) j year) (shareInParts (s .classes) j)
-    (share-promise (chainOf s) (accepted-sound s ok) j year))
+unfolding sheetCause figureShares
+sheet-kept s year low high z j l = subst₂ (Kept s year (startShare s j)) (sym (written false low)) (sym (written true high)) (share-at-start s ok year j)
   where
     number : ℕ
     number = sheetCause s year low high
 
     ok : Accepted s
     ok = accepted-cause s (first-none (causeOf s) (yearCause s year) (first-none (moneyCause s year) (sliceCause s low high) z))
+
+    written : (side : Bool) (before : List ℕ) → getD (sheetSlice number (figureShares side s year) before) j 0 ≡ shareFigure side (chainOf s) j year (startOf s)
+    written side before =
+        ap (λ x. getD x j 0) (answered number (figureShares side s year) before z) ∙ getD-tab (s .classes) (λ k. shareFigure side (chainOf s) k year (startOf s)) j 0 l
 
 -- the promises are not empty: picks for any number of years exist
 pub picks-exist : (s : Scheme) → Accepted s → (t : ℕ) → (ps : List Matrix) × PicksFor (chainOf s) t ps
@@ -109,18 +114,9 @@ picks-exist s ok t = some-picks (chainOf s) (accepted-sound s ok) t
 table-kept : (s : Scheme) → Accepted s → TableKept s (lowTable s) (highTable s)
 table-kept s ok =
     record {
-      shares = λ t j h l.
-          subst₂ (λ a b. Kept s t (startShare s j) a b) (sym (low-share-at s t h j l)) (sym (high-share-at s t h j l))
-          (at-start s ok t (lowShare (chainOf s) j t) (highShare (chainOf s) j t) (shareInParts (s .classes) j)
-          (share-promise (chainOf s) (accepted-sound s ok) j t));
-      means = λ t h.
-          subst₂ (λ a b. Kept s t (startMean s) a b) (sym (low-mean-at s t h)) (sym (high-mean-at s t h))
-          (at-start s ok t (lowMean (chainOf s) (premiumAt s) t) (highMean (chainOf s) (premiumAt s) t) (exactMean (s .classes) (premiumAt s))
-          (mean-promise (chainOf s) (accepted-sound s ok) (premiumAt s) t));
-      total =
-          subst₂ (λ a b. Kept s (s .horizon) (startTotal s) a b) (sym (low-total-at s)) (sym (high-total-at s))
-          (at-start s ok (s .horizon) (lowTotal (chainOf s) (premiumAt s) (s .horizon)) (highTotal (chainOf s) (premiumAt s) (s .horizon)) (exactTotal (s .classes) (premiumAt s))
-          (total-promise (chainOf s) (accepted-sound s ok) (premiumAt s) (s .horizon)));
+      shares = λ t j h l. subst₂ (Kept s t (startShare s j)) (sym (share-at false s t h j l)) (sym (share-at true s t h j l)) (share-at-start s ok t j);
+      means = λ t h. subst₂ (Kept s t (startMean s)) (sym (mean-at false s t h)) (sym (mean-at true s t h)) (mean-at-start s ok t);
+      total = subst₂ (Kept s (s .horizon) (startTotal s)) (sym (total-at false s)) (sym (total-at true s)) (total-at-start s ok (s .horizon));
     }
 
 -- of the slices as a call for all figures leaves them

@@ -1,18 +1,19 @@
 -- What stands at each place of a sheet's table.
 use Prim.Native.Nat.{ℕ, suc, _+_, _*_, _/_, _%_, _≤_, _<_}
 use mathlib.Core.Path.{_≡_, ap, _∙_}
+use mathlib.Core.Bool.{Bool}
 use lib.ListN.{getD}
 use native.Mathlib.Omega.{arith}
 use native.Mathlib.Nat.{mul-add-div-right, mul-add-mod-self-right, div-eq-of-lt, mod-eq-of-lt, mul-le-mul-right}
 use borrow.Author.Tests.{lt-ltb, le-ltb}
-use Rattle.setchain.specs.Years.{lowShare, highShare, lowMean, highMean, lowTotal, highTotal}
+use Rattle.setchain.specs.Years.{shareFigure, meanFigure, totalFigure}
 use Rattle.scheme.specs.declared.Scheme.{Scheme}
 use Rattle.scheme.specs.Tables.{tab}
 use Rattle.scheme.specs.Access.{premiumAt}
 use Rattle.scheme.specs.Rows.{chainOf}
 use Rattle.scheme.specs.Laws.Tab.{getD-tab}
 use Rattle.bounds_spec.specs.Answers.{startOf}
-use Rattle.bounds_spec.specs.Table.{placeOf, totalPlace, tableSize, tableEntry, lowTable, highTable}
+use Rattle.bounds_spec.specs.Table.{placeOf, totalPlace, tableSize, tableEntry, figureTable}
 
 module _ (s : Scheme) (share : ℕ → ℕ → ℕ) (mean : ℕ → ℕ) (total : ℕ) where
   -- a place before the total, by its year and number
@@ -55,40 +56,29 @@ module _ (s : Scheme) (share : ℕ → ℕ → ℕ) (mean : ℕ → ℕ) (total 
   entry-total = simp (le-ltb (totalPlace s) (totalPlace s) (omega arith))
 
   -- the same in the list
-  pub table-share : (t j : ℕ) → t ≤ s .horizon → j < s .classes → getD (tab (tableSize s) (tableEntry s share mean total)) (placeOf s t j) 0 ≡ share t j
+  table-share : (t j : ℕ) → t ≤ s .horizon → j < s .classes → getD (tab (tableSize s) (tableEntry s share mean total)) (placeOf s t j) 0 ≡ share t j
   table-share t j h l =
       getD-tab (tableSize s) (tableEntry s share mean total) (placeOf s t j) 0 (let k = place-below t j h (omega arith) in omega arith) ∙ entry-share t j h l
 
-  pub table-mean : (t : ℕ) → t ≤ s .horizon → getD (tab (tableSize s) (tableEntry s share mean total)) (placeOf s t (s .classes)) 0 ≡ mean t
+  table-mean : (t : ℕ) → t ≤ s .horizon → getD (tab (tableSize s) (tableEntry s share mean total)) (placeOf s t (s .classes)) 0 ≡ mean t
   table-mean t h =
       getD-tab (tableSize s) (tableEntry s share mean total) (placeOf s t (s .classes)) 0 (let k = place-below t (s .classes) h (omega arith) in omega arith)
       ∙ entry-mean t h
 
-  pub table-total : getD (tab (tableSize s) (tableEntry s share mean total)) (totalPlace s) 0 ≡ total
+  table-total : getD (tab (tableSize s) (tableEntry s share mean total)) (totalPlace s) 0 ≡ total
   table-total = getD-tab (tableSize s) (tableEntry s share mean total) (totalPlace s) 0 (omega arith) ∙ entry-total
 
--- the low and high tables
-module _ (s : Scheme) (t : ℕ) (h : t ≤ s .horizon) where
-  pub low-share-at : (j : ℕ) → j < s .classes → getD (lowTable s) (placeOf s t j) 0 ≡ lowShare (chainOf s) j t (startOf s)
-  unfolding lowTable
-  low-share-at j l = table-share s _ _ _ t j h l
+-- the table of low or high figures
+module _ (high : Bool) (s : Scheme) where
+  module _ (t : ℕ) (h : t ≤ s .horizon) where
+    pub share-at : (j : ℕ) → j < s .classes → getD (figureTable high s) (placeOf s t j) 0 ≡ shareFigure high (chainOf s) j t (startOf s)
+    unfolding figureTable
+    share-at j l = table-share s _ _ _ t j h l
 
-  pub high-share-at : (j : ℕ) → j < s .classes → getD (highTable s) (placeOf s t j) 0 ≡ highShare (chainOf s) j t (startOf s)
-  unfolding highTable
-  high-share-at j l = table-share s _ _ _ t j h l
+    pub mean-at : getD (figureTable high s) (placeOf s t (s .classes)) 0 ≡ meanFigure high (chainOf s) (premiumAt s) t (startOf s)
+    unfolding figureTable
+    mean-at = table-mean s _ _ _ t h
 
-  pub low-mean-at : getD (lowTable s) (placeOf s t (s .classes)) 0 ≡ lowMean (chainOf s) (premiumAt s) t (startOf s)
-  unfolding lowTable
-  low-mean-at = table-mean s _ _ _ t h
-
-  pub high-mean-at : getD (highTable s) (placeOf s t (s .classes)) 0 ≡ highMean (chainOf s) (premiumAt s) t (startOf s)
-  unfolding highTable
-  high-mean-at = table-mean s _ _ _ t h
-
-pub low-total-at : (s : Scheme) → getD (lowTable s) (totalPlace s) 0 ≡ lowTotal (chainOf s) (premiumAt s) (s .horizon) (startOf s)
-unfolding lowTable
-low-total-at s = table-total s _ _ _
-
-pub high-total-at : (s : Scheme) → getD (highTable s) (totalPlace s) 0 ≡ highTotal (chainOf s) (premiumAt s) (s .horizon) (startOf s)
-unfolding highTable
-high-total-at s = table-total s _ _ _
+  pub total-at : getD (figureTable high s) (totalPlace s) 0 ≡ totalFigure high (chainOf s) (premiumAt s) (s .horizon) (startOf s)
+  unfolding figureTable
+  total-at = table-total s _ _ _

@@ -5,11 +5,12 @@ use mathlib.Core.Path.{_≡_, ap, sym, _∙_, subst₂}
 use mathlib.Core.Bool.{Bool}
 use mathlib.Core.List.{List}
 use lib.ListN.{length}
+use Rattle.setchain.specs.Step.{Reaches}
 use Rattle.scheme.specs.declared.Scheme.{Scheme}
 use Rattle.scheme.specs.Laws.Cause.{declined, answered}
 use Rattle.step_spec.specs.declared.StepAnswer.{StepAnswer}
 use Rattle.order.specs.States.{at}
-use Rattle.step_spec.specs.StepAnswer.{classRow, Reaches, StepAnswered}
+use Rattle.step_spec.specs.StepAnswer.{classRow, StepAnswered}
 use Rattle.joguyvi_spec.specs.Buffers.{filledWhere}
 use Rattle.joguyvi_spec.specs.Steps.{payoffOf, RowKept}
 

@@ -1,13 +1,13 @@
 -- Interval rows, payoffs and gains that agree on n states have the same figures: nothing is read of the states from n on.
-use Prim.Native.Nat.{ℕ, zero, suc, min, _+_, _-_, _*_, _/_, _<_}
-use mathlib.Core.Path.{_≡_, refl, ap, ap₂, sym, _∙_}
+use Prim.Native.Nat.{ℕ, zero, suc, min, _+_, _-_, _*_, _<_}
+use mathlib.Core.Path.{_≡_, refl, ap, ap₂, sym, _∙_, subst₂}
 use native.Mathlib.Omega.{arith}
-use mathlib.Core.Bool.{Bool, _&&_, _||_}
+use mathlib.Core.Bool.{Bool, true, false, _&&_, _||_}
 use lib.Dec.{eqb, ltb}
 use Rattle.setchain.specs.Sums.{onlyIf, dot}
 use Rattle.setchain.specs.Rows.{ONE, IntervalRow, SoundRow, SetChain}
-use Rattle.setchain.specs.Step.{room, spare, rising, falling, roomBefore, fillRow, lowStep, highStep, Parts}
-use Rattle.setchain.specs.Years.{lowYears, highYears}
+use Rattle.setchain.specs.Step.{rounded, capacity, slack, rising, before, capacityBefore, fillRow, stepFigure, NotAfter, Parts, Reaches}
+use Rattle.setchain.specs.Years.{yearsFigure}
 use Rattle.setchain.specs.Laws.Sums.{sumTo-eq}
 
 -- two rows have the same entries for the first n states
@@ -33,6 +33,20 @@ parts-agree {n} {p = p} {p′ = p′} s e w =
       below = λ j l. omega (arith, s .upper j l, e j l, w .below j l);
     }
 
+-- the sum of part times payoff looks at states below n alone
+dot-agrees : (n : ℕ) {p p′ f f′ : ℕ → ℕ} → ((j : ℕ) → j < n → p j ≡ p′ j) → ((j : ℕ) → j < n → f j ≡ f′ j) → dot n p f ≡ dot n p′ f′
+dot-agrees n {p} {p′} {f} {f′} e g = sumTo-eq n (λ j. p j * f j) (λ j. p′ j * f′ j) (λ j l. ap₂ (λ x y. x * y) (e j l) (g j l))
+
+-- so a figure that is reached is reached for all that agrees below n
+pub reaches-agree : {high : Bool} {n : ℕ} {r r′ : IntervalRow} {f f′ p p′ : ℕ → ℕ} {v : ℕ}
+    → Agree n r r′ → ((j : ℕ) → j < n → f j ≡ f′ j) → ((j : ℕ) → j < n → p j ≡ p′ j) → Reaches high n r f p v → Reaches high n r′ f′ p′ v
+reaches-agree {high} {n} s g e w =
+    record {
+      inside = parts-agree s e (w .inside);
+      extreme = λ q h. subst₂ (NotAfter high) (dot-agrees n e g) (dot-agrees n (λ j l. refl) g) (w .extreme q (parts-agree (agree-sym s) (λ j l. refl) h));
+      rounded = w .rounded ∙ ap (rounded high) (dot-agrees n e g);
+    }
+
 -- one is sound where the other is
 pub sound-agrees : {n : ℕ} {r q : IntervalRow} → Agree n r q → SoundRow n r → SoundRow n q
 sound-agrees {n} {r} {q} same s =
@@ -45,56 +59,43 @@ sound-agrees {n} {r} {q} same s =
 
 -- rows and payoffs that agree below n
 module _ {n : ℕ} {r q : IntervalRow} (rows : Agree n r q) where
-  room-agrees : (j : ℕ) → j < n → room r j ≡ room q j
-  room-agrees j l = ap₂ (λ x y. x - y) (rows .upper j l) (rows .lower j l)
+  capacity-agrees : (j : ℕ) → j < n → capacity r j ≡ capacity q j
+  capacity-agrees j l = ap₂ (λ x y. x - y) (rows .upper j l) (rows .lower j l)
 
-  spare-agrees : spare n r ≡ spare n q
-  spare-agrees = ap (λ x. ONE - x) (sumTo-eq n (r .lower) (q .lower) (rows .lower))
+  slack-agrees : slack n r ≡ slack n q
+  slack-agrees = ap (λ x. ONE - x) (sumTo-eq n (r .lower) (q .lower) (rows .lower))
 
   -- filled along orders that agree below n
-  fill-agrees : (before before′ : ℕ → ℕ → Bool) → ((k j : ℕ) → k < n → j < n → before k j ≡ before′ k j)
-      → (j : ℕ) → j < n → fillRow n r before j ≡ fillRow n q before′ j
-  unfolding fillRow roomBefore
-  fill-agrees before before′ order j l =
+  fill-agrees : (order order′ : ℕ → ℕ → Bool) → ((k j : ℕ) → k < n → j < n → order k j ≡ order′ k j)
+      → (j : ℕ) → j < n → fillRow n r order j ≡ fillRow n q order′ j
+  unfolding fillRow capacityBefore
+  fill-agrees order order′ same j l =
       ap₂ (λ x y. x + y) (rows .lower j l)
-      (ap₂ min (room-agrees j l)
-      (ap₂ (λ x y. x - y) spare-agrees
-      (sumTo-eq n (λ k. onlyIf (before k j) (room r k)) (λ k. onlyIf (before′ k j) (room q k))
-      (λ k m. ap₂ onlyIf (order k j m l) (room-agrees k m)))))
+      (ap₂ min (capacity-agrees j l)
+      (ap₂ (λ x y. x - y) slack-agrees
+      (sumTo-eq n (λ k. onlyIf (order k j) (capacity r k)) (λ k. onlyIf (order′ k j) (capacity q k))
+      (λ k m. ap₂ onlyIf (same k j m l) (capacity-agrees k m)))))
 
   module _ {f g : ℕ → ℕ} (payoffs : (j : ℕ) → j < n → f j ≡ g j) where
-    order-agrees : (k j : ℕ) → k < n → j < n → rising f k j ≡ rising g k j
-    order-agrees k j m l = ap₂ (λ x y. ltb x y || eqb x y && ltb k j) (payoffs k m) (payoffs j l)
+    rising-agrees : (k j : ℕ) → k < n → j < n → rising f k j ≡ rising g k j
+    rising-agrees k j m l = ap₂ (λ x y. ltb x y || eqb x y && ltb k j) (payoffs k m) (payoffs j l)
 
-    dot-agrees : (before before′ : ℕ → ℕ → Bool) → ((k j : ℕ) → k < n → j < n → before k j ≡ before′ k j)
-        → dot n (fillRow n r before) f ≡ dot n (fillRow n q before′) g
-    dot-agrees before before′ order =
-        sumTo-eq n (λ j. fillRow n r before j * f j) (λ j. fillRow n q before′ j * g j)
-        (λ j l. ap₂ (λ x y. x * y) (fill-agrees before before′ order j l) (payoffs j l))
+    before-agrees : (high : Bool) (k j : ℕ) → k < n → j < n → before high f k j ≡ before high g k j
+    before-agrees false k j m l = rising-agrees k j m l
+    before-agrees true k j m l = rising-agrees j k l m
 
-    pub low-step-agrees : lowStep n r f ≡ lowStep n q g
-    unfolding lowStep
-    low-step-agrees = ap (λ x. x / ONE) (dot-agrees (rising f) (rising g) order-agrees)
-
-    pub high-step-agrees : highStep n r f ≡ highStep n q g
-    unfolding highStep
-    high-step-agrees = ap (λ x. (x + (ONE - 1)) / ONE) (dot-agrees (falling f) (falling g) (λ k j m l. order-agrees j k l m))
+    pub step-agrees : (high : Bool) → stepFigure high n r f ≡ stepFigure high n q g
+    unfolding stepFigure
+    step-agrees high = ap (rounded high) (dot-agrees n (fill-agrees (before high f) (before high g) (before-agrees high)) payoffs)
 
 -- chains, payoffs and gains that agree on the states
 module _ {c d : SetChain} (states : c .states ≡ d .states) (rows : (i : ℕ) → i < c .states → Agree (c .states) (c .row i) (d .row i))
     {payoff payoff′ gain gain′ : ℕ → ℕ}
     (payoffs : (i : ℕ) → i < c .states → payoff i ≡ payoff′ i)
-    (gains : (i : ℕ) → i < c .states → gain i ≡ gain′ i) where
-  pub low-years-agree : (t i : ℕ) → i < c .states → lowYears c payoff gain t i ≡ lowYears d payoff′ gain′ t i
-  unfolding lowYears
-  low-years-agree zero i l = payoffs i l
-  low-years-agree (suc t) i l =
+    (gains : (i : ℕ) → i < c .states → gain i ≡ gain′ i) (high : Bool) where
+  pub years-agree : (t i : ℕ) → i < c .states → yearsFigure high c payoff gain t i ≡ yearsFigure high d payoff′ gain′ t i
+  unfolding yearsFigure
+  years-agree zero i l = payoffs i l
+  years-agree (suc t) i l =
       ap₂ (λ x y. x + y) (gains i l)
-      (low-step-agrees (rows i l) (low-years-agree t) ∙ ap (λ n. lowStep n (d .row i) (lowYears d payoff′ gain′ t)) states)
-
-  pub high-years-agree : (t i : ℕ) → i < c .states → highYears c payoff gain t i ≡ highYears d payoff′ gain′ t i
-  unfolding highYears
-  high-years-agree zero i l = payoffs i l
-  high-years-agree (suc t) i l =
-      ap₂ (λ x y. x + y) (gains i l)
-      (high-step-agrees (rows i l) (high-years-agree t) ∙ ap (λ n. highStep n (d .row i) (highYears d payoff′ gain′ t)) states)
+      (step-agrees (rows i l) (years-agree t) high ∙ ap (λ n. stepFigure high n (d .row i) (yearsFigure high d payoff′ gain′ t)) states)

@@ -1,13 +1,14 @@
 -- The certificate theorem: a row of whole parts with a certificate is extreme among the rows inside over EVERY M.
 use Prim.Native.Nat.{ℕ, _+_, _*_, _≤_, _<_}
-use mathlib.Core.Path.{_≡_, ap, sym, _∙_}
+use mathlib.Core.Path.{_≡_, ap, sym, _∙_, subst₂}
+use mathlib.Core.Bool.{Bool, true, false}
 use native.Mathlib.Decide.{decLt}
 use native.Mathlib.Omega.{arith}
 use native.Mathlib.Nat.{mul-le-mul-right, le-dest}
 use Rattle.setchain.specs.Sums.{sumTo, dot}
 use Rattle.setchain.specs.Rows.{ONE, IntervalRow, Row, Inside}
-use Rattle.setchain.specs.Step.{Parts}
-use Rattle.setchain.specs.Certificate.{LowCertificate, HighCertificate}
+use Rattle.setchain.specs.Step.{NotAfter, Parts}
+use Rattle.setchain.specs.Certificate.{Ahead, Certificate}
 use Rattle.setchain.specs.Laws.Sums.{sumTo-eq, sumTo-le, sumTo-add, sumTo-scale}
 
 -- at one state: y is the larger above the threshold and the smaller below it
@@ -35,9 +36,9 @@ exchange x y f θ below above = by (decLt f θ) (decLt θ f)
     by (no l) (no g) = equal (omega arith)
 
 -- two rows of equal sums: the one that has more below a threshold, and less above it, brings no more
-pub sum-exchange : (n : ℕ) (x y f : ℕ → ℕ) (θ : ℕ) → ((j : ℕ) → j < n → f j < θ → y j ≤ x j) → ((j : ℕ) → j < n → θ < f j → x j ≤ y j)
+least-exchange : (n : ℕ) (x y f : ℕ → ℕ) (θ : ℕ) → ((j : ℕ) → j < n → f j < θ → y j ≤ x j) → ((j : ℕ) → j < n → θ < f j → x j ≤ y j)
     → sumTo n x ≡ sumTo n y → dot n x f ≤ dot n y f
-sum-exchange n x y f θ below above e =
+least-exchange n x y f θ below above e =
     omega (
       arith,
       sumTo-le n (λ j. x j * f j + y j * θ) (λ j. y j * f j + x j * θ) (λ j l. exchange (x j) (y j) (f j) θ (below j l) (above j l)),
@@ -47,6 +48,12 @@ sum-exchange n x y f θ below above e =
       sumTo-scale n y θ,
       ap (λ s. s * θ) e,
     )
+
+-- the same for either figure: the row that has more before a threshold, and less after it, is at least as extreme
+pub sum-exchange : (high : Bool) (n : ℕ) (x y f : ℕ → ℕ) (θ : ℕ) → ((j : ℕ) → j < n → Ahead high (f j) θ → y j ≤ x j) → ((j : ℕ) → j < n → Ahead high θ (f j) → x j ≤ y j)
+    → sumTo n x ≡ sumTo n y → NotAfter high (dot n x f) (dot n y f)
+sum-exchange false n x y f θ more less e = least-exchange n x y f θ more less e
+sum-exchange true n x y f θ more less e = least-exchange n y x f θ less more (sym e)
 
 -- a dot product whose parts all carry one factor
 pub dot-scale : (n : ℕ) (x f : ℕ → ℕ) (c : ℕ) → dot n (λ j. x j * c) f ≡ dot n x f * c
@@ -59,22 +66,12 @@ sums-agree n r p q hp hq =
     omega
     (arith, sumTo-scale n p (q .over), sumTo-scale n (q .entry) ONE, ap (λ s. s * q .over) (hp .sums), hq .sums)
 
--- M · Σ p·f ≤ ONE · Σ q·f for every row q inside, over any M
-pub low-certified : (n : ℕ) (r : IntervalRow) (f p : ℕ → ℕ) → Parts n r p → LowCertificate n r f p → (q : Row) → Inside n r q
-    → dot n p f * q .over ≤ dot n (q .entry) f * ONE
-low-certified n r f p hp cert q hq =
-    rw (← dot-scale n p f (q .over), ← dot-scale n (q .entry) f ONE)
-    (sum-exchange n (λ j. p j * q .over) (λ j. q .entry j * ONE) f (cert .threshold)
-    (λ j l lt. rw (cert .filled j l lt) (hq .below j l))
-    (λ j l gt. rw (cert .bare j l gt) (hq .above j l))
+-- M · Σ p·f ≤ ONE · Σ q·f for every row q inside, over any M; for a high figure ≥
+pub certified : (high : Bool) (n : ℕ) (r : IntervalRow) (f p : ℕ → ℕ) → Parts n r p → Certificate high n r f p → (q : Row) → Inside n r q
+    → NotAfter high (dot n p f * q .over) (dot n (q .entry) f * ONE)
+certified high n r f p hp cert q hq =
+    subst₂ (NotAfter high) (dot-scale n p f (q .over)) (dot-scale n (q .entry) f ONE)
+    (sum-exchange high n (λ j. p j * q .over) (λ j. q .entry j * ONE) f (cert .threshold)
+    (λ j l h. rw (cert .filled j l h) (hq .below j l))
+    (λ j l h. rw (cert .bare j l h) (hq .above j l))
     (sums-agree n r p q hp hq))
-
--- the mirror image: ONE · Σ q·f ≤ M · Σ p·f
-pub high-certified : (n : ℕ) (r : IntervalRow) (f p : ℕ → ℕ) → Parts n r p → HighCertificate n r f p → (q : Row) → Inside n r q
-    → dot n (q .entry) f * ONE ≤ dot n p f * q .over
-high-certified n r f p hp cert q hq =
-    rw (← dot-scale n p f (q .over), ← dot-scale n (q .entry) f ONE)
-    (sum-exchange n (λ j. q .entry j * ONE) (λ j. p j * q .over) f (cert .threshold)
-    (λ j l lt. rw (cert .bare j l lt) (hq .above j l))
-    (λ j l gt. rw (cert .filled j l gt) (hq .below j l))
-    (sym (sums-agree n r p q hp hq)))

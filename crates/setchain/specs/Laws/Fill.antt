@@ -1,4 +1,4 @@
--- The fill: spare parts given along a strict order of the states leave a row that sums to ONE, and a pivot state
+-- The fill: the slack given along a strict order of the states leaves a row that sums to ONE, and a pivot state
 -- before which every state is filled and after which none has got anything.
 use Prim.Native.Nat.{ℕ, zero, suc, min, _+_, _-_, _≤_, _<_}
 use mathlib.Core.Path.{_≡_, refl, ap, sym, _∙_}
@@ -32,7 +32,7 @@ unfolding sumTo
 positive-count zero f h = h
 positive-count (suc n) f h = omega arith
 
--- where the spare parts s run out
+-- where the slack s runs out
 pub record Pivot (n : ℕ) (w : ℕ → ℕ) (before : ℕ → ℕ → Bool) (s : ℕ) : Type 0 where
   pub at : ℕ
   pub place : at < n

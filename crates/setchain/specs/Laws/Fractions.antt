@@ -1,8 +1,9 @@
 -- Laws of fractions. Addition and multiplication are commutative and associative literally, as pairs; the rest holds multiplied out.
 use Prim.Native.Nat.{ℕ, zero, suc, _*_, _≤_, _<_}
 use mathlib.Core.Path.{_≡_, refl, ap, sym, _∙_, fun-ext, subst, subst₂}
+use mathlib.Core.Bool.{Bool, true, false}
 use native.Mathlib.Omega.{arith}
-use native.Mathlib.Nat.{le-refl, mul-le-mul-right, mul-pos, le-of-mul-le-mul-right, eq-of-mul-eq-mul-right}
+use native.Mathlib.Nat.{le-refl, le-of-eq, mul-le-mul-right, mul-pos, le-of-mul-le-mul-right, eq-of-mul-eq-mul-right}
 use Rattle.setchain.specs.Sums.{sumTo, dot}
 use Rattle.setchain.specs.Fractions.{Fraction, whole, _⊕_, _⊗_, _≼_, sumFractions}
 use Rattle.setchain.specs.Rows.{IntervalRow, Row, Inside}
@@ -53,7 +54,7 @@ same-trans x y z p e g =
     eq-of-mul-eq-mul-right (y .den) p (x .num * z .den) (z .num * x .den)
     (omega (arith, ap (λ v. v * z .den) e, ap (λ v. v * x .den) g))
 
-pub at-most-trans : (x y z : Fraction) → Proper y → x ≼ y → y ≼ z → x ≼ z
+at-most-trans : (x y z : Fraction) → Proper y → x ≼ y → y ≼ z → x ≼ z
 at-most-trans x y z p h k =
     le-of-mul-le-mul-right {k = y .den} (omega (arith, mul-le-mul-right (z .den) h, mul-le-mul-right (x .den) k)) p
 
@@ -64,11 +65,11 @@ add-same x x′ y y′ e g =
 pub mul-same : (x y y′ : Fraction) → y ≈ y′ → x ⊗ y ≈ x ⊗ y′
 mul-same x y y′ e = omega (arith, ap (λ v. v * (x .num * x .den)) e)
 
-pub add-at-most : (x x′ y y′ : Fraction) → x ≼ x′ → y ≼ y′ → x ⊕ y ≼ x′ ⊕ y′
+add-at-most : (x x′ y y′ : Fraction) → x ≼ x′ → y ≼ y′ → x ⊕ y ≼ x′ ⊕ y′
 add-at-most x x′ y y′ h k =
     omega (arith, mul-le-mul-right (y .den * y′ .den) h, mul-le-mul-right (x .den * x′ .den) k)
 
-pub mul-at-most : (x y y′ : Fraction) → y ≼ y′ → x ⊗ y ≼ x ⊗ y′
+mul-at-most : (x y y′ : Fraction) → y ≼ y′ → x ⊗ y ≼ x ⊗ y′
 mul-at-most x y y′ h = omega (arith, mul-le-mul-right (x .num * x .den) h)
 
 pub distribute : (x y z : Fraction) → x ⊗ (y ⊕ z) ≈ x ⊗ y ⊕ x ⊗ z
@@ -83,11 +84,32 @@ sum-same zero f g h = refl
 sum-same (suc n) f g h =
     add-same (sumFractions n f) (sumFractions n g) (f n) (g n) (sum-same n f g (below-pred _ n h)) (h n (le-refl (suc n)))
 
-pub sum-at-most : (n : ℕ) (f g : ℕ → Fraction) → ((k : ℕ) → k < n → f k ≼ g k) → sumFractions n f ≼ sumFractions n g
+sum-at-most : (n : ℕ) (f g : ℕ → Fraction) → ((k : ℕ) → k < n → f k ≼ g k) → sumFractions n f ≼ sumFractions n g
 unfolding sumFractions
 sum-at-most zero f g h = le-refl 0
 sum-at-most (suc n) f g h =
     add-at-most (sumFractions n f) (sumFractions n g) (f n) (g n) (sum-at-most n f g (below-pred _ n h)) (h n (le-refl (suc n)))
+
+-- x is a lower bound of y, or, for a high figure, an upper bound
+abbrev pub BoundOf : (high : Bool) → Fraction → Fraction → Type 0
+BoundOf false x y = x ≼ y
+BoundOf true x y = y ≼ x
+
+pub bound-trans : (high : Bool) (x y z : Fraction) → Proper y → BoundOf high x y → BoundOf high y z → BoundOf high x z
+bound-trans false x y z p h k = at-most-trans x y z p h k
+bound-trans true x y z p h k = at-most-trans z y x p k h
+
+pub bound-same : (high : Bool) (x y : Fraction) → x ≈ y → BoundOf high x y
+bound-same false x y e = le-of-eq e
+bound-same true x y e = le-of-eq (sym e)
+
+pub bound-mul : (high : Bool) (x y y′ : Fraction) → BoundOf high y y′ → BoundOf high (x ⊗ y) (x ⊗ y′)
+bound-mul false x y y′ h = mul-at-most x y y′ h
+bound-mul true x y y′ h = mul-at-most x y′ y h
+
+pub bound-sum : (high : Bool) (n : ℕ) (f g : ℕ → Fraction) → ((k : ℕ) → k < n → BoundOf high (f k) (g k)) → BoundOf high (sumFractions n f) (sumFractions n g)
+bound-sum false n f g h = sum-at-most n f g h
+bound-sum true n f g h = sum-at-most n g f h
 
 sum-zero : (n : ℕ) → sumFractions n (λ k. whole 0) ≡ whole 0
 unfolding sumFractions

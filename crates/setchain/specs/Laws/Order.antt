@@ -2,13 +2,14 @@
 use Prim.Native.Nat.{ℕ, _<_}
 use mathlib.Core.Path.{_≡_, refl, ap, sym, _∙_}
 use mathlib.Core.Logic.{_⊎_, inl, inr}
-use mathlib.Core.Bool.{true, false, not, true≢false}
+use mathlib.Core.Bool.{Bool, true, false, not, true≢false}
 use lib.Dec.{ltb}
 use native.Mathlib.Decide.{decLt}
 use native.Mathlib.Omega.{arith}
 use native.Mathlib.Nat.{le-refl}
 use borrow.Author.Tests.{eq-eqb, ne-eqb, lt-ltb, le-ltb, ltb-true}
-use Rattle.setchain.specs.Step.{rising, falling}
+use Rattle.setchain.specs.Step.{rising, before}
+use Rattle.setchain.specs.Certificate.{Ahead}
 use Rattle.setchain.specs.Laws.Fill.{Strict}
 
 -- two numbers compared
@@ -26,7 +27,7 @@ compared a b = by (decLt a b) (decLt b a)
     by (no l) (no g) = same (omega arith)
 
 -- the order by payoffs, from each of its tests
-pub rising-less : (f : ℕ → ℕ) (k j : ℕ) → f k < f j → rising f k j ≡ true
+rising-less : (f : ℕ → ℕ) (k j : ℕ) → f k < f j → rising f k j ≡ true
 rising-less f k j h = simp (lt-ltb (f k) (f j) h)
 
 rising-tie : (f : ℕ → ℕ) (k j : ℕ) → f k ≡ f j → rising f k j ≡ ltb k j
@@ -52,7 +53,7 @@ ltb-flip k j d = by (compared k j)
     by (more g) = le-ltb k j (omega arith) ∙ sym (ap not (lt-ltb j k g))
 
 -- it is a strict total order
-pub rising-strict : (f : ℕ → ℕ) → Strict (rising f)
+rising-strict : (f : ℕ → ℕ) → Strict (rising f)
 rising-strict f = record { itself = λ j. rising-tie f j j refl ∙ le-ltb j j (le-refl j); either = other; onward = further }
   where
     other : (k j : ℕ) → (k ≡ j → ⊥) → rising f k j ≡ not (rising f j k)
@@ -73,10 +74,16 @@ rising-strict f = record { itself = λ j. rising-tie f j j refl ∙ le-ltb j j (
         by (inr a) (inr b) = rising-tie f i j (a .0 ∙ b .0) ∙ lt-ltb i j (omega arith)
 
 -- and so is the same order from its other end
-pub falling-strict : (f : ℕ → ℕ) → Strict (falling f)
-falling-strict f =
+pub before-strict : (high : Bool) (f : ℕ → ℕ) → Strict (before high f)
+before-strict false f = rising-strict f
+before-strict true f =
     record {
       itself = rising-strict f .itself;
       either = λ k j d. rising-strict f .either j k (λ e. d (sym e));
       onward = λ i k j h g. rising-strict f .onward j k i g h;
     }
+
+-- a state whose payoff comes before another's comes before it
+pub before-ahead : (high : Bool) (f : ℕ → ℕ) (k j : ℕ) → Ahead high (f k) (f j) → before high f k j ≡ true
+before-ahead false f k j h = rising-less f k j h
+before-ahead true f k j h = rising-less f j k h

@@ -21,7 +21,7 @@ use Rattle.record_spec.specs.Read.{versionCause, fieldCause, sizeCause, lengthC
 use Rattle.record_spec.specs.declared.WriteAnswer.the-variants.{Written, Declined}
 use Rattle.sheet_spec.specs.Sheet.{classLines, yearPremium, yearLines, sheetOf, refusedLine, sheetText}
 use Rattle.sheet_spec.specs.Answer.{roomOf, roomFor, sheetAnswer, sheetLeaves, TextPromise}
-use Rattle.sheet_spec.specs.Laws.Figures.{low-share-at-most, high-share-at-most, low-mean-at-most, high-mean-at-most, low-total-at-most, high-total-at-most}
+use Rattle.sheet_spec.specs.Laws.Figures.{share-at-most, mean-at-most, total-at-most}
 use Rattle.sheet_spec.specs.Laws.Widths.{Within, within-append, within-joined, scheme-line-within, class-line-within, premium-line-within, total-line-within, refused-line-within}
 
 -- the lines of a year, and the sheet of an accepted scheme
@@ -36,8 +36,8 @@ module _ (s : Scheme) (ok : Accepted s) where
       rw (year-order t)
       (within-append
       (within-joined 40 (s .classes) _ (λ j l.
-      class-line-within t j _ _ (omega (arith, ok .horizon .within)) (omega (arith, ok .size .classes)) (low-share-at-most s ok j t) (high-share-at-most s ok j t)))
-      (premium-line-within t _ _ (omega (arith, ok .horizon .within)) (low-mean-at-most s ok t) (high-mean-at-most s ok t)))
+      class-line-within t j _ _ (omega (arith, ok .horizon .within)) (omega (arith, ok .size .classes)) (share-at-most false s ok j t) (share-at-most true s ok j t)))
+      (premium-line-within t _ _ (omega (arith, ok .horizon .within)) (mean-at-most false s ok t) (mean-at-most true s ok t)))
 
   pub sheet-within : Within (roomOf s) (sheetOf s)
   unfolding roomOf sheetOf
@@ -45,8 +45,8 @@ module _ (s : Scheme) (ok : Accepted s) where
       within-append
       (within-append (scheme-line-within s ok) (within-joined (s .classes * 40 + 35) (suc (s .horizon)) (yearLines s) (λ t l. year-within t (omega arith))))
       (total-line-within _ _
-      (omega (arith, ok .horizon .within, low-total-at-most s ok (s .horizon)))
-      (omega (arith, ok .horizon .within, high-total-at-most s ok (s .horizon))))
+      (omega (arith, ok .horizon .within, total-at-most false s ok (s .horizon)))
+      (omega (arith, ok .horizon .within, total-at-most true s ok (s .horizon))))
 
   pub room-at-most : roomOf s ≤ 132862
   unfolding roomOf

@@ -1,6 +1,7 @@
 -- The lines by the tables of a scheme's figures are the sheet's lines.
 use Prim.Native.Nat.{ℕ, suc, _+_, _*_, _≤_, _<_}
 use mathlib.Core.Path.{_≡_, ap, _∙_}
+use mathlib.Core.Bool.{Bool, true, false}
 use mathlib.Core.List.{List, _++_}
 use native.Mathlib.Omega.{arith}
 use native.Mathlib.Numerals.{add-one}
@@ -12,31 +13,27 @@ use Rattle.record_spec.specs.Joined.{joined}
 use Rattle.record_spec.specs.Laws.Joined.{joined-eq}
 use Rattle.setchain.specs.Years.{lowShare, highShare}
 use Rattle.bounds_spec.specs.Answers.{startOf}
-use Rattle.bounds_spec.specs.Table.{tableSize, lowTable, highTable}
-use Rattle.bounds_spec.specs.Laws.Table.{low-share-at, high-share-at, low-mean-at, high-mean-at, low-total-at, high-total-at}
+use Rattle.bounds_spec.specs.Table.{tableSize, figureTable, lowTable, highTable}
+use Rattle.bounds_spec.specs.Laws.Table.{share-at, mean-at, total-at}
 use Rattle.sheet_spec.specs.Sheet.{schemeLine, classLine, yearLines, totalLine, sheetOf}
 use Rattle.sheet_text.specs.Put.{Room, Put}
 use Rattle.sheet_text.specs.Tabled.{classText, yearText}
 
--- how long the tables are
-pub low-size : {low : List ℕ} (s : Scheme) → low ≡ lowTable s → length low ≡ tableSize s
-unfolding lowTable
-low-size s e = ap length e ∙ length-tab (tableSize s) _
-
-pub high-size : {high : List ℕ} (s : Scheme) → high ≡ highTable s → length high ≡ tableSize s
-unfolding highTable
-high-size s e = ap length e ∙ length-tab (tableSize s) _
+-- how long a table is
+pub table-size : (high : Bool) {table : List ℕ} (s : Scheme) → table ≡ figureTable high s → length table ≡ tableSize s
+unfolding figureTable
+table-size high s e = ap length e ∙ length-tab (tableSize s) _
 
 -- a year's lines
 module _ (s : Scheme) (t : ℕ) (h : t ≤ s .horizon) where
   class-tabled : (j : ℕ) → j < s .classes
       → classText (lowTable s) (highTable s) t (t * suc (s .classes)) j
       ≡ classLine t j (lowShare (chainOf s) j t (startOf s)) (highShare (chainOf s) j t (startOf s))
-  class-tabled j l = rw (low-share-at s t h j l, high-share-at s t h j l)
+  class-tabled j l = rw (share-at false s t h j l, share-at true s t h j l)
 
   pub year-tabled : yearText (lowTable s) (highTable s) (s .classes) t ≡ yearLines s t
   unfolding yearText yearLines
-  year-tabled = rw (joined-eq (s .classes) _ _ class-tabled, low-mean-at s t h, high-mean-at s t h)
+  year-tabled = rw (joined-eq (s .classes) _ _ class-tabled, mean-at false s t h, mean-at true s t h)
 
 -- the total's line, by the code's place
 abbrev pub totalText : (low high : List ℕ) (n s : ℕ) → List ℕ
@@ -53,7 +50,7 @@ unfolding sheetOf
 sheet-tabled s low high el eh =
     let years : joined (suc (s .horizon)) (yearText (lowTable s) (highTable s) (s .classes)) ≡ joined (suc (s .horizon)) (yearLines s) =
     joined-eq (suc (s .horizon)) _ _ (λ t l. year-tabled s t (omega arith)) in
-    rw (el, eh, add-one, add-one, years, low-total-at s, high-total-at s)
+    rw (el, eh, add-one, add-one, years, total-at false s, total-at true s)
 
 -- room for them, and them put
 pub sheet-room : {l : List ℕ} {at : ℕ} {low high : List ℕ} (s : Scheme) → low ≡ lowTable s → high ≡ highTable s → Room l at (sheetOf s) → Room l at (tabledText s low high)

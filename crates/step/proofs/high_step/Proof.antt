@@ -1,4 +1,4 @@
--- `high_step` meets its contract: the answer where payoffs fall along the order.
+-- `high_step` meets its contract: the answer where `high` is set.
 use borrow.Author.Needs.{needs}
 use Rattle.step.proofs.high_step.Statement.{statement}
 use Rattle.step.proofs.high_step.Tie as tie

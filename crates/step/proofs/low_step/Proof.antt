@@ -1,4 +1,4 @@
--- `low_step` meets its contract: the answer where payoffs rise along the order.
+-- `low_step` meets its contract: the answer where `high` is not set.
 use borrow.Author.Needs.{needs}
 use Rattle.step.proofs.low_step.Statement.{statement}
 use Rattle.step.proofs.low_step.Tie as tie

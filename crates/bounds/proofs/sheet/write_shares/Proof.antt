@@ -10,10 +10,10 @@ use Rattle.bounds.proofs.sheet.write_shares.Statement.{statement}
 use Rattle.bounds.proofs.sheet.write_shares.Tie as tie
 
 abbrev Inv-loop : tie.InvT-loop
-Inv-loop scheme year falling out₀ entries spare gain j₀ out j = Written (scheme .classes) (shareOf falling scheme year) out j
+Inv-loop scheme year high out₀ entries spare gain j₀ out j = Written (scheme .classes) (shareOf high scheme year) out j
 
 abbrev μ-loop : tie.MeasureT-loop
-μ-loop scheme year falling out₀ entries spare gain j₀ out j = scheme .classes - j
+μ-loop scheme year high out₀ entries spare gain j₀ out j = scheme .classes - j
 
 list-scheme-requires : tie.Need-list-scheme-requires Inv-loop μ-loop
 list-scheme-requires c κs = (c .before .before .before .pre .accepted, empty-listed)
@@ -48,7 +48,7 @@ loop-again : tie.Need-loop-again Inv-loop μ-loop
 loop-again c =
     let s = c .before .before .before .before .before .before .before .before .before .before in
     let l = c .before .before .before .before .before .loop in
-    sheeting-more (s .args .scheme) (s .args .falling) (s .args .year) (l .out) (l .j) (s .pre .accepted) (omega arith) (c .before .before .before .share-payoff .ensures) (c .start-figure .ensures) (l .inv)
+    sheeting-more (s .args .scheme) (s .args .high) (s .args .year) (l .out) (l .j) (s .pre .accepted) (omega arith) (c .before .before .before .share-payoff .ensures) (c .start-figure .ensures) (l .inv)
 
 same-length : tie.Need-same-length Inv-loop μ-loop
 same-length c = omega arith
@@ -56,7 +56,7 @@ same-length c = omega arith
 returns : tie.Need-returns Inv-loop μ-loop
 returns c =
     let s = c .before .before .before .before .before .before in
-    sheeting-all (s .args .scheme) (s .args .falling) (s .args .year) (c .before .loop .out) (omega arith) (c .before .loop .inv)
+    sheeting-all (s .args .scheme) (s .args .high) (s .args .year) (c .before .loop .out) (omega arith) (c .before .loop .inv)
 
 pub write-shares-spec : {M : Type 1} → statement M
 write-shares-spec =

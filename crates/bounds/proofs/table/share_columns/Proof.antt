@@ -9,10 +9,10 @@ use Rattle.bounds.proofs.table.share_columns.Statement.{statement}
 use Rattle.bounds.proofs.table.share_columns.Tie as tie
 
 abbrev Inv-loop : tie.InvT-loop
-Inv-loop scheme entries spare falling out₀ gain classes j₀ out j = SharesIn falling scheme out j
+Inv-loop scheme entries spare high out₀ gain classes j₀ out j = SharesIn high scheme out j
 
 abbrev μ-loop : tie.MeasureT-loop
-μ-loop scheme entries spare falling out₀ gain classes j₀ out j = classes - j
+μ-loop scheme entries spare high out₀ gain classes j₀ out j = classes - j
 
 cast-classes : tie.Need-cast-classes Inv-loop μ-loop
 cast-classes c = omega arith

@@ -11,10 +11,10 @@ use Rattle.bounds.proofs.year.settle.Statement.{statement}
 use Rattle.bounds.proofs.year.settle.Tie as tie
 
 abbrev Inv-loop : tie.InvT-loop
-Inv-loop gain falling sums₀ i₀ sums i = Rewritten (length gain) (settled gain falling) sums₀ sums i
+Inv-loop gain high sums₀ i₀ sums i = Rewritten (length gain) (settled gain high) sums₀ sums i
 
 abbrev μ-loop : tie.MeasureT-loop
-μ-loop gain falling sums₀ i₀ sums i = length gain - i
+μ-loop gain high sums₀ i₀ sums i = length gain - i
 
 loop-holds : tie.Need-loop-holds Inv-loop μ-loop
 loop-holds c = rewritten-none (c .before .before .pre .size)
@@ -35,7 +35,7 @@ round-requires : tie.Need-round-requires Inv-loop μ-loop
 round-requires c κs = tt
 
 add-sums : tie.Need-add-sums Inv-loop μ-loop
-add-sums c = settling-fits (c .before .before .before .before .before .before .before .args .falling) (c .before .before .before .before .before .before .before .pre) (c .before .before .before .before .loop .inv) (omega arith) (c .round .ensures)
+add-sums c = settling-fits (c .before .before .before .before .before .before .before .args .high) (c .before .before .before .before .before .before .before .pre) (c .before .before .before .before .loop .inv) (omega arith) (c .round .ensures)
 
 mul-sums-2 : tie.Need-mul-sums-2 Inv-loop μ-loop
 mul-sums-2 c = omega arith
@@ -56,7 +56,7 @@ same-length : tie.Need-same-length Inv-loop μ-loop
 same-length c = omega (arith, c .before .loop .inv .size, c .before .before .before .before .pre .size)
 
 returns : tie.Need-returns Inv-loop μ-loop
-returns c = settling-all (c .before .before .before .before .args .falling) (c .before .before .before .before .pre) (c .before .loop .inv) (omega arith)
+returns c = settling-all (c .before .before .before .before .args .high) (c .before .before .before .before .pre) (c .before .loop .inv) (omega arith)
 
 pub settle-spec : {M : Type 1} → statement M
 settle-spec =

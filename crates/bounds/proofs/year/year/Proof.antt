@@ -37,22 +37,22 @@ slice-aggregate-walk-3 : tie.Need-slice-aggregate-walk-3
 slice-aggregate-walk-3 c = sym (length-take-le (length (c .before .before .before .before .before .before .before .before .before .before .before .before .args .gain .now)) zeros (search needs))
 
 walk-requires : tie.Need-walk-requires
-walk-requires c κs = year-walks (c .before .before .before .before .before .before .before .before .before .before .before .before .pre) (search needs) (c .before .before .before .before .before .before .before .before .before .before .before .before .args .falling) (c .before .before .before .before .before .before .before .sort .ensures)
+walk-requires c κs = year-walks (c .before .before .before .before .before .before .before .before .before .before .before .before .pre) (search needs) (c .before .before .before .before .before .before .before .before .before .before .before .before .args .high) (c .before .before .before .before .before .before .before .sort .ensures)
 
 array-borrow-prefix-sums-2 : tie.Need-array-borrow-prefix-sums-2
-array-borrow-prefix-sums-2 c = sums-fit (c .before .before .before .before .before .before .before .before .before .before .before .before .before .before .before .pre) (search needs) (c .before .before .before .before .before .before .before .before .before .before .before .before .before .before .before .args .falling) (c .before .before .before .before .before .before .before .before .before .before .sort .ensures) (c .before .before .walk .ensures) (drop (length (c .before .before .before .before .before .before .before .before .before .before .before .before .before .before .before .args .gain .now)) zeros)
+array-borrow-prefix-sums-2 c = sums-fit (c .before .before .before .before .before .before .before .before .before .before .before .before .before .before .before .pre) (search needs) (c .before .before .before .before .before .before .before .before .before .before .before .before .before .before .before .args .high) (c .before .before .before .before .before .before .before .before .before .before .sort .ensures) (c .before .before .walk .ensures) (drop (length (c .before .before .before .before .before .before .before .before .before .before .before .before .before .before .before .args .gain .now)) zeros)
 
 slice-aggregate-settle : tie.Need-slice-aggregate-settle
-slice-aggregate-settle c = sums-size (c .before .before .before .before .before .before .before .before .before .before .before .before .before .before .before .before .pre) (search needs) (c .before .before .before .before .before .before .before .before .before .before .before .before .before .before .before .before .args .falling) (c .before .before .before .before .before .before .before .before .before .before .before .sort .ensures) (c .before .before .before .walk .ensures) (drop (length (c .before .before .before .before .before .before .before .before .before .before .before .before .before .before .before .before .args .gain .now)) zeros)
+slice-aggregate-settle c = sums-size (c .before .before .before .before .before .before .before .before .before .before .before .before .before .before .before .before .pre) (search needs) (c .before .before .before .before .before .before .before .before .before .before .before .before .before .before .before .before .args .high) (c .before .before .before .before .before .before .before .before .before .before .before .sort .ensures) (c .before .before .before .walk .ensures) (drop (length (c .before .before .before .before .before .before .before .before .before .before .before .before .before .before .before .before .args .gain .now)) zeros)
 
 settle-requires : tie.Need-settle-requires
-settle-requires c κs = year-settles (c .before .before .before .before .before .before .before .before .before .before .before .before .before .before .before .before .pre) (search needs) (c .before .before .before .before .before .before .before .before .before .before .before .before .before .before .before .before .args .falling) (c .before .before .before .before .before .before .before .before .before .before .before .sort .ensures) (c .before .before .before .walk .ensures) (drop (length (c .before .before .before .before .before .before .before .before .before .before .before .before .before .before .before .before .args .gain .now)) zeros)
+settle-requires c κs = year-settles (c .before .before .before .before .before .before .before .before .before .before .before .before .before .before .before .before .pre) (search needs) (c .before .before .before .before .before .before .before .before .before .before .before .before .before .before .before .before .args .high) (c .before .before .before .before .before .before .before .before .before .before .before .sort .ensures) (c .before .before .before .walk .ensures) (drop (length (c .before .before .before .before .before .before .before .before .before .before .before .before .before .before .before .before .args .gain .now)) zeros)
 
 same-length : tie.Need-same-length
 same-length c = search needs
 
 returns : tie.Need-returns
-returns c = (year-formed (c .before .before .before .before .before .before .before .before .before .before .before .before .before .before .before .before .before .before .pre) (search needs) (c .before .before .before .before .before .before .before .before .before .before .before .before .before .before .before .before .before .before .args .falling) (c .before .before .before .before .before .before .before .before .before .before .before .before .before .sort .ensures) (c .before .before .before .before .before .walk .ensures) (drop (length (c .before .before .before .before .before .before .before .before .before .before .before .before .before .before .before .before .before .before .args .gain .now)) zeros) _ (c .before .settle .ensures), year-placed (c .before .before .before .before .before .before .before .before .before .before .before .before .before .before .before .before .before .before .pre) (search needs) (c .before .before .before .before .before .before .before .before .before .before .before .before .before .before .before .before .before .before .args .falling) (c .before .before .before .before .before .before .before .before .before .before .before .before .before .sort .ensures))
+returns c = (year-formed (c .before .before .before .before .before .before .before .before .before .before .before .before .before .before .before .before .before .before .pre) (search needs) (c .before .before .before .before .before .before .before .before .before .before .before .before .before .before .before .before .before .before .args .high) (c .before .before .before .before .before .before .before .before .before .before .before .before .before .sort .ensures) (c .before .before .before .before .before .walk .ensures) (drop (length (c .before .before .before .before .before .before .before .before .before .before .before .before .before .before .before .before .before .before .args .gain .now)) zeros) _ (c .before .settle .ensures), year-placed (c .before .before .before .before .before .before .before .before .before .before .before .before .before .before .before .before .before .before .pre) (search needs) (c .before .before .before .before .before .before .before .before .before .before .before .before .before .before .before .before .before .before .args .high) (c .before .before .before .before .before .before .before .before .before .before .before .before .before .sort .ensures))
 
 pub year-spec : {M : Type 1} → statement M
 year-spec =

@@ -58,7 +58,7 @@ years-advance-requires-2 t c κs =
 -- (a way by a step: 4 the call of `years`, 9 the test of the flag, 12 the step, 15 to 17 what order, figures and slice then are)
 met : (t : ℕ) → (c : years-lts.Joined1 (claims t) (years-at t) years.Post)
     → let a = c .before .before .before .before .args in
-    Ran (a .entries .now) (a .gain .now) (a .figures .now) (a .falling) (a .t) (a .state) (a .stride) (a .t) (c .if1 .order) (c .if1 .figures) (a .out .now) (c .if1 .out)
+    Ran (a .entries .now) (a .gain .now) (a .figures .now) (a .high) (a .t) (a .state) (a .stride) (a .t) (c .if1 .order) (c .if1 .figures) (a .out .now) (c .if1 .out)
 met t c =
     let pre = c .before .before .before .before .pre .1 in
     ⊎-elim

@@ -1,10 +1,11 @@
 -- `whole::whole` meets its contract: each part stands after the last.
 use Prim.Native.Nat.{_+_}
+use mathlib.Core.Bool.{true, false}
 use native.Mathlib.Omega.{arith}
 use Rattle.record_spec.specs.Joined.{joined}
 use Rattle.sheet_text.specs.Tabled.{yearText}
 use Rattle.sheet_text.specs.Laws.Put.{put-then, room-first, room-next}
-use Rattle.sheet_text.specs.Laws.Tabled.{totalText, low-size, high-size, sheet-room, sheet-put}
+use Rattle.sheet_text.specs.Laws.Tabled.{totalText, table-size, sheet-room, sheet-put}
 use borrow.Author.Needs.{needs}
 use Rattle.sheet_text.proofs.whole.whole.Statement.{statement}
 use Rattle.sheet_text.proofs.whole.whole.Tie as tie
@@ -34,8 +35,8 @@ all-years-requires c κs =
       (room-first (totalText (start .args .low .now) (start .args .high .now) (start .args .scheme .horizon + 1) (start .args .scheme .classes))
       (sheet-room _ (start .pre .2) (start .pre .3) (start .pre .0))),
       omega (arith, start .pre .1 .classes),
-      omega (arith, low-size (start .args .scheme) (start .pre .2)),
-      omega (arith, high-size (start .args .scheme) (start .pre .3)),
+      omega (arith, table-size false (start .args .scheme) (start .pre .2)),
+      omega (arith, table-size true (start .args .scheme) (start .pre .3)),
     )
 
 add-last : tie.Need-add-last
@@ -44,27 +45,27 @@ add-last c = search needs
 mul-last : tie.Need-mul-last
 mul-last c =
     let start = c .before .before .before .before .before .before .before .before .before .before .before .before .before in
-    omega (arith, low-size (start .args .scheme) (start .pre .2), high-size (start .args .scheme) (start .pre .3))
+    omega (arith, table-size false (start .args .scheme) (start .pre .2), table-size true (start .args .scheme) (start .pre .3))
 
 mul-total-line : tie.Need-mul-total-line
 mul-total-line c =
     let start = c .before .before .before .before .before .before .before .before .before .before .before .before .before .before in
-    omega (arith, low-size (start .args .scheme) (start .pre .2), high-size (start .args .scheme) (start .pre .3))
+    omega (arith, table-size false (start .args .scheme) (start .pre .2), table-size true (start .args .scheme) (start .pre .3))
 
 shared-slice-read-total-line : tie.Need-shared-slice-read-total-line
 shared-slice-read-total-line c =
     let start = c .before .before .before .before .before .before .before .before .before .before .before .before .before .before .before in
-    omega (arith, low-size (start .args .scheme) (start .pre .2), high-size (start .args .scheme) (start .pre .3))
+    omega (arith, table-size false (start .args .scheme) (start .pre .2), table-size true (start .args .scheme) (start .pre .3))
 
 mul-total-line-2 : tie.Need-mul-total-line-2
 mul-total-line-2 c =
     let start = c .before .before .before .before .before .before .before .before .before .before .before .before .before .before .before in
-    omega (arith, low-size (start .args .scheme) (start .pre .2), high-size (start .args .scheme) (start .pre .3))
+    omega (arith, table-size false (start .args .scheme) (start .pre .2), table-size true (start .args .scheme) (start .pre .3))
 
 shared-slice-read-total-line-2 : tie.Need-shared-slice-read-total-line-2
 shared-slice-read-total-line-2 c =
     let start = c .before .before .before .before .before .before .before .before .before .before .before .before .before .before .before .before in
-    omega (arith, low-size (start .args .scheme) (start .pre .2), high-size (start .args .scheme) (start .pre .3))
+    omega (arith, table-size false (start .args .scheme) (start .pre .2), table-size true (start .args .scheme) (start .pre .3))
 
 total-line-requires : tie.Need-total-line-requires
 total-line-requires c κs =

@@ -2,7 +2,7 @@
 -- Assumes nothing.
 use mathlib.Core.Path.{ap, _∙_}
 use borrow.Author.Needs.{needs}
-use Rattle.step.specs.Figure.{rounded}
+use Rattle.setchain.specs.Step.{rounded}
 use Rattle.step.proofs.figure.figure.Statement.{statement}
 use Rattle.step.proofs.figure.figure.Tie as tie
 
@@ -15,7 +15,7 @@ round-requires c κs = search needs
 returns : tie.Need-returns
 returns c =
     let a = c .before .before .before .before .args in
-    c .round .ensures ∙ ap (λ x. rounded (a .falling) x) (c .before .weigh .ensures .is)
+    c .round .ensures ∙ ap (λ x. rounded (a .high) x) (c .before .weigh .ensures .is)
 
 pub figure-spec : {M : Type 1} → statement M
 figure-spec = tie.close (tie.spec weigh-requires round-requires returns)
