@@ -10,18 +10,24 @@ table-cause-requires c κs = search needs
 
 returns : tie.Need-returns
 returns c =
-    let a = c .before .before .before .before .args in
+    let start = c .before .before .before .before in
+    let a = start .args in
     figures-declined (a .scheme) (a .low .now) (a .high .now) (table-cause (a .scheme) (a .low .now) (a .high .now) (c .before .table-cause .ensures)) (c .if1 .taken)
 
 write-table-requires : tie.Need-write-table-requires
 write-table-requires c κs =
-    let a = c .before .before .before .before .before .args in
-    low-ready (a .scheme) (a .low .now) (a .high .now) (table-cause (a .scheme) (a .low .now) (a .high .now) (c .before .before .table-cause .ensures)) (c .before .if1 .left)
+    let at-table-cause = c .before .before in
+    let start = at-table-cause .before .before .before in
+    let a = start .args in
+    low-ready (a .scheme) (a .low .now) (a .high .now) (table-cause (a .scheme) (a .low .now) (a .high .now) (at-table-cause .table-cause .ensures)) (c .before .if1 .left)
 
 write-table-requires-2 : tie.Need-write-table-requires-2
 write-table-requires-2 c κs =
-    let a = c .before .before .before .before .before .before .before .before .before .args in
-    high-ready (a .scheme) (a .low .now) (a .high .now) (table-cause (a .scheme) (a .low .now) (a .high .now) (c .before .before .before .before .before .before .table-cause .ensures)) (c .before .before .before .before .before .if1 .left)
+    let at-if1 = c .before .before .before .before .before in
+    let at-table-cause = at-if1 .before in
+    let start = at-table-cause .before .before .before in
+    let a = start .args in
+    high-ready (a .scheme) (a .low .now) (a .high .now) (table-cause (a .scheme) (a .low .now) (a .high .now) (at-table-cause .table-cause .ensures)) (at-if1 .if1 .left)
 
 same-length : tie.Need-same-length
 same-length c = search needs
@@ -31,8 +37,15 @@ same-length-2 c = search needs
 
 returns-2 : tie.Need-returns-2
 returns-2 c =
-    let a = c .before .before .before .before .before .before .before .before .before .before .before .before .args in
-    figures-written (a .scheme) (a .low .now) (a .high .now) (table-cause (a .scheme) (a .low .now) (a .high .now) (c .before .before .before .before .before .before .before .before .before .table-cause .ensures)) _ _ (c .before .before .before .before .before .before .before .before .if1 .left) (c .before .before .before .before .before .before .write-table .ensures) (c .before .before .write-table2 .ensures)
+    let at-write-table2 = c .before .before in
+    let at-write-table = at-write-table2 .before .before .before .before in
+    let at-if1 = at-write-table .before .before in
+    let at-table-cause = at-if1 .before in
+    let start = at-table-cause .before .before .before in
+    let a = start .args in
+    figures-written (a .scheme) (a .low .now) (a .high .now)
+    (table-cause (a .scheme) (a .low .now) (a .high .now) (at-table-cause .table-cause .ensures)) _ _ (at-if1 .if1 .left)
+    (at-write-table .write-table .ensures) (at-write-table2 .write-table2 .ensures)
 
 pub figures-spec : {M : Type 1} → statement M
 figures-spec =

@@ -11,18 +11,25 @@ sheet-cause-requires c κs = search needs
 
 returns : tie.Need-returns
 returns c =
-    let a = c .before .before .before .before .args in
+    let start = c .before .before .before .before in
+    let a = start .args in
     sheet-declined (a .scheme) (a .year) (a .low .now) (a .high .now) _ (sheet-cause (a .scheme) (a .year) (a .low .now) (a .high .now) _ (c .before .sheet-cause .ensures)) (c .if1 .taken)
 
 write-shares-requires : tie.Need-write-shares-requires
 write-shares-requires c κs =
-    let a = c .before .before .before .before .before .args in
-    low-sheeted (a .scheme) (a .year) (a .low .now) (a .high .now) (sym (sheet-cause (a .scheme) (a .year) (a .low .now) (a .high .now) _ (c .before .before .sheet-cause .ensures)) ∙ c .before .if1 .left)
+    let at-sheet-cause = c .before .before in
+    let start = at-sheet-cause .before .before .before in
+    let a = start .args in
+    low-sheeted (a .scheme) (a .year) (a .low .now) (a .high .now)
+    (sym (sheet-cause (a .scheme) (a .year) (a .low .now) (a .high .now) _ (at-sheet-cause .sheet-cause .ensures)) ∙ c .before .if1 .left)
 
 write-shares-requires-2 : tie.Need-write-shares-requires-2
 write-shares-requires-2 c κs =
-    let a = c .before .before .before .before .before .before .before .before .before .args in
-    high-sheeted (a .scheme) (a .year) (a .low .now) (a .high .now) (sym (sheet-cause (a .scheme) (a .year) (a .low .now) (a .high .now) _ (c .before .before .before .before .before .before .sheet-cause .ensures)) ∙ c .before .before .before .before .before .if1 .left)
+    let at-if1 = c .before .before .before .before .before in
+    let at-sheet-cause = at-if1 .before in
+    let start = at-sheet-cause .before .before .before in
+    let a = start .args in
+    high-sheeted (a .scheme) (a .year) (a .low .now) (a .high .now) (sym (sheet-cause (a .scheme) (a .year) (a .low .now) (a .high .now) _ (at-sheet-cause .sheet-cause .ensures)) ∙ at-if1 .if1 .left)
 
 same-length : tie.Need-same-length
 same-length c = search needs
@@ -32,8 +39,15 @@ same-length-2 c = search needs
 
 returns-2 : tie.Need-returns-2
 returns-2 c =
-    let a = c .before .before .before .before .before .before .before .before .before .before .before .before .args in
-    sheet-written (a .scheme) (a .year) (a .low .now) (a .high .now) _ _ _ (sheet-cause (a .scheme) (a .year) (a .low .now) (a .high .now) _ (c .before .before .before .before .before .before .before .before .before .sheet-cause .ensures)) (c .before .before .before .before .before .before .before .before .if1 .left) (c .before .before .before .before .before .before .write-shares .ensures) (c .before .before .write-shares2 .ensures)
+    let at-write-shares2 = c .before .before in
+    let at-write-shares = at-write-shares2 .before .before .before .before in
+    let at-if1 = at-write-shares .before .before in
+    let at-sheet-cause = at-if1 .before in
+    let start = at-sheet-cause .before .before .before in
+    let a = start .args in
+    sheet-written (a .scheme) (a .year) (a .low .now) (a .high .now) _ _ _
+    (sheet-cause (a .scheme) (a .year) (a .low .now) (a .high .now) _ (at-sheet-cause .sheet-cause .ensures)) (at-if1 .if1 .left)
+    (at-write-shares .write-shares .ensures) (at-write-shares2 .write-shares2 .ensures)
 
 pub share-sheet-spec : {M : Type 1} → statement M
 share-sheet-spec =

@@ -20,7 +20,10 @@ shorter-requires : tie.Need-shorter-requires Inv-loop μ-loop
 shorter-requires c κs = tt
 
 loop-holds : tie.Need-loop-holds Inv-loop μ-loop
-loop-holds c = (omega arith, loop-begins _ _ (length (c .before .before .before .before .before .before .before .before .args .out .now)) _ (c .before .before .before .clear .ensures))
+loop-holds c =
+    let at-clear = c .before .before .before in
+    let start = at-clear .before .before .before .before .before in
+    (omega arith, loop-begins _ _ (length (start .args .out .now)) _ (at-clear .clear .ensures))
 
 shared-slice-read-raise : tie.Need-shared-slice-read-raise Inv-loop μ-loop
 shared-slice-read-raise c = omega arith
@@ -32,7 +35,9 @@ shared-slice-read-raise-2 : tie.Need-shared-slice-read-raise-2 Inv-loop μ-loop
 shared-slice-read-raise-2 c = omega arith
 
 raise-requires : tie.Need-raise-requires Inv-loop μ-loop
-raise-requires c κs = loop-capped _ _ _ _ _ (c .before .before .before .before .loop .inv .1)
+raise-requires c κs =
+    let at-loop = c .before .before .before .before in
+    loop-capped _ _ _ _ _ (at-loop .loop .inv .1)
 
 add-k : tie.Need-add-k Inv-loop μ-loop
 add-k c = omega arith
@@ -41,13 +46,22 @@ loop-less : tie.Need-loop-less Inv-loop μ-loop
 loop-less c = omega arith
 
 loop-again : tie.Need-loop-again Inv-loop μ-loop
-loop-again c = (omega arith, loop-turn _ _ _ _ _ _ (c .before .before .before .before .before .before .before .loop .inv .1) (c .before .before .raise .ensures))
+loop-again c =
+    let at-raise = c .before .before in
+    let at-loop = at-raise .before .before .before .before .before in
+    (omega arith, loop-turn _ _ _ _ _ _ (at-loop .loop .inv .1) (at-raise .raise .ensures))
 
 same-length : tie.Need-same-length Inv-loop μ-loop
-same-length c = loop-ends _ _ (length (c .before .before .before .before .before .before .before .before .before .before .args .out .now)) _ _ _ (c .before .before .before .before .before .clear .ensures) (c .before .loop .inv .1) (omega arith) .0
+same-length c =
+    let at-clear = c .before .before .before .before .before in
+    let start = at-clear .before .before .before .before .before in
+    loop-ends _ _ (length (start .args .out .now)) _ _ _ (at-clear .clear .ensures) (c .before .loop .inv .1) (omega arith) .0
 
 returns : tie.Need-returns Inv-loop μ-loop
-returns c = loop-ends _ _ (length (c .before .before .before .before .before .before .before .before .before .before .args .out .now)) _ _ _ (c .before .before .before .before .before .clear .ensures) (c .before .loop .inv .1) (omega arith) .1
+returns c =
+    let at-clear = c .before .before .before .before .before in
+    let start = at-clear .before .before .before .before .before in
+    loop-ends _ _ (length (start .args .out .now)) _ _ _ (at-clear .clear .ensures) (c .before .loop .inv .1) (omega arith) .1
 
 pub gather-spec : {M : Type 1} → statement M
 gather-spec =

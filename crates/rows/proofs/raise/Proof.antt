@@ -21,7 +21,9 @@ slice-read-add-capped : tie.Need-slice-read-add-capped
 slice-read-add-capped c = search needs
 
 add-capped-requires : tie.Need-add-capped-requires
-add-capped-requires c κs = c .before .before .before .before .pre _
+add-capped-requires c κs =
+    let start = c .before .before .before .before in
+    start .pre _
 
 mul-out : tie.Need-mul-out
 mul-out c = search needs
@@ -34,8 +36,9 @@ same-length c = search needs
 
 returns-3 : tie.Need-returns-3
 returns-3 c =
+    let start = c .before .before .before .before .before in
     rw (c .add-capped .ensures)
-    (raised-set (c .before .before .before .before .before .args .out .now) (c .before .before .before .before .before .args .rule) (c .before .before .before .before .before .args .end) (c .before .before .before .before .before .pre) (omega arith) (omega arith))
+    (raised-set (start .args .out .now) (start .args .rule) (start .args .end) (start .pre) (omega arith) (omega arith))
 
 pub raise-spec : {M : Type 1} → statement M
 raise-spec =

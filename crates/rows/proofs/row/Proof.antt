@@ -23,16 +23,32 @@ refused-requires-2 : tie.Need-refused-requires-2
 refused-requires-2 c κs = search needs
 
 returns-2 : tie.Need-returns-2
-returns-2 c = c .refused2 .ensures ∙ row-no-class (c .before .before .before .before .before .args .scheme) (c .before .before .before .before .before .args .class) _ (c .before .before .before .before .cause .ensures) (c .before .before .before .if1 .left) (sym (c .before .before .class-out .ensures) ∙ c .before .if2 .taken)
+returns-2 c =
+    let at-class-out = c .before .before in
+    let at-if1 = at-class-out .before in
+    let at-cause = at-if1 .before in
+    let start = at-cause .before in
+    c .refused2 .ensures ∙ row-no-class (start .args .scheme) (start .args .class) _ (at-cause .cause .ensures) (at-if1 .if1 .left) (sym (at-class-out .class-out .ensures) ∙ c .before .if2 .taken)
 
 answered-requires : tie.Need-answered-requires
 answered-requires c κs =
-    let ok = accepted-cause (c .before .before .before .before .before .before .before .args .scheme) (sym (c .before .before .before .before .before .before .cause .ensures) ∙ c .before .before .before .before .before .if1 .left) in
-    let range = outside-false (c .before .before .before .before .before .before .before .args .scheme .classes) (c .before .before .before .before .before .before .before .args .class) (sym (c .before .before .before .before .class-out .ensures) ∙ c .before .before .before .if2 .left) in
+    let at-if2 = c .before .before .before in
+    let at-class-out = at-if2 .before in
+    let at-if1 = at-class-out .before in
+    let at-cause = at-if1 .before in
+    let start = at-cause .before in
+    let ok = accepted-cause (start .args .scheme) (sym (at-cause .cause .ensures) ∙ at-if1 .if1 .left) in
+    let range = outside-false (start .args .scheme .classes) (start .args .class) (sym (at-class-out .class-out .ensures) ∙ at-if2 .if2 .left) in
     (range .0, range .1, ok .size .classes, ok .size .columns)
 
 returns-3 : tie.Need-returns-3
-returns-3 c = c .answered .ensures ∙ row-answered (c .before .before .before .before .before .before .before .before .args .scheme) (c .before .before .before .before .before .before .before .before .args .class) _ (c .before .before .before .before .before .before .before .cause .ensures) (c .before .before .before .before .before .before .if1 .left) (sym (c .before .before .before .before .before .class-out .ensures) ∙ c .before .before .before .before .if2 .left)
+returns-3 c =
+    let at-if2 = c .before .before .before .before in
+    let at-class-out = at-if2 .before in
+    let at-if1 = at-class-out .before in
+    let at-cause = at-if1 .before in
+    let start = at-cause .before in
+    c .answered .ensures ∙ row-answered (start .args .scheme) (start .args .class) _ (at-cause .cause .ensures) (at-if1 .if1 .left) (sym (at-class-out .class-out .ensures) ∙ at-if2 .if2 .left)
 
 pub row-spec : {M : Type 1} → statement M
 row-spec =

@@ -28,9 +28,9 @@ read-requires c κs = search needs
 
 refused-requires : tie.Need-refused-requires
 refused-requires c κs =
-    let at-place = c .before .before in
-    let start = at-place .before .before .before in
-    omega (arith, number at-place, read-cause-most (start .args .bytes .now))
+    let at-read = c .before .before in
+    let start = at-read .before .before .before in
+    omega (arith, number at-read, read-cause-most (start .args .bytes .now))
 
 same-length : tie.Need-same-length
 same-length c = search needs
@@ -39,8 +39,8 @@ returns : tie.Need-returns
 returns c =
     let at-refused = c .before .before in
     let at-if1 = at-refused .before .before in
-    let at-place = at-if1 .before in
-    sheet-refused _ (number at-place) (at-if1 .if1 .taken) (at-refused .refused .ensures)
+    let at-read = at-if1 .before in
+    sheet-refused _ (number at-read) (at-if1 .if1 .taken) (at-refused .refused .ensures)
 
 accepted-requires : tie.Need-accepted-requires
 accepted-requires c κs = rw (scheme-in (c .before)) (read-accepted _ (none (c .before)))
@@ -51,8 +51,8 @@ same-length-2 c = search needs
 returns-2 : tie.Need-returns-2
 returns-2 c =
     let at-accepted = c .before .before in
-    let at-place = at-accepted .before .before in
-    sheet-accepted _ (none at-place) (scheme-in at-place) (at-accepted .accepted .ensures)
+    let at-else = at-accepted .before .before in
+    sheet-accepted _ (none at-else) (scheme-in at-else) (at-accepted .accepted .ensures)
 
 pub sheet-spec : {M : Type 1} → statement M
 sheet-spec =

@@ -22,9 +22,12 @@ or-else-requires-2 c κs = search needs
 
 returns : tie.Need-returns
 returns c =
+    let at-year-cause = c .before .before in
+    let at-class-cause = at-year-cause .before in
+    let at-cause = at-class-cause .before in
     c .or-else2 .ensures
-    ∙ ap₂ (λ a b. orElse a b) (c .before .before .before .before .cause .ensures)
-    (c .before .or-else .ensures ∙ ap₂ (λ a b. orElse a b) (c .before .before .before .class-cause .ensures) (c .before .before .year-cause .ensures))
+    ∙ ap₂ (λ a b. orElse a b) (at-cause .cause .ensures)
+    (c .before .or-else .ensures ∙ ap₂ (λ a b. orElse a b) (at-class-cause .class-cause .ensures) (at-year-cause .year-cause .ensures))
 
 pub share-cause-spec : {M : Type 1} → statement M
 share-cause-spec =

@@ -8,7 +8,9 @@ returns : tie.Need-returns
 returns c = simp (ne-eqb (c .before .args .low) (c .before .args .size) (c .if1 .taken))
 
 returns-2 : tie.Need-returns-2
-returns-2 c = simp (eq-eqb (c .before .before .args .low) (c .before .before .args .size) (c .before .if1 .left), ne-eqb (c .before .before .args .high) (c .before .before .args .size) (λ e. omega arith))
+returns-2 c =
+    simp
+    (eq-eqb (c .before .before .args .low) (c .before .before .args .size) (c .before .if1 .left), ne-eqb (c .before .before .args .high) (c .before .before .args .size) (λ e. omega arith))
 
 returns-3 : tie.Need-returns-3
 returns-3 c = simp (eq-eqb (c .before .before .args .low) (c .before .before .args .size) (c .before .if1 .left), eq-eqb (c .before .before .args .high) (c .before .before .args .size) (omega arith))

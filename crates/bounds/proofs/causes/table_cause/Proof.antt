@@ -27,10 +27,13 @@ or-else-requires c κs = search needs
 
 returns : tie.Need-returns
 returns c =
+    let at-table-size = c .before .before in
+    let at-cause = at-table-size .before in
+    let start = at-cause .before in
     c .or-else .ensures
-    ∙ ap₂ (λ a b. orElse a b) (c .before .before .before .cause .ensures)
+    ∙ ap₂ (λ a b. orElse a b) (at-cause .cause .ensures)
     (c .before .slice-cause .ensures
-    ∙ ap (λ n. slicesCause n (c .before .before .before .before .args .low) (c .before .before .before .before .args .high)) (c .before .before .table-size .ensures ∙ sized (c .before .before .before .before .args .scheme)))
+    ∙ ap (λ n. slicesCause n (start .args .low) (start .args .high)) (at-table-size .table-size .ensures ∙ sized (start .args .scheme)))
 
 pub table-cause-spec : {M : Type 1} → statement M
 table-cause-spec =

@@ -19,10 +19,15 @@ abbrev μ-loop : tie.MeasureT-loop
 
 -- the list of state j has a free place, and the entry fits
 here : (c : tie.Then1 Inv-loop μ-loop)
-    → let a = c .before .before .before .before .args in
-    let l = c .before .before .before .loop in
+    → let at-loop = c .before .before .before in
+    let start = at-loop .before in
+    let a = start .args in
+    let l = at-loop .loop in
     (at (l .entries) (counts + l .j) ≤ a .i) × (a .i < 32) × (l .j < 32) × (at (a .lower .now) (l .j) ≤ at (a .upper .now) (l .j)) × (at (a .upper .now) (l .j) ≤ ONE) × (l .j < length (a .lower .now))
-here c = adding-here (c .before .before .before .before .pre) (c .before .before .before .loop .inv) (omega arith)
+here c =
+    let at-loop = c .before .before .before in
+    let start = at-loop .before in
+    adding-here (start .pre) (at-loop .loop .inv) (omega arith)
 
 loop-holds : tie.Need-loop-holds Inv-loop μ-loop
 loop-holds c = adding-none (c .pre)
@@ -113,8 +118,10 @@ loop-less c = omega arith
 
 loop-again : tie.Need-loop-again Inv-loop μ-loop
 loop-again c =
-    let p = c .before .before .before .before .pre in
-    let v = c .before .before .before .loop .inv in
+    let at-loop = c .before .before .before in
+    let start = at-loop .before in
+    let p = start .pre in
+    let v = at-loop .loop .inv in
     ⊎-elim
     (λ w. adding-as (w .3) (adding-more p v (omega arith)))
     (λ w. adding-as (w .1) (adding-skip p v (omega arith) (omega (arith, w .0 .left))))

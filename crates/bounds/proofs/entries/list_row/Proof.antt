@@ -34,38 +34,46 @@ gather-requires-2 c κs = search needs
 
 array-share-prefix-lower : tie.Need-array-share-prefix-lower
 array-share-prefix-lower c =
+    let at-gather = c .before .before .before .before in
     let s = c .before .before .before .before .before .before .before .before .before in
-    front-fits (s .args .n) (replicate 32 0) _ (drop (s .args .n) (replicate 32 0)) (omega arith) _ (c .before .before .before .before .gather .ensures)
+    front-fits (s .args .n) (replicate 32 0) _ (drop (s .args .n) (replicate 32 0)) (omega arith) _ (at-gather .gather .ensures)
 
 slice-aggregate-add-row : tie.Need-slice-aggregate-add-row
 slice-aggregate-add-row c =
+    let at-gather = c .before .before .before .before .before in
     let s = c .before .before .before .before .before .before .before .before .before .before in
-    front-size (s .args .n) (replicate 32 0) _ (drop (s .args .n) (replicate 32 0)) (omega arith) _ (c .before .before .before .before .before .gather .ensures)
+    front-size (s .args .n) (replicate 32 0) _ (drop (s .args .n) (replicate 32 0)) (omega arith) _ (at-gather .gather .ensures)
 
 array-share-prefix-upper : tie.Need-array-share-prefix-upper
 array-share-prefix-upper c =
+    let at-gather2 = c .before .before in
     let s = c .before .before .before .before .before .before .before .before .before .before in
-    front-fits (s .args .n) (replicate 32 0) _ (drop (s .args .n) (replicate 32 0)) (omega arith) _ (c .before .before .gather2 .ensures)
+    front-fits (s .args .n) (replicate 32 0) _ (drop (s .args .n) (replicate 32 0)) (omega arith) _ (at-gather2 .gather2 .ensures)
 
 slice-aggregate-add-row-2 : tie.Need-slice-aggregate-add-row-2
 slice-aggregate-add-row-2 c =
+    let at-gather2 = c .before .before .before in
     let s = c .before .before .before .before .before .before .before .before .before .before .before in
-    front-size (s .args .n) (replicate 32 0) _ (drop (s .args .n) (replicate 32 0)) (omega arith) _ (c .before .before .before .gather2 .ensures)
+    front-size (s .args .n) (replicate 32 0) _ (drop (s .args .n) (replicate 32 0)) (omega arith) _ (at-gather2 .gather2 .ensures)
 
 add-row-requires : tie.Need-add-row-requires
 add-row-requires c κs =
+    let at-gather2 = c .before .before .before .before in
+    let at-gather = c .before .before .before .before .before .before .before in
     let s = c .before .before .before .before .before .before .before .before .before .before .before .before in
-    row-adds _ _ (s .pre) (c .before .before .before .before .before .before .before .gather .ensures) (c .before .before .before .before .gather2 .ensures)
+    row-adds _ _ (s .pre) (at-gather .gather .ensures) (at-gather2 .gather2 .ensures)
 
 array-share-prefix-lower-2 : tie.Need-array-share-prefix-lower-2
 array-share-prefix-lower-2 c =
+    let at-gather = c .before .before .before .before .before .before .before .before in
     let s = c .before .before .before .before .before .before .before .before .before .before .before .before .before in
-    front-fits (s .args .n) (replicate 32 0) _ (drop (s .args .n) (replicate 32 0)) (omega arith) _ (c .before .before .before .before .before .before .before .before .gather .ensures)
+    front-fits (s .args .n) (replicate 32 0) _ (drop (s .args .n) (replicate 32 0)) (omega arith) _ (at-gather .gather .ensures)
 
 slice-aggregate-spare : tie.Need-slice-aggregate-spare
 slice-aggregate-spare c =
+    let at-gather = c .before .before .before .before .before .before .before .before .before in
     let s = c .before .before .before .before .before .before .before .before .before .before .before .before .before .before in
-    front-size (s .args .n) (replicate 32 0) _ (drop (s .args .n) (replicate 32 0)) (omega arith) _ (c .before .before .before .before .before .before .before .before .before .gather .ensures)
+    front-size (s .args .n) (replicate 32 0) _ (drop (s .args .n) (replicate 32 0)) (omega arith) _ (at-gather .gather .ensures)
 
 spare-requires : tie.Need-spare-requires
 spare-requires c κs = tt
@@ -75,8 +83,11 @@ cast-result c = omega (arith, c .spare .ensures)
 
 returns : tie.Need-returns
 returns c =
+    let at-add-row = c .before .before in
+    let at-gather2 = c .before .before .before .before .before .before .before in
+    let at-gather = c .before .before .before .before .before .before .before .before .before .before in
     let s = c .before .before .before .before .before .before .before .before .before .before .before .before .before .before .before in
-    row-listed _ _ (s .pre) (c .before .before .before .before .before .before .before .before .before .before .gather .ensures) (c .before .before .before .before .before .before .before .gather2 .ensures) (c .before .before .add-row .ensures) (c .spare .ensures)
+    row-listed _ _ (s .pre) (at-gather .gather .ensures) (at-gather2 .gather2 .ensures) (at-add-row .add-row .ensures) (c .spare .ensures)
 
 pub list-row-spec : {M : Type 1} → statement M
 list-row-spec =

@@ -34,7 +34,10 @@ part-list-row-end : tie.Need-part-list-row-end Inv-loop μ-loop
 part-list-row-end c = search needs
 
 list-row-requires : tie.Need-list-row-requires Inv-loop μ-loop
-list-row-requires c κs = listing-takes (c .before .before .before .before .before .before .before .pre) (c .before .before .before .loop .i) (c .before .before .before .loop .inv) (omega arith)
+list-row-requires c κs =
+    let at-loop = c .before .before .before in
+    let start = at-loop .before .before .before .before in
+    listing-takes (start .pre) (at-loop .loop .i) (at-loop .loop .inv) (omega arith)
 
 mul-spare : tie.Need-mul-spare Inv-loop μ-loop
 mul-spare c = omega arith
@@ -49,10 +52,15 @@ loop-less : tie.Need-loop-less Inv-loop μ-loop
 loop-less c = omega arith
 
 loop-again : tie.Need-loop-again Inv-loop μ-loop
-loop-again c = listing-more (c .before .before .before .before .before .before .before .before .pre) (c .before .before .before .before .loop .i) (c .before .before .before .before .loop .inv) (omega arith) (c .list-row .ensures)
+loop-again c =
+    let at-loop = c .before .before .before .before in
+    let start = at-loop .before .before .before .before in
+    listing-more (start .pre) (at-loop .loop .i) (at-loop .loop .inv) (omega arith) (c .list-row .ensures)
 
 returns : tie.Need-returns Inv-loop μ-loop
-returns c = listing-all (c .before .before .before .before .before .pre) (c .before .loop .i) (c .before .loop .inv) (omega arith)
+returns c =
+    let start = c .before .before .before .before .before in
+    listing-all (start .pre) (c .before .loop .i) (c .before .loop .inv) (omega arith)
 
 pub list-rows-spec : {M : Type 1} → statement M
 list-rows-spec =

@@ -19,7 +19,9 @@ list-scheme-requires : tie.Need-list-scheme-requires Inv-loop μ-loop
 list-scheme-requires c κs = (c .before .before .before .pre .accepted, empty-listed)
 
 loop-holds : tie.Need-loop-holds Inv-loop μ-loop
-loop-holds c = written-none (c .before .before .before .before .pre .size)
+loop-holds c =
+    let start = c .before .before .before .before in
+    written-none (start .pre .size)
 
 add-share-payoff : tie.Need-add-share-payoff Inv-loop μ-loop
 add-share-payoff c = omega arith
@@ -29,8 +31,10 @@ share-payoff-requires c κs = (omega arith, omega arith)
 
 start-figure-requires : tie.Need-start-figure-requires Inv-loop μ-loop
 start-figure-requires c κs =
+    let at-share-payoff = c .before .before in
+    let at-list-scheme = c .before .before .before .before .before in
     let s = c .before .before .before .before .before .before .before .before .before in
-    (share-ready (s .args .scheme) (s .pre .accepted) (c .before .before .share-payoff .ensures) (s .args .year), c .before .before .before .before .before .list-scheme .ensures)
+    (share-ready (s .args .scheme) (s .pre .accepted) (at-share-payoff .share-payoff .ensures) (s .args .year), at-list-scheme .list-scheme .ensures)
 
 mul-out : tie.Need-mul-out Inv-loop μ-loop
 mul-out c = omega arith
@@ -46,9 +50,11 @@ loop-less c = omega arith
 
 loop-again : tie.Need-loop-again Inv-loop μ-loop
 loop-again c =
+    let at-share-payoff = c .before .before .before in
+    let at-loop = c .before .before .before .before .before in
     let s = c .before .before .before .before .before .before .before .before .before .before in
-    let l = c .before .before .before .before .before .loop in
-    sheeting-more (s .args .scheme) (s .args .high) (s .args .year) (l .out) (l .j) (s .pre .accepted) (omega arith) (c .before .before .before .share-payoff .ensures) (c .start-figure .ensures) (l .inv)
+    let l = at-loop .loop in
+    sheeting-more (s .args .scheme) (s .args .high) (s .args .year) (l .out) (l .j) (s .pre .accepted) (omega arith) (at-share-payoff .share-payoff .ensures) (c .start-figure .ensures) (l .inv)
 
 same-length : tie.Need-same-length Inv-loop μ-loop
 same-length c = omega arith

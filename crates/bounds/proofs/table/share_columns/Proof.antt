@@ -27,7 +27,10 @@ share-payoff-requires : tie.Need-share-payoff-requires Inv-loop μ-loop
 share-payoff-requires c κs = (omega arith, omega arith)
 
 column-requires : tie.Need-column-requires Inv-loop μ-loop
-column-requires c κs = (sharing-column (c .before .before .before .before .before .before .args .scheme) (c .before .before .before .before .before .before .pre .0 .accepted) (c .before .before .before .loop .inv) (omega arith) (c .before .share-payoff .ensures), c .before .before .before .before .before .before .pre .1)
+column-requires c κs =
+    let at-loop = c .before .before .before in
+    let start = at-loop .before .before .before in
+    (sharing-column (start .args .scheme) (start .pre .0 .accepted) (at-loop .loop .inv) (omega arith) (c .before .share-payoff .ensures), start .pre .1)
 
 add-j : tie.Need-add-j Inv-loop μ-loop
 add-j c = omega arith
@@ -36,10 +39,17 @@ loop-less : tie.Need-loop-less Inv-loop μ-loop
 loop-less c = omega arith
 
 loop-again : tie.Need-loop-again Inv-loop μ-loop
-loop-again c = sharing-more (c .before .before .before .before .before .before .before .before .before .args .scheme) (c .before .before .before .before .before .before .before .before .before .pre .0 .accepted) (c .before .before .before .before .before .before .loop .inv) (omega arith) (c .before .before .before .before .share-payoff .ensures) (c .before .before .column .ensures)
+loop-again c =
+    let at-column = c .before .before in
+    let at-share-payoff = at-column .before .before in
+    let at-loop = at-share-payoff .before .before in
+    let start = at-loop .before .before .before in
+    sharing-more (start .args .scheme) (start .pre .0 .accepted) (at-loop .loop .inv) (omega arith) (at-share-payoff .share-payoff .ensures) (at-column .column .ensures)
 
 same-length : tie.Need-same-length Inv-loop μ-loop
-same-length c = c .before .loop .inv .size ∙ sym (c .before .before .before .before .pre .0 .size)
+same-length c =
+    let start = c .before .before .before .before in
+    c .before .loop .inv .size ∙ sym (start .pre .0 .size)
 
 returns : tie.Need-returns Inv-loop μ-loop
 returns c = sharing-all (omega arith) (c .before .loop .inv)

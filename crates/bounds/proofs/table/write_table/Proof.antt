@@ -21,8 +21,11 @@ cast-mean c = search needs
 
 column-requires : tie.Need-column-requires
 column-requires c κs =
+    let at-widened = c .before .before .before .before in
+    let at-share-columns = c .before .before .before .before .before .before .before .before in
+    let at-list-scheme = c .before .before .before .before .before .before .before .before .before .before .before .before in
     let s = c .before .before .before .before .before .before .before .before .before .before .before .before .before .before .before .before in
-    (mean-column (s .args .scheme) (s .pre .accepted) (c .before .before .before .before .widened .ensures) (c .before .before .before .before .before .before .before .before .share-columns .ensures), c .before .before .before .before .before .before .before .before .before .before .before .before .list-scheme .ensures)
+    (mean-column (s .args .scheme) (s .pre .accepted) (at-widened .widened .ensures) (at-share-columns .share-columns .ensures), at-list-scheme .list-scheme .ensures)
 
 sub-last : tie.Need-sub-last
 sub-last c = search needs
@@ -32,25 +35,36 @@ cast-years c = search needs
 
 start-figure-requires : tie.Need-start-figure-requires
 start-figure-requires c κs =
+    let at-widened = c .before .before .before .before .before .before .before .before .before .before in
+    let at-list-scheme = c .before .before .before .before .before .before .before .before .before .before .before .before .before .before .before .before .before .before in
     let s = c .before .before .before .before .before .before .before .before .before .before .before .before .before .before .before .before .before .before .before .before .before .before in
-    (total-starts (s .args .scheme) (s .pre .accepted) (c .before .before .before .before .before .before .before .before .before .before .widened .ensures), c .before .before .before .before .before .before .before .before .before .before .before .before .before .before .before .before .before .before .list-scheme .ensures)
+    (total-starts (s .args .scheme) (s .pre .accepted) (at-widened .widened .ensures), at-list-scheme .list-scheme .ensures)
 
 mul-out : tie.Need-mul-out
 mul-out c =
+    let at-column = c .before .before .before .before .before .before in
+    let at-share-columns = c .before .before .before .before .before .before .before .before .before .before .before .before .before .before .before in
     let s = c .before .before .before .before .before .before .before .before .before .before .before .before .before .before .before .before .before .before .before .before .before .before .before in
-    last-fits (s .args .scheme) (s .pre .accepted) (c .before .before .before .before .before .before .column .ensures .size ∙ c .before .before .before .before .before .before .before .before .before .before .before .before .before .before .before .share-columns .ensures .size)
+    last-fits (s .args .scheme) (s .pre .accepted) (at-column .column .ensures .size ∙ at-share-columns .share-columns .ensures .size)
 
 slice-write-out : tie.Need-slice-write-out
 slice-write-out c = search needs
 
 same-length : tie.Need-same-length
 same-length c =
-    last-length (c .before .before .before .before .before .before .column .last .1 .1 .1 .1 .1 .1 .1 .0) (c .start-figure .result) (c .before .before .before .before .before .before .column .ensures .size ∙ c .before .before .before .before .before .before .before .before .before .before .before .before .before .before .before .share-columns .ensures .size ∙ sym (c .before .before .before .before .before .before .before .before .before .before .before .before .before .before .before .before .before .before .before .before .before .before .before .pre .size))
+    let at-column = c .before .before .before .before .before .before in
+    let at-share-columns = at-column .before .before .before .before .before .before .before .before .before in
+    let start = at-share-columns .before .before .before .before .before .before .before .before in
+    last-length (at-column .column .last .1 .1 .1 .1 .1 .1 .1 .0) (c .start-figure .result) (at-column .column .ensures .size ∙ at-share-columns .share-columns .ensures .size ∙ sym (start .pre .size))
 
 returns : tie.Need-returns
 returns c =
+    let at-column = c .before .before .before .before .before .before in
+    let at-widened = c .before .before .before .before .before .before .before .before .before .before .before in
+    let at-share-columns = c .before .before .before .before .before .before .before .before .before .before .before .before .before .before .before in
     let s = c .before .before .before .before .before .before .before .before .before .before .before .before .before .before .before .before .before .before .before .before .before .before .before in
-    table-made (s .args .scheme) (s .pre .accepted) (c .before .before .before .before .before .before .before .before .before .before .before .widened .ensures) (c .before .before .before .before .before .before .before .before .before .before .before .before .before .before .before .share-columns .ensures) (c .before .before .before .before .before .before .column .ensures) (c .start-figure .result) (c .start-figure .ensures)
+    table-made (s .args .scheme) (s .pre .accepted) (at-widened .widened .ensures) (at-share-columns .share-columns .ensures)
+    (at-column .column .ensures) (c .start-figure .result) (c .start-figure .ensures)
 
 pub write-table-spec : {M : Type 1} → statement M
 write-table-spec =

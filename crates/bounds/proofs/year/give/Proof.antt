@@ -20,41 +20,61 @@ abbrev μ-loop : tie.MeasureT-loop
 
 -- the entry's place, and its row's
 here : (c : tie.After-i Inv-loop μ-loop)
-    → let l = c .before .before .loop in
-    let i = at (c .before .before .before .before .before .args .entries .now) (l .e) in
+    → let at-loop = c .before .before in
+    let start = at-loop .before .before .before in
+    let l = at-loop .loop in
+    let i = at (start .args .entries .now) (l .e) in
     (l .e < 1024) × (i < length (l .left)) × (i < length (l .sums))
 here c =
-    let able = c .before .before .before .before .before .pre in
-    let w = c .before .before .loop .inv in
+    let at-loop = c .before .before in
+    let start = at-loop .before .before .before in
+    let able = start .pre in
+    let w = at-loop .loop .inv in
     omega (arith, able .ends, able .size, w .given .lefts, w .given .size, row-inside able w (omega arith) refl refl)
 
 -- what its row is given
 given : (c : tie.After-smaller Inv-loop μ-loop)
-    → let a = c .before .before .before .before .before .before .before .before .args in
-    let l = c .before .before .before .before .before .loop in
+    → let at-loop = c .before .before .before .before .before in
+    let start = at-loop .before .before .before in
+    let a = start .args in
+    let l = at-loop .loop in
     c .smaller .result ≡ min (at (a .entries .now) (rooms + l .e)) (at (l .left) (at (a .entries .now) (l .e)))
 given c = c .smaller .ensures
 
 -- and that the row's sum fits
 fits : (c : tie.After-sums Inv-loop μ-loop)
-    → let a = c .before .before .before .before .before .before .before .before .before .args in
-    let l = c .before .before .before .before .before .before .loop in
+    → let at-loop = c .before .before .before .before .before .before in
+    let start = at-loop .before .before .before in
+    let a = start .args in
+    let l = at-loop .loop in
     at (l .sums) (at (a .entries .now) (l .e)) + (at (a .entries .now) (lows + l .e) + c .before .smaller .result) * a .pays ≤ LARGEST * ONE
-fits c = giving-fits (c .before .before .before .before .before .before .before .before .before .pre) (c .before .before .before .before .before .before .loop .inv) (omega arith) refl (given (c .before))
+fits c =
+    let at-loop = c .before .before .before .before .before .before in
+    let start = at-loop .before .before .before in
+    giving-fits (start .pre) (at-loop .loop .inv) (omega arith) refl (given (c .before))
 
 -- as the entry does
 small : (c : tie.After-sums Inv-loop μ-loop)
-    → at (c .before .before .before .before .before .before .before .before .before .args .entries .now) (lows + c .before .before .before .before .before .before .loop .e) + c .before .smaller .result ≤ ONE
-small c = omega (arith, given (c .before), c .before .before .before .before .before .before .before .before .before .pre .small (c .before .before .before .before .before .before .loop .e) (c .before .before .before .before .before .before .loop .inv .begun) (omega arith))
+    → let at-loop = c .before .before .before .before .before .before in
+    let start = at-loop .before .before .before in
+    at (start .args .entries .now) (lows + at-loop .loop .e) + c .before .smaller .result ≤ ONE
+small c =
+    let at-loop = c .before .before .before .before .before .before in
+    let start = at-loop .before .before .before in
+    omega (arith, given (c .before), start .pre .small (at-loop .loop .e) (at-loop .loop .inv .begun) (omega arith))
 
 loop-holds : tie.Need-loop-holds Inv-loop μ-loop
 loop-holds c = giving-none (c .before .before .pre)
 
 mul-i : tie.Need-mul-i Inv-loop μ-loop
-mul-i c = omega (arith, c .before .before .before .before .pre .ends)
+mul-i c =
+    let start = c .before .before .before .before in
+    omega (arith, start .pre .ends)
 
 element-copy-out-i : tie.Need-element-copy-out-i Inv-loop μ-loop
-element-copy-out-i c = omega (arith, c .before .before .before .before .pre .ends)
+element-copy-out-i c =
+    let start = c .before .before .before .before in
+    omega (arith, start .pre .ends)
 
 cast-i : tie.Need-cast-i Inv-loop μ-loop
 cast-i c = omega (arith, here c)
@@ -105,34 +125,50 @@ mul-sums-2 : tie.Need-mul-sums-2 Inv-loop μ-loop
 mul-sums-2 c = omega (arith, fits c)
 
 mul-sums-3 : tie.Need-mul-sums-3 Inv-loop μ-loop
-mul-sums-3 c = omega (arith, here (c .before .before .before .before))
+mul-sums-3 c =
+    let at-i = c .before .before .before .before in
+    omega (arith, here at-i)
 
 slice-read-sums : tie.Need-slice-read-sums Inv-loop μ-loop
-slice-read-sums c = here (c .before .before .before .before .before) .2
+slice-read-sums c =
+    let at-i = c .before .before .before .before .before in
+    here at-i .2
 
 add-sums-3 : tie.Need-add-sums-3 Inv-loop μ-loop
 add-sums-3 c = omega (arith, fits (c .before))
 
 slice-write-sums : tie.Need-slice-write-sums Inv-loop μ-loop
-slice-write-sums c = here (c .before .before .before .before .before) .2
+slice-write-sums c =
+    let at-i = c .before .before .before .before .before in
+    here at-i .2
 
 add-e : tie.Need-add-e Inv-loop μ-loop
-add-e c = omega (arith, here (c .before .before .before .before .before))
+add-e c =
+    let at-i = c .before .before .before .before .before in
+    omega (arith, here at-i)
 
 loop-less : tie.Need-loop-less Inv-loop μ-loop
 loop-less c = omega arith
 
 loop-again : tie.Need-loop-again Inv-loop μ-loop
-loop-again c = giving-more (c .before .before .before .before .before .before .before .before .before .before .pre) (c .before .before .before .before .before .before .before .loop .inv) (omega arith) refl (given (c .before .before))
+loop-again c =
+    let at-smaller = c .before .before in
+    let at-loop = at-smaller .before .before .before .before .before in
+    let start = at-loop .before .before .before in
+    giving-more (start .pre) (at-loop .loop .inv) (omega arith) refl (given at-smaller)
 
 same-length : tie.Need-same-length Inv-loop μ-loop
 same-length c = omega (arith, c .before .loop .inv .given .lefts)
 
 same-length-2 : tie.Need-same-length-2 Inv-loop μ-loop
-same-length-2 c = omega (arith, c .before .loop .inv .given .size, c .before .before .before .before .pre .size)
+same-length-2 c =
+    let start = c .before .before .before .before in
+    omega (arith, c .before .loop .inv .given .size, start .pre .size)
 
 returns : tie.Need-returns Inv-loop μ-loop
-returns c = giving-all (c .before .before .before .before .pre) (omega arith) (c .before .loop .inv)
+returns c =
+    let start = c .before .before .before .before in
+    giving-all (start .pre) (omega arith) (c .before .loop .inv)
 
 pub give-spec : {M : Type 1} → statement M
 give-spec =

@@ -35,7 +35,10 @@ round-requires : tie.Need-round-requires Inv-loop μ-loop
 round-requires c κs = tt
 
 add-sums : tie.Need-add-sums Inv-loop μ-loop
-add-sums c = settling-fits (c .before .before .before .before .before .before .before .args .high) (c .before .before .before .before .before .before .before .pre) (c .before .before .before .before .loop .inv) (omega arith) (c .round .ensures)
+add-sums c =
+    let at-loop = c .before .before .before .before in
+    let start = at-loop .before .before .before in
+    settling-fits (start .args .high) (start .pre) (at-loop .loop .inv) (omega arith) (c .round .ensures)
 
 mul-sums-2 : tie.Need-mul-sums-2 Inv-loop μ-loop
 mul-sums-2 c = omega arith
@@ -50,13 +53,20 @@ loop-less : tie.Need-loop-less Inv-loop μ-loop
 loop-less c = omega arith
 
 loop-again : tie.Need-loop-again Inv-loop μ-loop
-loop-again c = rewritten-more _ _ _ (c .before .before .before .before .loop .sums) _ _ (omega arith) (ap (λ x. at (c .before .before .before .before .before .before .before .args .gain .now) (c .before .before .before .before .loop .i) + x) (c .round .ensures)) (c .before .before .before .before .loop .inv)
+loop-again c =
+    let at-loop = c .before .before .before .before in
+    let start = at-loop .before .before .before in
+    rewritten-more _ _ _ (at-loop .loop .sums) _ _ (omega arith) (ap (λ x. at (start .args .gain .now) (at-loop .loop .i) + x) (c .round .ensures)) (at-loop .loop .inv)
 
 same-length : tie.Need-same-length Inv-loop μ-loop
-same-length c = omega (arith, c .before .loop .inv .size, c .before .before .before .before .pre .size)
+same-length c =
+    let start = c .before .before .before .before in
+    omega (arith, c .before .loop .inv .size, start .pre .size)
 
 returns : tie.Need-returns Inv-loop μ-loop
-returns c = settling-all (c .before .before .before .before .args .high) (c .before .before .before .before .pre) (c .before .loop .inv) (omega arith)
+returns c =
+    let start = c .before .before .before .before in
+    settling-all (start .args .high) (start .pre) (c .before .loop .inv) (omega arith)
 
 pub settle-spec : {M : Type 1} → statement M
 settle-spec =

@@ -18,23 +18,32 @@ abbrev μ-loop : tie.MeasureT-loop
 μ-loop entries payoff order left₀ sums₀ k₀ left sums k = length payoff - k
 
 -- the class at place k has a state
-named : (c : tie.After-state Inv-loop μ-loop) → c .state .result ≡ at (c .before .before .before .before .before .before .before .before .args .order .now) (c .before .before .before .loop .k) - 1
+named : (c : tie.After-state Inv-loop μ-loop) → let at-loop = c .before .before .before in
+    let start = at-loop .before .before .before .before .before in
+    c .state .result ≡ at (start .args .order .now) (at-loop .loop .k) - 1
 named c =
-    let able = c .before .before .before .before .before .before .before .before .pre in
-    c .state .ensures ∙ state-of _ (able .placed .within (c .before .before .before .loop .k) (omega (arith, able .placed .size)) .0)
+    let at-loop = c .before .before .before in
+    let start = at-loop .before .before .before .before .before in
+    let able = start .pre in
+    c .state .ensures ∙ state-of _ (able .placed .within (at-loop .loop .k) (omega (arith, able .placed .size)) .0)
 
 -- and how long its list is
 here : (c : tie.After-state Inv-loop μ-loop)
-    → let a = c .before .before .before .before .before .before .before .before .args in
+    → let start = c .before .before .before .before .before .before .before .before in
+    let a = start .args in
     (c .state .result < 32) × (c .state .result < length (a .payoff .now)) × (at (a .entries .now) (counts + c .state .result) ≤ 32)
 here c =
-    let able = c .before .before .before .before .before .before .before .before .pre in
-    let w = c .before .before .before .loop .inv in
-    let more : c .before .before .before .loop .k < length (c .before .before .before .before .before .before .before .before .args .payoff .now) = omega (arith, able .placed .size) in
+    let at-loop = c .before .before .before in
+    let start = at-loop .before .before .before .before .before in
+    let able = start .pre in
+    let w = at-loop .loop .inv in
+    let more : at-loop .loop .k < length (start .args .payoff .now) = omega (arith, able .placed .size) in
     omega (arith, able .held .few, state-inside able w more (named c), list-short able w more (named c))
 
 loop-holds : tie.Need-loop-holds Inv-loop μ-loop
-loop-holds c = passing-none (c .before .before .before .before .pre)
+loop-holds c =
+    let start = c .before .before .before .before in
+    passing-none (start .pre)
 
 shared-slice-read-state : tie.Need-shared-slice-read-state Inv-loop μ-loop
 shared-slice-read-state c = omega arith
@@ -67,25 +76,42 @@ shared-slice-read-give : tie.Need-shared-slice-read-give Inv-loop μ-loop
 shared-slice-read-give c = omega (arith, here (c .before .before))
 
 give-requires : tie.Need-give-requires Inv-loop μ-loop
-give-requires c κs = pass-gives (c .before .before .before .before .before .before .before .before .before .before .before .before .pre) (c .before .before .before .before .before .before .before .loop .inv) (omega (arith, c .before .before .before .before .before .before .before .before .before .before .before .before .pre .placed .size)) (named (c .before .before .before .before))
+give-requires c κs =
+    let at-state = c .before .before .before .before in
+    let at-loop = at-state .before .before .before in
+    let start = at-loop .before .before .before .before .before in
+    pass-gives (start .pre) (at-loop .loop .inv) (omega (arith, start .pre .placed .size)) (named at-state)
 
 add-k : tie.Need-add-k Inv-loop μ-loop
 add-k c = omega arith
 
 loop-less : tie.Need-loop-less Inv-loop μ-loop
-loop-less c = omega (arith, c .before .before .before .before .before .before .before .before .before .before .before .before .before .before .before .before .before .pre .placed .size)
+loop-less c =
+    let start = c .before .before .before .before .before .before .before .before .before .before .before .before .before .before .before .before .before in
+    omega (arith, start .pre .placed .size)
 
 loop-again : tie.Need-loop-again Inv-loop μ-loop
-loop-again c = passing-more (c .before .before .before .before .before .before .before .before .before .before .before .before .before .before .before .before .before .pre) (c .before .before .before .before .before .before .before .before .before .before .before .before .loop .inv) (omega (arith, c .before .before .before .before .before .before .before .before .before .before .before .before .before .before .before .before .before .pre .placed .size)) (named (c .before .before .before .before .before .before .before .before .before)) (c .before .before .before .before .give .ensures)
+loop-again c =
+    let at-give = c .before .before .before .before in
+    let at-state = at-give .before .before .before .before .before in
+    let at-loop = at-state .before .before .before in
+    let start = at-loop .before .before .before .before .before in
+    passing-more (start .pre) (at-loop .loop .inv) (omega (arith, start .pre .placed .size)) (named at-state) (at-give .give .ensures)
 
 same-length : tie.Need-same-length Inv-loop μ-loop
-same-length c = omega (arith, c .before .loop .inv .lefts, c .before .before .before .before .before .before .pre .lefts)
+same-length c =
+    let start = c .before .before .before .before .before .before in
+    omega (arith, c .before .loop .inv .lefts, start .pre .lefts)
 
 same-length-2 : tie.Need-same-length-2 Inv-loop μ-loop
-same-length-2 c = omega (arith, c .before .loop .inv .size, c .before .before .before .before .before .before .pre .size)
+same-length-2 c =
+    let start = c .before .before .before .before .before .before in
+    omega (arith, c .before .loop .inv .size, start .pre .size)
 
 returns : tie.Need-returns Inv-loop μ-loop
-returns c = passing-all (c .before .before .before .before .before .before .pre) (omega (arith, c .before .before .before .before .before .before .pre .placed .size)) (c .before .loop .inv)
+returns c =
+    let start = c .before .before .before .before .before .before in
+    passing-all (start .pre) (omega (arith, start .pre .placed .size)) (c .before .loop .inv)
 
 pub walk-spec : {M : Type 1} → statement M
 walk-spec =

@@ -60,7 +60,8 @@ met : (t : ℕ) → (c : years-lts.Joined1 (claims t) (years-at t) years.Post)
     → let a = c .before .before .before .before .args in
     Ran (a .entries .now) (a .gain .now) (a .figures .now) (a .high) (a .t) (a .state) (a .stride) (a .t) (c .if1 .order) (c .if1 .figures) (a .out .now) (c .if1 .out)
 met t c =
-    let pre = c .before .before .before .before .pre .1 in
+    let start = c .before .before .before .before in
+    let pre = start .pre .1 in
     ⊎-elim
     (λ w. rw (w .15, w .16, w .17) (run-more pre _ (omega arith) (w .4 .ensures) (omega arith) (w .9 .taken) (w .12 .ensures .0) (w .12 .ensures .1)))
     (⊎-elim

@@ -5,10 +5,15 @@ use Rattle.bounds.proofs.years.advance.Statement.{statement}
 use Rattle.bounds.proofs.years.advance.Tie as tie
 
 year-requires : tie.Need-year-requires
-year-requires c κs = c .before .before .before .before .pre
+year-requires c κs =
+    let start = c .before .before .before .before in
+    start .pre
 
 same-length : tie.Need-same-length
-same-length c = c .before .before .year .ensures .1 .size ∙ sym (c .before .before .before .before .before .before .before .pre .placed .size)
+same-length c =
+    let at-year = c .before .before in
+    let start = at-year .before .before .before .before .before in
+    at-year .year .ensures .1 .size ∙ sym (start .pre .placed .size)
 
 returns : tie.Need-returns
 returns c = c .before .before .year .ensures

@@ -36,15 +36,15 @@ returns c =
 
 copy-ends-requires : tie.Need-copy-ends-requires
 copy-ends-requires c κs =
-    let at-place = c .before .before .before in
-    let start = at-place .before .before .before .before .before in
-    omega (arith, sizes at-place .0, start .pre)
+    let at-else = c .before .before .before in
+    let start = at-else .before .before .before .before .before in
+    omega (arith, sizes at-else .0, start .pre)
 
 copy-ends-requires-2 : tie.Need-copy-ends-requires-2
 copy-ends-requires-2 c κs =
-    let at-place = c .before .before .before .before .before .before .before in
-    let start = at-place .before .before .before .before .before in
-    omega (arith, sizes at-place .1, start .pre)
+    let at-else = c .before .before .before .before .before .before .before in
+    let start = at-else .before .before .before .before .before in
+    omega (arith, sizes at-else .1, start .pre)
 
 same-length : tie.Need-same-length
 same-length c = search needs
@@ -57,10 +57,10 @@ returns-2 c =
     let at-copy-ends2 = c .before .before in
     let at-copy-ends = at-copy-ends2 .before .before .before .before in
     let at-if1 = at-copy-ends .before .before .before .before in
-    let at-place = at-if1 .before in
-    let start = at-place .before .before .before .before in
+    let at-slices-cause = at-if1 .before in
+    let start = at-slices-cause .before .before .before .before in
     let s = start .args .scheme in
-    pair-filled (lowerBands s) (upperBands s) (start .args .lower .now) (start .args .upper .now) (cause at-place) (at-if1 .if1 .left)
+    pair-filled (lowerBands s) (upperBands s) (start .args .lower .now) (start .args .upper .now) (cause at-slices-cause) (at-if1 .if1 .left)
     (at-copy-ends .copy-ends .ensures ∙ ap (λ n. tab n (λ k. getD (s .lowers) k 0)) (sizes at-if1 .0))
     (at-copy-ends2 .copy-ends2 .ensures ∙ ap (λ n. tab n (λ k. getD (s .uppers) k 0)) (sizes at-if1 .1))
 

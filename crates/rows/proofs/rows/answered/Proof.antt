@@ -38,14 +38,18 @@ array-share-prefix-uppers : tie.Need-array-share-prefix-uppers
 array-share-prefix-uppers c = omega arith
 
 slice-aggregate-entries-2 : tie.Need-slice-aggregate-entries-2
-slice-aggregate-entries-2 c = sym (length-take-le (c .before .before .before .before .before .args .columns) (c .before .before .before .before .before .args .t3) (omega arith))
+slice-aggregate-entries-2 c =
+    let start = c .before .before .before .before .before in
+    sym (length-take-le (start .args .columns) (start .args .t3) (omega arith))
 
 entries-requires-2 : tie.Need-entries-requires-2
 entries-requires-2 c κs = omega arith
 
 returns : tie.Need-returns
 returns c =
-    row-made (c .before .before .before .before .before .before .args .t1) (c .before .before .before .before .before .before .args .t2) (c .before .before .before .before .before .before .args .t3) (c .before .before .before .before .before .before .args .columns) (c .before .before .before .before .before .before .args .classes) (c .before .before .before .before .before .before .args .class - 1) _ _ (c .before .before .entries .ensures) (c .entries2 .ensures)
+    let at-entries = c .before .before in
+    let start = at-entries .before .before .before .before in
+    row-made (start .args .t1) (start .args .t2) (start .args .t3) (start .args .columns) (start .args .classes) (start .args .class - 1) _ _ (at-entries .entries .ensures) (c .entries2 .ensures)
 
 pub answered-spec : {M : Type 1} → statement M
 answered-spec =

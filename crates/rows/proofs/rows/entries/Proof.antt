@@ -18,7 +18,9 @@ gather-requires : tie.Need-gather-requires
 gather-requires c κs = search needs
 
 returns : tie.Need-returns
-returns c = entries-joined _ _ (c .before .before .before .before .before .args .classes) _ (omega arith) (c .before .gather .ensures)
+returns c =
+    let start = c .before .before .before .before .before in
+    entries-joined _ _ (start .args .classes) _ (omega arith) (c .before .gather .ensures)
 
 pub entries-spec : {M : Type 1} → statement M
 entries-spec =

@@ -35,25 +35,35 @@ array-share-prefix-uppers : tie.Need-array-share-prefix-uppers
 array-share-prefix-uppers c = search needs
 
 slice-aggregate-solve-2 : tie.Need-slice-aggregate-solve-2
-slice-aggregate-solve-2 c = sym (length-take-le (c .before .before .before .before .args .columns) (c .before .before .before .before .args .t3) (search needs))
+slice-aggregate-solve-2 c =
+    let start = c .before .before .before .before in
+    sym (length-take-le (start .args .columns) (start .args .t3) (search needs))
 
 array-share-prefix-payoff : tie.Need-array-share-prefix-payoff
 array-share-prefix-payoff c = search needs
 
 slice-aggregate-solve-3 : tie.Need-slice-aggregate-solve-3
-slice-aggregate-solve-3 c = sym (length-take-le (c .before .before .before .before .before .args .classes) (c .before .before .before .before .before .args .t4) (search needs))
+slice-aggregate-solve-3 c =
+    let start = c .before .before .before .before .before in
+    sym (length-take-le (start .args .classes) (start .args .t4) (search needs))
 
 array-borrow-prefix-row : tie.Need-array-borrow-prefix-row
 array-borrow-prefix-row c = search needs
 
 slice-aggregate-solve-4 : tie.Need-slice-aggregate-solve-4
-slice-aggregate-solve-4 c = sym (lent-size _ (c .before .before .before .before .before .before .pre .fewClasses))
+slice-aggregate-solve-4 c =
+    let start = c .before .before .before .before .before .before in
+    sym (lent-size _ (start .pre .fewClasses))
 
 solve-requires : tie.Need-solve-requires
-solve-requires c κs = answer-solves (c .before .before .before .before .before .before .pre) (search needs)
+solve-requires c κs =
+    let start = c .before .before .before .before .before .before in
+    answer-solves (start .pre) (search needs)
 
 returns : tie.Need-returns
-returns c = answer-made (c .before .before .before .before .before .before .before .before .pre) (search needs) _ (c .before .solve .ensures)
+returns c =
+    let start = c .before .before .before .before .before .before .before .before in
+    answer-made (start .pre) (search needs) _ (c .before .solve .ensures)
 
 pub answered-spec : {M : Type 1} → statement M
 answered-spec =

@@ -16,8 +16,10 @@ same-length c = search needs
 
 returns : tie.Need-returns
 returns c =
+    let at-sort = c .before .before in
+    let at-number = c .before .before .before .before .before .before in
     let start = c .before .before .before .before .before .before .before .before .before .before in
-    numbers-arranged _ (start .args .order .now) _ (start .pre .0) (start .pre .1) (c .before .before .before .before .before .before .number .ensures) (c .before .before .sort .ensures)
+    numbers-arranged _ (start .args .order .now) _ (start .pre .0) (start .pre .1) (at-number .number .ensures) (at-sort .sort .ensures)
 
 pub arrange-spec : {M : Type 1} → statement M
 arrange-spec = tie.close (tie.spec number-requires sort-requires same-length returns)

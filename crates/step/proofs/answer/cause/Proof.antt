@@ -19,18 +19,36 @@ payoff-out-requires c κs = accepted-cause (c .before .before .before .args .sch
 
 returns-2 : tie.Need-returns-2
 unfolding payoffOut
-returns-2 c = cause-payoff _ (c .before .before .before .before .before .args .t2) (c .before .before .before .before .before .args .class) _ (c .before .before .before .before .cause .ensures) (c .before .before .before .if1 .left) (sym (c .before .payoff-out .ensures) ∙ c .if2 .taken)
+returns-2 c =
+    let at-if1 = c .before .before .before in
+    let at-cause = at-if1 .before in
+    let start = at-cause .before in
+    cause-payoff _ (start .args .t2) (start .args .class) _ (at-cause .cause .ensures) (at-if1 .if1 .left) (sym (c .before .payoff-out .ensures) ∙ c .if2 .taken)
 
 class-out-requires : tie.Need-class-out-requires
 class-out-requires c κs = search needs
 
 returns-3 : tie.Need-returns-3
 unfolding payoffOut
-returns-3 c = cause-class _ (c .before .before .before .before .before .before .before .args .t2) (c .before .before .before .before .before .before .before .args .class) _ (c .before .before .before .before .before .before .cause .ensures) (c .before .before .before .before .before .if1 .left) (sym (c .before .before .before .payoff-out .ensures) ∙ c .before .before .if2 .left) (sym (c .before .class-out .ensures) ∙ c .if3 .taken)
+returns-3 c =
+    let at-if2 = c .before .before in
+    let at-payoff-out = at-if2 .before in
+    let at-if1 = at-payoff-out .before .before in
+    let at-cause = at-if1 .before in
+    let start = at-cause .before in
+    cause-class _ (start .args .t2) (start .args .class) _ (at-cause .cause .ensures) (at-if1 .if1 .left)
+    (sym (at-payoff-out .payoff-out .ensures) ∙ at-if2 .if2 .left) (sym (c .before .class-out .ensures) ∙ c .if3 .taken)
 
 returns-4 : tie.Need-returns-4
 unfolding payoffOut
-returns-4 c = cause-none _ (c .before .before .before .before .before .before .before .args .t2) (c .before .before .before .before .before .before .before .args .class) _ (c .before .before .before .before .before .before .cause .ensures) (c .before .before .before .before .before .if1 .left) (sym (c .before .before .before .payoff-out .ensures) ∙ c .before .before .if2 .left) (sym (c .before .class-out .ensures) ∙ c .if3 .left)
+returns-4 c =
+    let at-if2 = c .before .before in
+    let at-payoff-out = at-if2 .before in
+    let at-if1 = at-payoff-out .before .before in
+    let at-cause = at-if1 .before in
+    let start = at-cause .before in
+    cause-none _ (start .args .t2) (start .args .class) _ (at-cause .cause .ensures) (at-if1 .if1 .left)
+    (sym (at-payoff-out .payoff-out .ensures) ∙ at-if2 .if2 .left) (sym (c .before .class-out .ensures) ∙ c .if3 .left)
 
 pub cause-spec : {M : Type 1} → statement M
 cause-spec =

@@ -14,7 +14,8 @@ round-requires c κs = search needs
 
 returns : tie.Need-returns
 returns c =
-    let a = c .before .before .before .before .args in
+    let start = c .before .before .before .before in
+    let a = start .args in
     c .round .ensures ∙ ap (λ x. rounded (a .high) x) (c .before .weigh .ensures .is)
 
 pub figure-spec : {M : Type 1} → statement M

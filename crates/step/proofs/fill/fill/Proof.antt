@@ -14,15 +14,19 @@ spare-requires c κs = search needs
 
 pour-requires : tie.Need-pour-requires
 pour-requires c κs =
+    let at-copy = c .before .before .before .before in
     let s = c .before .before .before .before .before .before .before .before .before .before in
-    fill-pours (s .pre) (c .before .before .before .before .copy .ensures)
+    fill-pours (s .pre) (at-copy .copy .ensures)
     (omega (arith, c .spare .ensures, s .pre .sound .lowers))
 
 same-length : tie.Need-same-length
 same-length c = search needs
 
 returns : tie.Need-returns
-returns c = rw (c .before .before .before .before .before .before .before .copy .ensures) at (c .before .before .pour .ensures)
+returns c =
+    let at-pour = c .before .before in
+    let at-copy = at-pour .before .before .before .before .before in
+    rw (at-copy .copy .ensures) at (at-pour .pour .ensures)
 
 pub fill-spec : {M : Type 1} → statement M
 fill-spec =

@@ -18,16 +18,25 @@ abbrev μ-loop : tie.MeasureT-loop
 μ-loop upper order row₀ parts spare₀ k₀ row spare k = length row₀ - k
 
 -- the class at place k has a state
-named : (c : tie.After-state Inv-loop μ-loop) → c .state .result ≡ at (c .before .before .before .before .before .before .args .order .now) (c .before .before .loop .k) - 1
-named c = c .state .ensures ∙ state-of _ (c .before .before .before .before .before .before .pre .placed .within (c .before .before .loop .k) (c .before .before .loop .inv .inside) .0)
+named : (c : tie.After-state Inv-loop μ-loop) → let at-loop = c .before .before in
+    let start = at-loop .before .before .before .before in
+    c .state .result ≡ at (start .args .order .now) (at-loop .loop .k) - 1
+named c =
+    let at-loop = c .before .before in
+    let start = at-loop .before .before .before .before in
+    c .state .ensures ∙ state-of _ (start .pre .placed .within (at-loop .loop .k) (at-loop .loop .inv .inside) .0)
 
 -- whose entry lies between its ends
 here : (c : tie.After-state Inv-loop μ-loop)
-    → let a = c .before .before .before .before .before .before .args in
-    let l = c .before .before .loop in
+    → let at-loop = c .before .before in
+    let start = at-loop .before .before .before .before in
+    let a = start .args in
+    let l = at-loop .loop in
     (c .state .result < length (a .row .now)) × (at (l .row) (c .state .result) ≤ at (a .upper .now) (c .state .result)) × (at (a .upper .now) (c .state .result) ≤ ONE)
 here c =
-    turn-inside (c .before .before .before .before .before .before .pre) (c .before .before .loop .inv) (named c)
+    let at-loop = c .before .before in
+    let start = at-loop .before .before .before .before in
+    turn-inside (start .pre) (at-loop .loop .inv) (named c)
 
 loop-holds : tie.Need-loop-holds Inv-loop μ-loop
 loop-holds c = filling-none (c .before .before .before .pre)
@@ -57,13 +66,19 @@ mul-row : tie.Need-mul-row Inv-loop μ-loop
 mul-row c = omega (arith, here (c .before .before .before))
 
 slice-read-row : tie.Need-slice-read-row Inv-loop μ-loop
-slice-read-row c = omega (arith, here (c .before .before .before .before))
+slice-read-row c =
+    let at-state = c .before .before .before .before in
+    omega (arith, here at-state)
 
 add-row : tie.Need-add-row Inv-loop μ-loop
-add-row c = omega (arith, here (c .before .before .before .before))
+add-row c =
+    let at-state = c .before .before .before .before in
+    omega (arith, here at-state)
 
 slice-write-row : tie.Need-slice-write-row Inv-loop μ-loop
-slice-write-row c = omega (arith, here (c .before .before .before .before))
+slice-write-row c =
+    let at-state = c .before .before .before .before in
+    omega (arith, here at-state)
 
 same-length : tie.Need-same-length Inv-loop μ-loop
 same-length c = simp length-set (omega arith)
@@ -77,13 +92,19 @@ mul-row-2 : tie.Need-mul-row-2 Inv-loop μ-loop
 mul-row-2 c = omega (arith, here (c .before .before .before))
 
 slice-read-row-2 : tie.Need-slice-read-row-2 Inv-loop μ-loop
-slice-read-row-2 c = omega (arith, here (c .before .before .before .before))
+slice-read-row-2 c =
+    let at-state = c .before .before .before .before in
+    omega (arith, here at-state)
 
 add-row-2 : tie.Need-add-row-2 Inv-loop μ-loop
-add-row-2 c = omega (arith, here (c .before .before .before .before))
+add-row-2 c =
+    let at-state = c .before .before .before .before in
+    omega (arith, here at-state)
 
 slice-write-row-2 : tie.Need-slice-write-row-2 Inv-loop μ-loop
-slice-write-row-2 c = omega (arith, here (c .before .before .before .before))
+slice-write-row-2 c =
+    let at-state = c .before .before .before .before in
+    omega (arith, here at-state)
 
 sub-spare : tie.Need-sub-spare Inv-loop μ-loop
 sub-spare c = omega arith
