@@ -2,55 +2,36 @@
 -- Assumes nothing.
 use Prim.Native.Nat.{ℕ}
 use mathlib.Core.Path.{_≡_, sym, _∙_, subst, subst₂}
-use mathlib.Core.Bool.{Bool, false, cond, not, _||_}
 use mathlib.Core.List.{List}
-use native.Mathlib.Omega.{arith}
-use lib.Dec.{eqb}
 use lib.ListN.{length}
-use borrow.Author.Tests.{eqb-true}
 use Rattle.scheme.specs.declared.Scheme.{Scheme}
 use Rattle.scheme.specs.Accepted.{Accepted}
 use Rattle.scheme.specs.Cause.{causeOf, orElse}
-use Rattle.scheme.specs.Laws.Cause.{declined, first-none, second-none, test-none}
+use Rattle.scheme.specs.Laws.Cause.{declined, first-none, second-none}
 use Rattle.scheme.specs.Laws.Judged.{accepted-cause}
-use Rattle.scheme.specs.Laws.Tables.{or-false-left, or-false-right}
+use Rattle.bounds_spec.specs.Causes.{slicesCause}
 use Rattle.bounds_spec.specs.Answers.{sheetSlice}
 use Rattle.bounds_spec.specs.Table.{tableSize, lowTable, highTable, tableCause}
 use Rattle.bounds.specs.Columns.{TableReady}
 use Rattle.bounds_spec.specs.Promises.{FiguresPromise}
 use Rattle.bounds_spec.specs.Laws.Kept.{figures-kept}
-use Rattle.bounds.proofs.Sheeting.{test-not}
+use Rattle.bounds.proofs.Sheeting.{slices-fit}
 
 -- the code's cause is the definition's
 pub table-cause : (s : Scheme) (low high : List ℕ) {n : ℕ}
-    → n ≡ orElse (causeOf s) (cond (not (eqb (length low) (tableSize s)) || not (eqb (length high) (tableSize s))) 13 0)
+    → n ≡ orElse (causeOf s) (slicesCause (tableSize s) (length low) (length high))
     → n ≡ tableCause s low high
 unfolding tableCause
 table-cause s low high e = e
 
 module _ (s : Scheme) (low high : List ℕ) {n : ℕ} (e : n ≡ tableCause s low high) where
-  module _ (z : n ≡ 0) where
-    abbrev lowOut : Bool
-    lowOut = not (eqb (length low) (tableSize s))
-
-    abbrev highOut : Bool
-    highOut = not (eqb (length high) (tableSize s))
-
-    accepted : Accepted s
-    unfolding tableCause
-    accepted = accepted-cause s (first-none (causeOf s) (cond (lowOut || highOut) 13 0) (sym e ∙ z))
-
-    sizes : (lowOut || highOut) ≡ false
-    unfolding tableCause
-    sizes = test-none (lowOut || highOut) 13 (omega arith) (second-none (causeOf s) (cond (lowOut || highOut) 13 0) (sym e ∙ z))
-
-    pub low-ready : TableReady s low
-    low-ready =
-        record { accepted = accepted; size = eqb-true (length low) (tableSize s) (test-not (eqb (length low) (tableSize s)) (or-false-left lowOut highOut sizes)) }
-
-    pub high-ready : TableReady s high
-    high-ready =
-        record { accepted = accepted; size = eqb-true (length high) (tableSize s) (test-not (eqb (length high) (tableSize s)) (or-false-right lowOut highOut sizes)) }
+  -- what a cause of 0 tells of the slices
+  pub tables-ready : n ≡ 0 → TableReady s low × TableReady s high
+  unfolding tableCause
+  tables-ready z =
+      let accepted : Accepted s = accepted-cause s (first-none (causeOf s) (slicesCause (tableSize s) (length low) (length high)) (sym e ∙ z)) in
+      let sizes = slices-fit (tableSize s) (length low) (length high) (second-none (causeOf s) (slicesCause (tableSize s) (length low) (length high)) (sym e ∙ z)) in
+      (record { accepted = accepted; size = sizes .0 }, record { accepted = accepted; size = sizes .1 })
 
   -- what the whole call ensures, of its number and the slices that it leaves
   abbrev FiguresLeft : ℕ → List ℕ → List ℕ → Type 0

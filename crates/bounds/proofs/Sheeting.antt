@@ -18,6 +18,7 @@ use Rattle.scheme.specs.Laws.Tab.{as-tab}
 use Rattle.scheme.specs.Laws.Tables.{or-false-left, or-false-right}
 use Rattle.order.specs.Laws.Writing.{Written, written-more}
 use Rattle.bounds.specs.Start.{startFigure, ShareHeld, Sheeted}
+use Rattle.bounds_spec.specs.Causes.{slicesCause}
 use Rattle.bounds_spec.specs.Answers.{startOf, moneyCause, sliceCause, sheetCause, sheetSlice, figureShares, lowShares, highShares}
 use Rattle.bounds_spec.specs.Promises.{SheetPromise}
 use Rattle.bounds_spec.specs.Laws.Kept.{sheet-kept}
@@ -48,33 +49,25 @@ pub sheeting-all : (s : Scheme) (high : Bool) (year : ℕ) (out : List ℕ) {j :
 unfolding figureShares
 sheeting-all s high year out h w = as-tab 0 out (s .classes) (shareOf high s year) (w .size) (λ i l. w .done i (omega arith))
 
--- what a cause of 0 tells of the slices
-pub test-not : (b : Bool) → not b ≡ false → b ≡ true
+-- two slices without a cause are of the wanted size
+test-not : (b : Bool) → not b ≡ false → b ≡ true
 test-not true e = refl
 test-not false e = absurd (true≢false e)
 
-module _ (s : Scheme) (year : ℕ) (low high : List ℕ) (z : sheetCause s year low high ≡ 0) where
-  abbrev lowOut : Bool
-  lowOut = not (eqb (length low) (s .classes))
+pub slices-fit : (size low high : ℕ) → slicesCause size low high ≡ 0 → (low ≡ size) × (high ≡ size)
+slices-fit size low high z =
+    let fits : (not (eqb low size) || not (eqb high size)) ≡ false = test-none (not (eqb low size) || not (eqb high size)) 13 (omega arith) z in (
+      eqb-true low size (test-not (eqb low size) (or-false-left (not (eqb low size)) (not (eqb high size)) fits)),
+      eqb-true high size (test-not (eqb high size) (or-false-right (not (eqb low size)) (not (eqb high size)) fits)),
+    )
 
-  abbrev highOut : Bool
-  highOut = not (eqb (length high) (s .classes))
-
-  accepted : Accepted s
-  unfolding sheetCause
-  accepted = money-accepted s year (first-none (moneyCause s year) (sliceCause s low high) z)
-
-  sizes : (lowOut || highOut) ≡ false
-  unfolding sheetCause
-  sizes = test-none (lowOut || highOut) 13 (omega arith) (second-none (moneyCause s year) (sliceCause s low high) z)
-
-  pub low-sheeted : Sheeted s low
-  low-sheeted =
-      record { accepted = accepted; size = eqb-true (length low) (s .classes) (test-not (eqb (length low) (s .classes)) (or-false-left lowOut highOut sizes)) }
-
-  pub high-sheeted : Sheeted s high
-  high-sheeted =
-      record { accepted = accepted; size = eqb-true (length high) (s .classes) (test-not (eqb (length high) (s .classes)) (or-false-right lowOut highOut sizes)) }
+-- what a cause of 0 tells of a share sheet's slices
+pub sheeted : (s : Scheme) (year : ℕ) (low high : List ℕ) → sheetCause s year low high ≡ 0 → Sheeted s low × Sheeted s high
+unfolding sheetCause
+sheeted s year low high z =
+    let accepted : Accepted s = money-accepted s year (first-none (moneyCause s year) (sliceCause s low high) z) in
+    let sizes = slices-fit (s .classes) (length low) (length high) (second-none (moneyCause s year) (sliceCause s low high) z) in
+    (record { accepted = accepted; size = sizes .0 }, record { accepted = accepted; size = sizes .1 })
 
 -- the code's cause is the definition's
 pub sheet-cause : (s : Scheme) (year : ℕ) (low high : List ℕ) (n : ℕ) → n ≡ orElse (moneyCause s year) (sliceCause s low high) → n ≡ sheetCause s year low high

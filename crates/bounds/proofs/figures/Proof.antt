@@ -1,6 +1,6 @@
 -- `figures` answers by the definition, and leaves the slices alone where it declines.
 -- Assumes nothing.
-use Rattle.bounds.proofs.Figuring.{table-cause, low-ready, high-ready, figures-declined, figures-written}
+use Rattle.bounds.proofs.Figuring.{table-cause, tables-ready, figures-declined, figures-written}
 use borrow.Author.Needs.{needs}
 use Rattle.bounds.proofs.figures.Statement.{statement}
 use Rattle.bounds.proofs.figures.Tie as tie
@@ -19,7 +19,7 @@ write-table-requires c κs =
     let at-table-cause = c .before .before in
     let start = at-table-cause .before .before .before in
     let a = start .args in
-    low-ready (a .scheme) (a .low .now) (a .high .now) (table-cause (a .scheme) (a .low .now) (a .high .now) (at-table-cause .table-cause .ensures)) (c .before .if1 .left)
+    tables-ready (a .scheme) (a .low .now) (a .high .now) (table-cause (a .scheme) (a .low .now) (a .high .now) (at-table-cause .table-cause .ensures)) (c .before .if1 .left) .0
 
 write-table-requires-2 : tie.Need-write-table-requires-2
 write-table-requires-2 c κs =
@@ -27,7 +27,7 @@ write-table-requires-2 c κs =
     let at-table-cause = at-if1 .before in
     let start = at-table-cause .before .before .before in
     let a = start .args in
-    high-ready (a .scheme) (a .low .now) (a .high .now) (table-cause (a .scheme) (a .low .now) (a .high .now) (at-table-cause .table-cause .ensures)) (at-if1 .if1 .left)
+    tables-ready (a .scheme) (a .low .now) (a .high .now) (table-cause (a .scheme) (a .low .now) (a .high .now) (at-table-cause .table-cause .ensures)) (at-if1 .if1 .left) .1
 
 same-length : tie.Need-same-length
 same-length c = search needs

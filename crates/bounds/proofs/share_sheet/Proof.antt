@@ -1,7 +1,7 @@
 -- `share_sheet` answers by the definition, and leaves the slices alone where it declines.
 -- Assumes nothing.
 use mathlib.Core.Path.{sym, _∙_}
-use Rattle.bounds.proofs.Sheeting.{low-sheeted, high-sheeted, sheet-cause, sheet-declined, sheet-written}
+use Rattle.bounds.proofs.Sheeting.{sheeted, sheet-cause, sheet-declined, sheet-written}
 use borrow.Author.Needs.{needs}
 use Rattle.bounds.proofs.share_sheet.Statement.{statement}
 use Rattle.bounds.proofs.share_sheet.Tie as tie
@@ -20,8 +20,7 @@ write-shares-requires c κs =
     let at-sheet-cause = c .before .before in
     let start = at-sheet-cause .before .before .before in
     let a = start .args in
-    low-sheeted (a .scheme) (a .year) (a .low .now) (a .high .now)
-    (sym (sheet-cause (a .scheme) (a .year) (a .low .now) (a .high .now) _ (at-sheet-cause .sheet-cause .ensures)) ∙ c .before .if1 .left)
+    sheeted (a .scheme) (a .year) (a .low .now) (a .high .now) (sym (sheet-cause (a .scheme) (a .year) (a .low .now) (a .high .now) _ (at-sheet-cause .sheet-cause .ensures)) ∙ c .before .if1 .left) .0
 
 write-shares-requires-2 : tie.Need-write-shares-requires-2
 write-shares-requires-2 c κs =
@@ -29,7 +28,7 @@ write-shares-requires-2 c κs =
     let at-sheet-cause = at-if1 .before in
     let start = at-sheet-cause .before .before .before in
     let a = start .args in
-    high-sheeted (a .scheme) (a .year) (a .low .now) (a .high .now) (sym (sheet-cause (a .scheme) (a .year) (a .low .now) (a .high .now) _ (at-sheet-cause .sheet-cause .ensures)) ∙ at-if1 .if1 .left)
+    sheeted (a .scheme) (a .year) (a .low .now) (a .high .now) (sym (sheet-cause (a .scheme) (a .year) (a .low .now) (a .high .now) _ (at-sheet-cause .sheet-cause .ensures)) ∙ at-if1 .if1 .left) .1
 
 same-length : tie.Need-same-length
 same-length c = search needs

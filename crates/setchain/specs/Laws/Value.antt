@@ -7,7 +7,7 @@ use lib.ListN.{length}
 use native.Mathlib.Omega.{arith}
 use native.Mathlib.Nat.{le-refl, mul-pos, mul-le-mul-right, mul-le-mul-left}
 use Rattle.setchain.specs.Sums.{sumTo, dot}
-use Rattle.setchain.specs.Fractions.{Fraction, whole, _⊕_, _⊗_, _≼_, sumFractions}
+use Rattle.setchain.specs.Fractions.{Fraction, whole, _⊕_, _⊗_, sumFractions}
 use Rattle.setchain.specs.Rows.{ONE, Row, SetChain, SoundChain, ofParts}
 use Rattle.setchain.specs.Step.{rounded, NotAfter, extremeRow, stepFigure}
 use Rattle.setchain.specs.Years.{yearsFigure}
