@@ -1,2 +1,3 @@
--- The laws by which reading is proved.
+-- The laws by which reading, records and checksums are proved.
 pub mod Reading
+pub mod Checking

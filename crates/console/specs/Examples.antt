@@ -1,10 +1,13 @@
--- Two bytes read into a buffer of four behind its first, computed: what is allowed and what is not.
-use mathlib.Core.Path.{refl, ap}
+-- Two bytes read into a buffer of four behind its first: what is allowed and what is not; records of short inputs; and checksums, computed.
+use mathlib.Core.Path.{_≡_, refl, ap}
 use mathlib.Core.List.{List, [], _∷_}
 use native.Mathlib.Omega.{arith}
 use Prim.Native.Nat.{ℕ}
 use lib.ListN.{getD}
+use Rattle.big_endian_spec.specs.Numbers.{beAt, numberAt}
 use Rattle.console.specs.Input.{ReadInto}
+use Rattle.console.specs.Records.{recordAt}
+use Rattle.console.specs.Checksum.{checksumFrom}
 
 -- the buffer before
 abbrev before : List ℕ
@@ -29,3 +32,26 @@ read-into-examples =
       tooMany = λ h. omega (arith, h .within);
       longer = λ h. omega (arith, h .size);
     }
+
+-- the record behind its length, what the input has of a longer one, a length that is big-endian, and an input too short for a length
+pub record RecordExamples : Type 0 where
+  pub behind : recordAt (9 ∷ 0 ∷ 2 ∷ 5 ∷ 6 ∷ 7 ∷ []) 1 ≡ 5 ∷ 6 ∷ []
+  pub cut : recordAt (0 ∷ 3 ∷ 5 ∷ []) 0 ≡ 5 ∷ []
+  pub bigEndian : recordAt (1 ∷ 0 ∷ 5 ∷ 6 ∷ []) 0 ≡ 5 ∷ 6 ∷ []
+  pub short : recordAt (5 ∷ 6 ∷ []) 1 ≡ []
+
+pub record-examples : RecordExamples
+unfolding recordAt numberAt beAt
+record-examples = record { behind = refl; cut = refl; bigEndian = refl; short = refl }
+
+-- no number, one, two, and numbers at the modulus
+pub record ChecksumExamples : Type 0 where
+  pub none : checksumFrom 0 [] ≡ 0
+  pub one : checksumFrom 0 (7 ∷ []) ≡ 8
+  pub two : checksumFrom 0 (7 ∷ 3 ∷ []) ≡ 134220956
+  pub least : checksumFrom 0 (4294967291 ∷ []) ≡ 1
+  pub most : checksumFrom 0 (4294967290 ∷ []) ≡ 0
+
+pub checksum-examples : ChecksumExamples
+unfolding checksumFrom
+checksum-examples = record { none = refl; one = refl; two = refl; least = refl; most = refl }

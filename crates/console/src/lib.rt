@@ -1,10 +1,13 @@
-// Standard input, output and error for the programs.
+// Standard input, output and error for the programs, and what the check programs share: the records of their input, and checksums.
 use libc::STDERR_FILENO;
 use libc::STDIN_FILENO;
 use libc::STDOUT_FILENO;
-ghost use Prim.Native.Nat.{_≤_};
-ghost use lib.ListN.{length};
+ghost use Prim.Native.Nat.{_-_, _≤_};
+ghost use mathlib.Core.Path.{_≡_};
+ghost use lib.ListN.{length, take};
 ghost use Rattle.console.specs.Input.{ReadInto};
+ghost use Rattle.console.specs.Records.{recordAt};
+ghost use Rattle.console.specs.Checksum.{added, checksumFrom};
 
 // Bytes as they are, to standard output. False where a write failed or took nothing: some of them may be written then.
 pub fn bytes(text: &[u8]) -> bool {
@@ -15,6 +18,12 @@ pub fn bytes(text: &[u8]) -> bool {
 pub fn number(x: u64) {
     bytes(b" ");
     io::print_decimal(STDOUT_FILENO, x);
+}
+
+// A word and a number.
+pub fn word(text: &[u8], x: u64) {
+    bytes(text);
+    number(x);
 }
 
 // The end of a line.
@@ -64,8 +73,8 @@ fn more(buffer: &mut [u8], done: usize) -> Input
     }
 }
 
-// All of standard input, or as much of it as the buffer holds; bytes past it stay as they were.
-pub fn read_all(buffer: &mut [u8]) -> Input
+// Reads until the input ends or the buffer is full; bytes past what was read stay as they were.
+fn fill(buffer: &mut [u8]) -> Input
     ensures { λ r. ⌜ ReadInto 0 (now (buffer .entry)) (now (buffer .exit)) (r .length) ⌝ }
 {
     let mut done: usize = 0;
@@ -83,4 +92,65 @@ pub fn read_all(buffer: &mut [u8]) -> Input
         length: done,
         failed: false,
     }
+}
+
+// All of standard input, or as much of it as the buffer holds; bytes past it stay as they were. Where a read failed the program says so on
+// standard error.
+pub fn read_all(program: &[u8], buffer: &mut [u8]) -> Input
+    ensures { λ r. ⌜ ReadInto 0 (now (buffer .entry)) (now (buffer .exit)) (r .length) ⌝ }
+{
+    let read = fill(buffer);
+    if read.failed {
+        complain(program);
+        complain(b": standard input could not be read\n");
+    }
+    read
+}
+
+// The first bytes of a text, or all where there are fewer.
+pub fn front(text: &[u8], n: usize) -> &[u8]
+    ensures { λ r. ⌜ now r ≡ take n (now (text .entry)) ⌝ }
+{
+    if text.len() < n {
+        return text;
+    }
+    &text[..n]
+}
+
+// The record that stands behind its length in two bytes, or as much of it as the input has.
+pub fn record_at(input: &[u8], at: usize) -> &[u8]
+    ensures { λ r. ⌜ (now r ≡ recordAt (now (input .entry)) at) × (length (now r) ≤ length (now (input .entry)) - at - 2) ⌝ }
+{
+    if !big_endian::holds(input.len(), at, 2) {
+        return &input[0..0];
+    }
+    let length = big_endian::be2(input, at) as usize;
+    front(&input[at + 2..], length)
+}
+
+// The checksum with one number more.
+pub fn add(sum: u64, x: u64) -> u64
+    ensures { λ r. ⌜ r ≡ added sum x ⌝ }
+{
+    (sum % 4_294_967_291 * 16_777_619 + x % 4_294_967_291 + 1) % 4_294_967_291
+}
+
+// A byte in 64 bits.
+pub fn wide(x: u8) -> u64
+    ensures { λ r. ⌜ r ≡ x ⌝ }
+{
+    x as u64
+}
+
+// The checksum of a text.
+pub fn checksum(text: &[u8]) -> u64
+    ensures { λ r. ⌜ r ≡ checksumFrom 0 (now (text .entry)) ⌝ }
+{
+    let mut sum: u64 = 0;
+    let mut i: usize = 0;
+    while i < text.len() {
+        sum = add(sum, wide(text[i]));
+        i += 1;
+    }
+    sum
 }

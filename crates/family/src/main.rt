@@ -2,7 +2,6 @@
 // and on ready schemes. What it must print was written by the plain Rust version (rust/regenerate); rust/trials/src/bin/family.rs
 // describes the lines.
 use record_parts::Band;
-use record_parts::Reader;
 use bounds::Bounds;
 use scheme::Scheme;
 use record_write::WriteAnswer;
@@ -13,47 +12,12 @@ const ROOM: usize = 460;
 // One more than the most classes.
 const SHARES: usize = 33;
 
-// A word and a number.
-fn word(text: &[u8], x: u64) {
-    console::bytes(text);
-    console::number(x);
-}
-
-// The first bytes of a text, or all where there are fewer.
-fn front(text: &[u8], n: usize) -> &[u8] {
-    if text.len() < n {
-        return text;
-    }
-    &text[0..n]
-}
-
-// The checksum with one number more.
-fn add(sum: u64, x: u64) -> u64 {
-    (sum % 4_294_967_291 * 16_777_619 + x % 4_294_967_291 + 1) % 4_294_967_291
-}
-
-// A byte in 64 bits.
-fn wide(x: u8) -> u64 {
-    x as u64
-}
-
-// The checksum of a text.
-fn checksum(text: &[u8]) -> u64 {
-    let mut sum: u64 = 0;
-    let mut i: usize = 0;
-    while i < text.len() {
-        sum = add(sum, wide(text[i]));
-        i += 1;
-    }
-    sum
-}
-
 // The checksum of numbers.
 fn checksum_of(figures: &[u64]) -> u64 {
     let mut sum: u64 = 0;
     let mut i: usize = 0;
     while i < figures.len() {
-        sum = add(sum, figures[i]);
+        sum = console::add(sum, figures[i]);
         i += 1;
     }
     sum
@@ -64,7 +28,7 @@ fn told(cause: u8) {
     if cause == 0 {
         console::bytes(b" OK");
     } else {
-        word(b" NO", cause as u64);
+        console::word(b" NO", cause as u64);
     }
 }
 
@@ -94,7 +58,7 @@ fn answer(b: Bounds) {
 fn shown(part: &[u8]) {
     let mut i: usize = 0;
     while i < part.len() {
-        console::number(wide(part[i]));
+        console::number(console::wide(part[i]));
         i += 1;
     }
     console::end();
@@ -102,18 +66,19 @@ fn shown(part: &[u8]) {
 
 // The rule row of a class.
 fn rules(bytes: &[u8], class: u64) {
-    word(b"RULES", class);
+    console::word(b"RULES", class);
     shown(record_parts::rule_row(bytes, class));
 }
 
-// The band of a column, if there is one.
-fn band(bytes: &[u8], column: usize) {
-    match record_parts::band_at(bytes, column) {
+// The ends of a band; false where there is no more.
+fn ends(b: Band) -> bool {
+    match b {
         Band::Ends { lower, upper } => {
             console::number(lower as u64);
             console::number(upper as u64);
+            true
         }
-        Band::NoMore => {}
+        Band::NoMore => false,
     }
 }
 
@@ -122,7 +87,7 @@ fn bands(bytes: &[u8]) {
     console::bytes(b"BANDS");
     let mut column: usize = 0;
     while column < 9 {
-        band(bytes, column);
+        ends(record_parts::band_at(bytes, column));
         column += 1;
     }
     console::end();
@@ -130,25 +95,14 @@ fn bands(bytes: &[u8]) {
 
 // What a reader handed out.
 fn shown_band(b: Band) {
-    match b {
-        Band::Ends { lower, upper } => {
-            console::number(lower as u64);
-            console::number(upper as u64);
-        }
-        Band::NoMore => {
-            console::bytes(b" -");
-        }
+    if !ends(b) {
+        console::bytes(b" -");
     }
 }
 
 // What opening a reader answered.
 fn opened(number: u8) {
-    word(b"READER", number as u64);
-}
-
-// One call of a reader.
-fn hand_out<'a>(r: &mut Reader<'a>) {
-    shown_band(record_parts::next(r));
+    console::word(b"READER", number as u64);
 }
 
 // A reader over the record; one call more than there can be columns.
@@ -156,15 +110,11 @@ fn reader(bytes: &[u8]) {
     let answer = record_parts::open(bytes);
     opened(answer.number);
     let mut reader = answer.reader;
-    hand_out(&mut reader);
-    hand_out(&mut reader);
-    hand_out(&mut reader);
-    hand_out(&mut reader);
-    hand_out(&mut reader);
-    hand_out(&mut reader);
-    hand_out(&mut reader);
-    hand_out(&mut reader);
-    hand_out(&mut reader);
+    let mut calls: u8 = 0;
+    while calls < 9 {
+        shown_band(record_parts::next(&mut reader));
+        calls += 1;
+    }
 }
 
 // The first band, and the end of the line.
@@ -178,7 +128,7 @@ fn first(bytes: &[u8]) {
 fn wrote(answer: WriteAnswer) -> usize {
     match answer {
         WriteAnswer::Written(length) => {
-            word(b" OK", length as u64);
+            console::word(b" OK", length as u64);
             length
         }
         WriteAnswer::Declined(cause) => {
@@ -190,9 +140,9 @@ fn wrote(answer: WriteAnswer) -> usize {
 
 // The record written into a slice.
 fn write_into(scheme: Scheme, out: &mut [u8]) {
-    word(b"WRITE", out.len() as u64);
+    console::word(b"WRITE", out.len() as u64);
     wrote(record_write::write(scheme, out));
-    console::number(checksum(out));
+    console::number(console::checksum(out));
     console::end();
 }
 
@@ -206,7 +156,7 @@ fn write(scheme: Scheme, n: usize) {
 
 // The interval row of a class.
 fn row(scheme: Scheme, class: u64) {
-    word(b"ROW", class);
+    console::word(b"ROW", class);
     let answer = rows::row(scheme, class);
     let lower = answer.lower;
     let upper = answer.upper;
@@ -214,11 +164,12 @@ fn row(scheme: Scheme, class: u64) {
 }
 
 // The payoff of a class, by the kinds of the format.
-fn value(kind: u8, class: u8, classes: u8, number: u8, premium: u32) -> u64 {
+fn value(kind: u8, class: u8, classes: u8, number: u64, premium: u32) -> u64 {
     if classes < class {
         return 4_000_000_000;
     }
-    let mixed = (618_033_989 * (class as u64) + 271_828_183 * (number as u64)) % 1_000_000_001;
+    let mixed = (618_033_989 * (class as u64) + 271_828_183 * (number % 1_000_000_001))
+        % 1_000_000_001;
     if kind == 0 {
         return 100 * (premium as u64);
     }
@@ -232,7 +183,7 @@ fn value(kind: u8, class: u8, classes: u8, number: u8, premium: u32) -> u64 {
 }
 
 // The payoffs of all classes.
-fn payoff(kind: u8, classes: u8, number: u8, premiums: [u32; 32]) -> [u64; 32] {
+fn payoff(kind: u8, classes: u8, number: u64, premiums: [u32; 32]) -> [u64; 32] {
     let mut payoff = [0u64; 32];
     let mut i: usize = 0;
     while i < 32 {
@@ -243,8 +194,8 @@ fn payoff(kind: u8, classes: u8, number: u8, premiums: [u32; 32]) -> [u64; 32] {
 }
 
 // The low and the high step of a class at a kind of payoff.
-fn step(scheme: Scheme, number: u8, class: u64, kind: u8) {
-    word(b"STEP", class);
+fn step(scheme: Scheme, number: u64, class: u64, kind: u8) {
+    console::word(b"STEP", class);
     console::number(kind as u64);
     let premiums = scheme.premiums;
     let payoff = payoff(kind, scheme.classes, number, premiums);
@@ -259,13 +210,13 @@ fn step(scheme: Scheme, number: u8, class: u64, kind: u8) {
 
 // The share of a class after a number of years.
 fn share(scheme: Scheme, class: u64, year: u64) {
-    word(b"SHARE", class);
+    console::word(b"SHARE", class);
     console::number(year);
     answer(bounds::share(scheme, class, year));
 }
 
 // What is asked of a class: its interval row, its steps at all kinds of payoff, and its shares.
-fn of_class(scheme: Scheme, number: u8, class: u64) {
+fn of_class(scheme: Scheme, number: u64, class: u64) {
     let horizon = scheme.horizon as u64;
     row(scheme, class);
     step(scheme, number, class, 0);
@@ -281,7 +232,7 @@ fn of_class(scheme: Scheme, number: u8, class: u64) {
 
 // A share sheet into two slices.
 fn share_sheet(scheme: Scheme, year: u64, low: &mut [u64], high: &mut [u64]) {
-    word(b"SHARES", year);
+    console::word(b"SHARES", year);
     told(bounds::share_sheet(scheme, year, low, high));
     console::number(checksum_of(low));
     console::number(checksum_of(high));
@@ -299,9 +250,9 @@ fn sheet_into(scheme: Scheme, year: u64, a: usize, b: usize) {
 
 // What is asked of a year: mean, total, and share sheets of the right and of wrong lengths.
 fn of_year(scheme: Scheme, year: u64) {
-    word(b"MEAN", year);
+    console::word(b"MEAN", year);
     answer(bounds::mean(scheme, year));
-    word(b"TOTAL", year);
+    console::word(b"TOTAL", year);
     answer(bounds::total(scheme, year));
     let s = scheme.classes as usize;
     sheet_into(scheme, year, s, s);
@@ -323,7 +274,7 @@ fn writes(scheme: Scheme, length: usize) {
 }
 
 // What is asked of an accepted record.
-fn accepted(scheme: Scheme, number: u8, bytes: &[u8]) {
+fn accepted(scheme: Scheme, number: u64, bytes: &[u8]) {
     let s = scheme.classes as u64;
     let beyond = s + 1;
     let start = scheme.start as u64;
@@ -346,8 +297,8 @@ fn accepted(scheme: Scheme, number: u8, bytes: &[u8]) {
 }
 
 // The lines of one record.
-fn one(number: u8, bytes: &[u8]) {
-    word(b"RECORD", number as u64);
+fn one(number: u64, bytes: &[u8]) {
+    console::word(b"RECORD", number);
     console::number(bytes.len() as u64);
     let read = record::read(bytes);
     told(read.number);
@@ -362,26 +313,41 @@ fn one(number: u8, bytes: &[u8]) {
     }
 }
 
-// The record of a scheme: its length and checksum.
-fn record_of(scheme: Scheme) {
-    let mut out = [0u8; 455];
-    let length = wrote(record_write::write(scheme, &mut out));
-    console::number(checksum(front(&out, length)));
-}
-
-// A ready scheme's record.
-fn ready(number: u64, base: u64) {
-    word(b"READY", number);
-    console::number(base);
-    let answer = ready::ready(number, base);
-    if answer.number == 0 {
-        record_of(answer.scheme);
-    } else {
-        told(answer.number);
-    }
+// The premium of a class.
+fn premium(class: u64, cents: u32) {
+    console::word(b"PREMIUM", class);
+    console::number(cents as u64);
     console::end();
 }
 
+// A ready scheme's record: its length and checksum, two of its rule rows, and two premiums.
+fn of_ready(scheme: Scheme) {
+    let mut out = [0u8; 455];
+    let length = wrote(record_write::write(scheme, &mut out));
+    let bytes = console::front(&out, length);
+    console::number(console::checksum(bytes));
+    console::end();
+    rules(bytes, 1);
+    rules(bytes, 10);
+    let premiums = scheme.premiums;
+    premium(1, premiums[0]);
+    premium(18, premiums[17]);
+}
+
+// A ready scheme, or the cause.
+fn ready(number: u64, base: u64) {
+    console::word(b"READY", number);
+    console::number(base);
+    let answer = ready::ready(number, base);
+    if answer.number == 0 {
+        of_ready(answer.scheme);
+    } else {
+        told(answer.number);
+        console::end();
+    }
+}
+
+// Ready schemes at the edges of their number and base.
 fn ready_schemes() {
     ready(0, 2_500_001);
     ready(1, 0);
@@ -391,39 +357,29 @@ fn ready_schemes() {
     ready(3, 123_457);
     ready(3, 4_000_000_000);
     ready(4, 0);
-}
-
-// The two bytes of a length.
-fn length_of(high: u8, low: u8) -> usize {
-    (high as usize) * 256 + (low as usize)
+    ready(1, 100_000);
+    ready(3, 2_500_000);
+    ready(3, 2_500_001);
 }
 
 // All records, numbered from 1.
 fn all(input: &[u8]) {
     let mut at: usize = 0;
-    let mut number: u8 = 0;
+    let mut number: u64 = 0;
     while 2 <= input.len() - at {
-        let from = at + 2;
-        let length = length_of(input[at], input[at + 1]);
-        if input.len() - from < length {
-            return;
-        }
-        if 254 < number {
-            return;
-        }
-        at = from + length;
+        let bytes = console::record_at(input, at);
+        at += 2 + bytes.len();
         number += 1;
-        one(number, &input[from..at]);
+        one(number, bytes);
     }
 }
 
 fn main() {
     let mut input = io::large_buffer();
-    let read = console::read_all(&mut input);
+    let read = console::read_all(b"family", &mut input);
     if read.failed {
-        console::complain(b"family: standard input could not be read\n");
         return;
     }
-    all(front(&input, read.length));
+    all(console::front(&input, read.length));
     ready_schemes();
 }

@@ -18,9 +18,8 @@ fn compose(input: &[u8], n: usize, out: &mut [u8]) -> usize
 
 fn main() {
     let mut input = [0u8; INPUT];
-    let read = console::read_all(&mut input);
+    let read = console::read_all(b"sheet", &mut input);
     if read.failed {
-        console::complain(b"sheet: standard input could not be read\n");
         return;
     }
     let mut out = [0u8; ROOM];

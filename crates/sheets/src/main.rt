@@ -2,40 +2,14 @@
 // plain Rust version (rust/regenerate): a sheet of at most 1,000 bytes whole, of a longer one its length and a checksum.
 use sheet_text::WriteAnswer;
 
-// The first bytes of a text, or all where there are fewer.
-fn front(text: &[u8], n: usize) -> &[u8] {
-    if text.len() < n {
-        return text;
-    }
-    &text[0..n]
-}
-
-// The checksum with one byte more.
-fn add(sum: u64, byte: u8) -> u64 {
-    (sum % 4_294_967_291 * 16_777_619 + byte as u64 + 1) % 4_294_967_291
-}
-
-// The checksum of a text.
-fn checksum(text: &[u8]) -> u64 {
-    let mut sum: u64 = 0;
-    let mut i: usize = 0;
-    while i < text.len() {
-        sum = add(sum, text[i]);
-        i += 1;
-    }
-    sum
-}
-
 // The text whole, or its length and checksum.
 fn show(text: &[u8]) {
     if text.len() <= 1000 {
         console::bytes(text);
         return;
     }
-    console::bytes(b"LENGTH");
-    console::number(text.len() as u64);
-    console::bytes(b" CHECKSUM");
-    console::number(checksum(text));
+    console::word(b"LENGTH", text.len() as u64);
+    console::word(b" CHECKSUM", console::checksum(text));
     console::end();
 }
 
@@ -43,11 +17,10 @@ fn show(text: &[u8]) {
 fn text_in(bytes: &[u8], out: &mut [u8]) {
     match sheet_text::sheet(bytes, out) {
         WriteAnswer::Written(length) => {
-            show(front(out, length));
+            show(console::front(out, length));
         }
         WriteAnswer::Declined(cause) => {
-            console::bytes(b"NO");
-            console::number(cause as u64);
+            console::word(b"NO", cause as u64);
             console::end();
         }
     }
@@ -61,31 +34,21 @@ fn one(bytes: &[u8]) {
     text_in(bytes, &mut short);
 }
 
-// The two bytes of a length.
-fn length_of(high: u8, low: u8) -> usize {
-    (high as usize) * 256 + (low as usize)
-}
-
 // All records.
 fn all(input: &[u8]) {
     let mut at: usize = 0;
     while 2 <= input.len() - at {
-        let from = at + 2;
-        let length = length_of(input[at], input[at + 1]);
-        if input.len() - from < length {
-            return;
-        }
-        at = from + length;
-        one(&input[from..at]);
+        let bytes = console::record_at(input, at);
+        at += 2 + bytes.len();
+        one(bytes);
     }
 }
 
 fn main() {
     let mut input = io::large_buffer();
-    let read = console::read_all(&mut input);
+    let read = console::read_all(b"sheets", &mut input);
     if read.failed {
-        console::complain(b"sheets: standard input could not be read\n");
         return;
     }
-    all(front(&input, read.length));
+    all(console::front(&input, read.length));
 }

@@ -3,7 +3,7 @@
 
 use crate::made::{damage, record_of, scheme_of};
 use crate::rng::Rng;
-use plain::{Figures, Scheme, ONE};
+use plain::{Figures, Scheme, MAX_RECORD, ONE};
 use std::fmt::Write;
 
 /// Example A of the scope.
@@ -107,7 +107,53 @@ pub fn records() -> Vec<Vec<u8>> {
             }
         }
     }
+    records.extend(edges());
+    records.extend(damaged_examples());
     records
+}
+
+/// One class and two columns at the edges of acceptance: the lowers sum to
+/// ONE, the premium is 10,000,000 and the horizon 100.
+const EDGE: [u8; 29] = [
+    0x01, 0x00, 0x1D, 0x01, 0x02, 0x01, 0x64, 0x01, 0x01, 0x1D, 0xCD, 0x65, 0x00, 0x23, 0xC3, 0x46,
+    0x00, 0x1D, 0xCD, 0x65, 0x00, 0x23, 0xC3, 0x46, 0x00, 0x00, 0x98, 0x96, 0x80,
+];
+
+/// The record at the edges of acceptance, and one past each: the lowers' sum,
+/// the premium, the horizon, the columns, the start, a rule, a band's lower
+/// above its upper, and its upper above ONE.
+fn edges() -> [Vec<u8>; 9] {
+    [
+        EDGE.to_vec(),
+        changed(&EDGE, 20, &[0x01]),
+        changed(&EDGE, 28, &[0x81]),
+        changed(&EDGE, 6, &[101]),
+        changed(&EDGE, 4, &[9]),
+        changed(&EDGE, 5, &[2]),
+        changed(&EDGE, 8, &[2]),
+        changed(&EDGE, 9, &[0x23, 0xC3, 0x46, 0x01]),
+        changed(&EDGE, 13, &[0xFF; 4]),
+    ]
+}
+
+/// Example A cut to 6 and to 44 bytes, with version 2, with 33 classes and with
+/// 4 columns; and one byte more than a record can have, all of them 1.
+fn damaged_examples() -> [Vec<u8>; 6] {
+    [
+        EXAMPLE_A[..6].to_vec(),
+        EXAMPLE_A[..44].to_vec(),
+        changed(&EXAMPLE_A, 0, &[2]),
+        changed(&EXAMPLE_A, 3, &[33]),
+        changed(&EXAMPLE_A, 4, &[4]),
+        vec![1; MAX_RECORD + 1],
+    ]
+}
+
+/// The record with other bytes at a place.
+fn changed(record: &[u8], place: usize, bytes: &[u8]) -> Vec<u8> {
+    let mut record = record.to_vec();
+    record[place..place + bytes.len()].copy_from_slice(bytes);
+    record
 }
 
 /// A scheme with start 1, all rules and premiums still to be set.
@@ -253,13 +299,23 @@ fn report_ready(out: &mut String) {
         (3, 123_457),
         (3, 4_000_000_000),
         (4, 0),
+        (1, 100_000),
+        (3, 2_500_000),
+        (3, 2_500_001),
     ];
     for (number, base) in queries {
-        let result = plain::ready(number, base).map(|scheme| {
-            let record = record_of(&scheme);
+        let ready = plain::ready(number, base);
+        let result = ready.as_ref().map_err(|&cause| cause).map(|scheme| {
+            let record = record_of(scheme);
             vec![record.len() as u64, bytes_sum(&record)]
         });
         put!(out, "READY {number} {base} {}\n", answer(result));
+        if let Ok(scheme) = ready {
+            report_rules(out, &record_of(&scheme), &[1, 10]);
+            for class in [1, 18] {
+                put!(out, "PREMIUM {class} {}\n", scheme.premiums[class - 1]);
+            }
+        }
     }
 }
 

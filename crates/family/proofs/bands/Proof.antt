@@ -19,8 +19,11 @@ bytes-requires c κs = tt
 loop-holds : tie.Need-loop-holds Inv-loop μ-loop
 loop-holds c = search needs
 
-band-requires : tie.Need-band-requires Inv-loop μ-loop
-band-requires c κs = tt
+band-at-requires : tie.Need-band-at-requires Inv-loop μ-loop
+band-at-requires c κs = tt
+
+ends-requires : tie.Need-ends-requires Inv-loop μ-loop
+ends-requires c κs = tt
 
 add-column : tie.Need-add-column Inv-loop μ-loop
 add-column c = search needs
@@ -46,7 +49,8 @@ bands-spec =
     slice-aggregate-bytes
     bytes-requires
     loop-holds
-    band-requires
+    band-at-requires
+    ends-requires
     add-column
     loop-less
     loop-again

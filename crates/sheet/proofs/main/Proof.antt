@@ -12,14 +12,11 @@ use Rattle.sheet.proofs.main.Tie as tie
 slice-aggregate-read-all : tie.Need-slice-aggregate-read-all
 slice-aggregate-read-all c = search needs
 
+slice-aggregate-read-all-2 : tie.Need-slice-aggregate-read-all-2
+slice-aggregate-read-all-2 c = search needs
+
 read-all-requires : tie.Need-read-all-requires
 read-all-requires c κs = search needs
-
-slice-aggregate-complain : tie.Need-slice-aggregate-complain
-slice-aggregate-complain c = search needs
-
-complain-requires : tie.Need-complain-requires
-complain-requires c κs = search needs
 
 returns : tie.Need-returns
 returns c = search needs
@@ -51,11 +48,11 @@ slice-aggregate-bytes c =
 bytes-requires : tie.Need-bytes-requires
 bytes-requires c κs = search needs
 
-slice-aggregate-complain-2 : tie.Need-slice-aggregate-complain-2
-slice-aggregate-complain-2 c = search needs
+slice-aggregate-complain : tie.Need-slice-aggregate-complain
+slice-aggregate-complain c = search needs
 
-complain-requires-2 : tie.Need-complain-requires-2
-complain-requires-2 c κs = search needs
+complain-requires : tie.Need-complain-requires
+complain-requires c κs = search needs
 
 returns-2 : tie.Need-returns-2
 returns-2 c = search needs
@@ -68,9 +65,8 @@ main-spec =
     tie.close
     (tie.spec
     slice-aggregate-read-all
+    slice-aggregate-read-all-2
     read-all-requires
-    slice-aggregate-complain
-    complain-requires
     returns
     slice-aggregate-compose
     slice-aggregate-compose-2
@@ -78,7 +74,7 @@ main-spec =
     array-share-prefix-out
     slice-aggregate-bytes
     bytes-requires
-    slice-aggregate-complain-2
-    complain-requires-2
+    slice-aggregate-complain
+    complain-requires
     returns-2
     returns-3)

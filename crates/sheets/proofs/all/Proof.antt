@@ -17,38 +17,14 @@ loop-holds c = search needs
 sub-loop : tie.Need-sub-loop Inv-loop μ-loop
 sub-loop c = search needs
 
-add-from : tie.Need-add-from Inv-loop μ-loop
-add-from c = search needs
-
-shared-slice-read-length-of : tie.Need-shared-slice-read-length-of Inv-loop μ-loop
-shared-slice-read-length-of c = search needs
-
-add-length-of : tie.Need-add-length-of Inv-loop μ-loop
-add-length-of c = search needs
-
-shared-slice-read-length-of-2 : tie.Need-shared-slice-read-length-of-2 Inv-loop μ-loop
-shared-slice-read-length-of-2 c = search needs
-
-length-of-requires : tie.Need-length-of-requires Inv-loop μ-loop
-length-of-requires c κs = tt
-
-sub-if1 : tie.Need-sub-if1 Inv-loop μ-loop
-sub-if1 c = search needs
-
-returns : tie.Need-returns Inv-loop μ-loop
-returns c = search needs
+record-at-requires : tie.Need-record-at-requires Inv-loop μ-loop
+record-at-requires c κs = tt
 
 add-at : tie.Need-add-at Inv-loop μ-loop
 add-at c = search needs
 
-sub-one : tie.Need-sub-one Inv-loop μ-loop
-sub-one c = search needs
-
-part-one-start : tie.Need-part-one-start Inv-loop μ-loop
-part-one-start c = search needs
-
-part-one-end : tie.Need-part-one-end Inv-loop μ-loop
-part-one-end c = search needs
+add-at-2 : tie.Need-add-at-2 Inv-loop μ-loop
+add-at-2 c = search needs
 
 one-requires : tie.Need-one-requires Inv-loop μ-loop
 one-requires c κs = tt
@@ -59,8 +35,8 @@ loop-less c = search needs
 loop-again : tie.Need-loop-again Inv-loop μ-loop
 loop-again c = search needs
 
-returns-2 : tie.Need-returns-2 Inv-loop μ-loop
-returns-2 c = search needs
+returns : tie.Need-returns Inv-loop μ-loop
+returns c = search needs
 
 pub all-spec : {M : Type 1} → statement M
 all-spec =
@@ -70,18 +46,10 @@ all-spec =
     μ-loop
     loop-holds
     sub-loop
-    add-from
-    shared-slice-read-length-of
-    add-length-of
-    shared-slice-read-length-of-2
-    length-of-requires
-    sub-if1
-    returns
+    record-at-requires
     add-at
-    sub-one
-    part-one-start
-    part-one-end
+    add-at-2
     one-requires
     loop-less
     loop-again
-    returns-2)
+    returns)

@@ -64,6 +64,13 @@
 //! READY number base ANSWER         OK length and checksum of the record
 //! ```
 //!
+//! and, where there is such a scheme:
+//!
+//! ```text
+//! RULES class rule ...             the rule row in that record; class 1, 10
+//! PREMIUM class premium            class 1, 18
+//! ```
+//!
 //! A checksum starts at 0 and takes each byte or number x in order:
 //! sum := (sum x 16777619 + x mod 4294967291 + 1) mod 4294967291.
 

@@ -1,4 +1,4 @@
--- `read_all` reads until the buffer is full or nothing more comes: each turn leaves less of the buffer free.
+-- `fill` reads until the buffer is full or nothing more comes: each turn leaves less of the buffer free.
 -- Assumes nothing.
 use Prim.Native.Nat.{_-_}
 use mathlib.Core.Path.{_∙_}
@@ -6,8 +6,8 @@ use native.Mathlib.Omega.{arith}
 use lib.ListN.{length}
 use Rattle.console.specs.Input.{ReadInto}
 use Rattle.console.proofs.Reading.{read-none, read-more}
-use Rattle.console.proofs.read_all.Statement.{statement}
-use Rattle.console.proofs.read_all.Tie as tie
+use Rattle.console.proofs.fill.Statement.{statement}
+use Rattle.console.proofs.fill.Tie as tie
 
 abbrev Inv-loop : tie.InvT-loop
 Inv-loop buffer₀ done₀ buffer done = ReadInto 0 buffer₀ buffer done
@@ -56,8 +56,8 @@ same-length-2 c = c .before .loop .inv .size
 returns-2 : tie.Need-returns-2 Inv-loop μ-loop
 returns-2 c = c .before .loop .inv
 
-pub read-all-spec : {M : Type 1} → statement M
-read-all-spec =
+pub fill-spec : {M : Type 1} → statement M
+fill-spec =
     tie.close
     (tie.spec
     Inv-loop
