@@ -9,23 +9,16 @@ ghost use Rattle.setchain.specs.Rows.{ONE};
 ghost use Rattle.scheme.specs.Tables.{anyBelow};
 ghost use Rattle.scheme.specs.Cause.{outside, bandTest};
 ghost use Rattle.scheme.specs.Stages.{formCause, bandCause};
-
-// x is not one of 1 to max
-fn outside(x: u8, max: u8) -> bool
-    ensures { λ r. ⌜ r ≡ outside max x ⌝ }
-{
-    x == 0 || max < x
-}
+use scheme::outside;
+use scheme::wide;
 
 // the first of causes 3, 5 and 6, or 0
 pub fn form_cause(classes: u8, columns: u8, start: u8, horizon: u8) -> u8
     ensures { λ r. ⌜ r ≡ formCause classes columns start horizon ⌝ }
 {
-    if outside(classes, scheme::MOST_CLASSES) {
-        return scheme::SIZE_OUT;
-    }
-    if outside(columns, scheme::MOST_COLUMNS) {
-        return scheme::SIZE_OUT;
+    let sizes = scheme::sizes_cause(classes, columns);
+    if sizes != 0 {
+        return sizes;
     }
     if outside(start, classes) {
         return scheme::START_OUT;
@@ -60,7 +53,7 @@ pub fn rule_cause(rules: &[u8; 256], classes: u8, columns: u8) -> u8
     let n = classes as usize;
     let mut i: usize = 0;
     while i < n {
-        if row_out(rules, i * 8, classes, columns) {
+        if row_out(rules, i * scheme::RULE_STRIDE, classes, columns) {
             return scheme::RULE_OUT;
         }
         i += 1;
@@ -89,13 +82,6 @@ fn band_out(lowers: &[u32; 8], uppers: &[u32; 8], columns: u8) -> bool
         k += 1;
     }
     false
-}
-
-// a 32-bit number in 64 bits
-fn wide(x: u32) -> u64
-    ensures { λ r. ⌜ (r ≡ x) × (r ≤ 4294967295) ⌝ }
-{
-    x as u64
 }
 
 // the sum of a band's ends over the columns, in 64 bits

@@ -1,8 +1,12 @@
-// Numbers in lent bytes, big-endian, read at any place, also where the bytes do not hold them. What is put, and copied, is defined in specs/ too.
+// Numbers in lent bytes, big-endian, read and put at any place, and bytes copied from one slice to another.
+// Where the bytes do not hold them, 0 is read, and what is to be put or copied leaves the bytes as they were.
 ghost use mathlib.Core.Path.{_≡_};
 ghost use Prim.Native.Nat.{_+_, _<_, _%_};
 ghost use lib.Dec.{leb};
 ghost use Rattle.big_endian_spec.specs.Numbers.{numberAt, numberPut, partPut};
+
+// The most bytes of a number that is read: those of 32 bits.
+pub const MOST_BYTES: usize = 4;
 
 // Whether a length holds `width` bytes from place `at` on.
 pub fn holds(length: usize, at: usize, width: usize) -> bool
@@ -21,33 +25,24 @@ fn digit(x: u8) -> u32
     x as u32
 }
 
-// The number in 2 bytes, or 0.
-pub fn be2(bytes: &[u8], at: usize) -> u32
-    ensures { λ r. ⌜ r ≡ numberAt 2 (now (bytes .entry)) at ⌝ }
+// The number in `width` bytes, or 0.
+pub fn number_at(bytes: &[u8], at: usize, width: usize) -> u32
+    ensures { λ r. ⌜ r ≡ numberAt width (now (bytes .entry)) at ⌝ }
 {
-    if !holds(bytes.len(), at, 2) {
+    if MOST_BYTES < width {
         return 0;
     }
-    let a = digit(bytes[at]);
-    let b = digit(bytes[at + 1]);
-    a * 256 + b
-}
-
-// The number in 4 bytes, or 0.
-pub fn be4(bytes: &[u8], at: usize) -> u32
-    ensures { λ r. ⌜ r ≡ numberAt 4 (now (bytes .entry)) at ⌝ }
-{
-    if !holds(bytes.len(), at, 4) {
+    if !holds(bytes.len(), at, width) {
         return 0;
     }
-    let a = digit(bytes[at]);
-    let b = digit(bytes[at + 1]);
-    let c = digit(bytes[at + 2]);
-    let d = digit(bytes[at + 3]);
-    ((a * 256 + b) * 256 + c) * 256 + d
+    let mut number: u32 = 0;
+    let mut k: usize = 0;
+    while k < width {
+        number = number * 256 + digit(bytes[at + k]);
+        k += 1;
+    }
+    number
 }
-
-// Numbers put into lent bytes, big-endian, and bytes copied from one slice to another; bytes that do not hold them stay as they are.
 
 // the low byte of a number
 fn low(x: u32) -> u8
@@ -56,31 +51,20 @@ fn low(x: u32) -> u8
     (x % 256) as u8
 }
 
-// Puts the low 2 bytes of x, or leaves the bytes as they were.
-pub fn put2(out: &mut [u8], at: usize, x: u32)
-    ensures { λ _. ⌜ now (out .exit) ≡ numberPut 2 (now (out .entry)) at x ⌝ }
+// Puts the low `width` bytes of x, the last one first, or leaves the bytes as they were.
+pub fn put_number(out: &mut [u8], at: usize, width: usize, x: u32)
+    ensures { λ _. ⌜ now (out .exit) ≡ numberPut width (now (out .entry)) at x ⌝ }
 {
-    if !holds(out.len(), at, 2) {
+    if !holds(out.len(), at, width) {
         return;
     }
-    out[at] = low(x / 256);
-    out[at + 1] = low(x);
-}
-
-// Puts the 4 bytes of x, or leaves the bytes as they were.
-pub fn put4(out: &mut [u8], at: usize, x: u32)
-    ensures { λ _. ⌜ now (out .exit) ≡ numberPut 4 (now (out .entry)) at x ⌝ }
-{
-    if !holds(out.len(), at, 4) {
-        return;
+    let mut rest = x;
+    let mut k = width;
+    while 0 < k {
+        k -= 1;
+        out[at + k] = low(rest);
+        rest = rest / 256;
     }
-    let c = x / 256;
-    let b = c / 256;
-    let a = b / 256;
-    out[at] = low(a);
-    out[at + 1] = low(b);
-    out[at + 2] = low(c);
-    out[at + 3] = low(x);
 }
 
 // Copies n bytes to place `to`, or leaves the bytes as they were where either slice does not hold so many.

@@ -1,15 +1,15 @@
 -- Read-after-put and put-after-read of numbers in bytes, over any width; bytes that are copied; and what is read and left by whether the bytes hold it.
 use Prim.Native.Nat.{ℕ, zero, suc, _+_, _*_, _/_, _%_, _-_, _^_, _≤_, _<_}
-use mathlib.Core.Path.{_≡_, refl, ap, sym}
+use mathlib.Core.Path.{_≡_, refl, ap, sym, _∙_}
 use mathlib.Core.Bool.{Bool, true, false, cond, _&&_}
 use mathlib.Core.List.{List, [], _∷_, _++_}
 use native.Mathlib.Decide.{decLe, decLt}
 use native.Mathlib.Omega.{arith}
 use native.Mathlib.Nat.{add-zero}
-use native.Mathlib.Numerals.{add-one, add-two, add-three}
+use native.Mathlib.Numerals.{add-one}
 use lib.Dec.{leb}
 use lib.ListN.{length, getD, take, drop, set, length-append, length-take, length-drop, List·getD-append, List·getD-eq-default}
-use lib.Seq.{sets, getD-at, getD-take, getD-drop, take-suc, length-take-le}
+use lib.Seq.{sets, getD-at, getD-take, getD-drop, take-suc, length-take-le, set-comm}
 use borrow.Author.Tests.{le-leb, lt-leb}
 use Rattle.big_endian_spec.specs.Numbers.{Bytes, beAt, beBytes, holds, numberAt, numberPut, partPut}
 
@@ -67,38 +67,70 @@ unfolding beAt
 beAt-fits zero l p small = omega arith
 beAt-fits (suc w) l p small = omega (arith, beAt-fits w l p small, small (p + w))
 
--- the widths that the code has, written out
-pub beAt-2 : (l : List ℕ) (p : ℕ) → beAt 2 l p ≡ getD l p 0 * 256 + getD l (p + 1) 0
+-- laying one list and then the next is laying both
+pub sets-append : (l : List ℕ) (i : ℕ) (a b : List ℕ) → sets (sets l i a) (i + length a) b ≡ sets l i (a ++ b)
+sets-append l i [] b = let e : i + 0 ≡ i = add-zero i in rw e
+sets-append l i (x ∷ a) b =
+    let e : i + length (x ∷ a) ≡ suc i + length a = omega arith in
+    rw e (sets-append (set l i x) (suc i) a b)
+
+-- one more value at the end of what is laid
+pub sets-more : (l : List ℕ) (i : ℕ) (a : List ℕ) (x : ℕ) → set (sets l i a) (i + length a) x ≡ sets l i (a ++ (x ∷ []))
+sets-more l i a x = sets-append l i a (x ∷ [])
+
+-- of two tests the second fails
+second-fails : {A : Type 0} (a b : Bool) (x y : A) → b ≡ false → y ≡ cond (a && b) x y
+second-fails true b x y e = rw e
+second-fails false b x y e = refl
+
+-- one more byte of a number that is read, which fits 32 bits where it has at most 4 bytes
+pub read-more : (k : ℕ) (l : List ℕ) (p : ℕ) → beAt (k + 1) l p ≡ beAt k l p * 256 + getD l (p + k) 0
 unfolding beAt
-beAt-2 l p = omega (arith, ap (λ q. getD l q 0) (add-zero p))
+read-more k l p = rw add-one
 
-pub beAt-4 : (l : List ℕ) (p : ℕ)
-    → beAt 4 l p ≡ ((getD l p 0 * 256 + getD l (p + 1) 0) * 256 + getD l (p + 2) 0) * 256 + getD l (p + 3) 0
-unfolding beAt
-beAt-4 l p = omega (arith, ap (λ q. getD l q 0) (add-zero p))
+pub fits-more : (k : ℕ) {x d : ℕ} → x < 256 ^ k → d < 256 → x * 256 + d < 256 ^ (k + 1)
+fits-more k fits small = rw add-one (omega arith)
 
-pub put-2 : (l : List ℕ) (p x : ℕ) {a b : ℕ} → a ≡ x / 256 % 256 → b ≡ x % 256 → set (set l p a) (p + 1) b ≡ sets l p (beBytes 2 x)
+pub read-room : (k x : ℕ) → k < 4 → x < 256 ^ k → x < 16777216
+read-room zero x few fits = omega arith
+read-room (suc zero) x few fits = omega arith
+read-room (suc (suc zero)) x few fits = omega arith
+read-room (suc (suc (suc zero))) x few fits = omega arith
+read-room (suc (suc (suc (suc k)))) x few fits = absurd (omega arith)
+
+-- a value stored past those that are laid can be stored first
+stored-first : (l : List ℕ) (i : ℕ) (a : List ℕ) (q x : ℕ) → i + length a ≤ q → set (sets l i a) q x ≡ sets (set l q x) i a
+stored-first l i [] q x past = refl
+stored-first l i (y ∷ a) q x past =
+    stored-first (set l i y) (suc i) a q x (omega arith) ∙ ap (λ m. sets m (suc i) a) (set-comm l i q y x (λ e. omega arith))
+
+-- the last byte of a number put, and then those before it
+pub put-last : (k : ℕ) (l : List ℕ) (p x : ℕ) → 0 < k → sets (set l (p + (k - 1)) (x % 256)) p (beBytes (k - 1) (x / 256)) ≡ sets l p (beBytes k x)
 unfolding beBytes
-put-2 l p x ea eb = rw (ea, eb, add-one)
+put-last zero l p x some = absurd (omega arith)
+put-last (suc k) l p x some =
+    let high : List ℕ = beBytes k (x / 256) in
+    let less : suc k - 1 ≡ k = omega arith in
+    let size : p + k ≡ p + length high = omega (arith, length-beBytes k (x / 256)) in
+    rw less (sym (stored-first l p high (p + k) (x % 256) (omega arith)) ∙ rw size (sets-more l p high (x % 256)))
 
-pub put-4 : (l : List ℕ) (p x : ℕ) {a b c d : ℕ} → a ≡ x / 256 / 256 / 256 % 256 → b ≡ x / 256 / 256 % 256 → c ≡ x / 256 % 256 → d ≡ x % 256
-    → set (set (set (set l p a) (p + 1) b) (p + 2) c) (p + 3) d ≡ sets l p (beBytes 4 x)
-unfolding beBytes
-put-4 l p x ea eb ec ed = rw (ea, eb, ec, ed, add-one, add-two, add-three)
-
--- where the bytes hold the number it is read and put, and elsewhere 0 is read and nothing put
+-- where the bytes hold the number, and it has at most 4 bytes, it is read; it is put where they hold it; elsewhere 0 is read and nothing put
 module _ (w : ℕ) (l : List ℕ) (p : ℕ) where
-  pub read-held : p + w ≤ length l → numberAt w l p ≡ beAt w l p
+  pub read-held : w ≤ 4 → p + w ≤ length l → numberAt w l p ≡ beAt w l p
   unfolding numberAt
-  read-held fits = rw (le-leb (p + w) (length l) fits)
+  read-held few fits = rw (le-leb w 4 few, le-leb (p + w) (length l) fits)
 
   pub put-held : (x : ℕ) → p + w ≤ length l → numberPut w l p x ≡ sets l p (beBytes w x)
   unfolding numberPut
   put-held x fits = rw (le-leb (p + w) (length l) fits)
 
+  pub read-wide : 4 < w → 0 ≡ numberAt w l p
+  unfolding numberAt
+  read-wide wide = rw (lt-leb w 4 wide)
+
   pub read-none : holds w l p ≡ false → 0 ≡ numberAt w l p
   unfolding numberAt
-  read-none out = rw out
+  read-none out = second-fails (leb w 4) (holds w l p) (beAt w l p) 0 out
 
   pub put-none : (x : ℕ) → holds w l p ≡ false → l ≡ numberPut w l p x
   unfolding numberPut
@@ -112,17 +144,6 @@ held-within n p w fits = by (decLe p (n - w))
     by (yes h) = rw (le-leb p (n - w) h, le-leb (p + w) n (omega arith))
     by (no h) = rw (lt-leb p (n - w) (omega arith), lt-leb (p + w) n (omega arith))
 
--- laying one list and then the next is laying both
-pub sets-append : (l : List ℕ) (i : ℕ) (a b : List ℕ) → sets (sets l i a) (i + length a) b ≡ sets l i (a ++ b)
-sets-append l i [] b = let e : i + 0 ≡ i = add-zero i in rw e
-sets-append l i (x ∷ a) b =
-    let e : i + length (x ∷ a) ≡ suc i + length a = omega arith in
-    rw e (sets-append (set l i x) (suc i) a b)
-
--- one more value at the end of what is laid
-pub sets-more : (l : List ℕ) (i : ℕ) (a : List ℕ) (x : ℕ) → set (sets l i a) (i + length a) x ≡ sets l i (a ++ (x ∷ []))
-sets-more l i a x = sets-append l i a (x ∷ [])
-
 -- one more value of a part that is copied
 pub copy-more : (from : List ℕ) (at : ℕ) (l : List ℕ) (to k : ℕ) → at + k < length from
     → set (sets l to (take k (drop at from))) (to + k) (getD from (at + k) 0) ≡ sets l to (take (k + 1) (drop at from))
@@ -130,11 +151,6 @@ copy-more from at l to k h =
     let lt : k < length (drop at from) = rw (length-drop at from) (omega arith) in
     let size : to + k ≡ to + length (take k (drop at from)) = omega (arith, length-take-le k (drop at from) (omega arith)) in
     rw (add-one, take-suc (drop at from) k 0 lt, getD-drop at from k 0, size) (sets-more l to (take k (drop at from)) (getD from (at + k) 0))
-
--- of two tests the second fails
-second-fails : (a b : Bool) (x y : List ℕ) → b ≡ false → y ≡ cond (a && b) x y
-second-fails true b x y e = rw e
-second-fails false b x y e = refl
 
 -- where both slices hold the bytes they are copied, and elsewhere nothing is
 module _ (w : ℕ) (from : List ℕ) (at : ℕ) (out : List ℕ) (to : ℕ) where

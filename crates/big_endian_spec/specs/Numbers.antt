@@ -24,9 +24,9 @@ beBytes (suc w) x = beBytes w (x / 256) ++ (x % 256 ∷ [])
 abbrev pub holds : (width : ℕ) → List ℕ → (place : ℕ) → Bool
 holds width bytes place = leb (place + width) (length bytes)
 
--- reading: the number that stands there, and 0 where the bytes do not hold it
+-- reading: the number that stands there, and 0 where it has more than 4 bytes or the bytes do not hold it
 unfoldable pub numberAt : (width : ℕ) → List ℕ → (place : ℕ) → ℕ
-numberAt width bytes place = cond (holds width bytes place) (beAt width bytes place) 0
+numberAt width bytes place = cond (leb width 4 && holds width bytes place) (beAt width bytes place) 0
 
 -- putting: the bytes of x laid there, and the bytes as they were where they do not hold it
 unfoldable pub numberPut : (width : ℕ) → List ℕ → (place : ℕ) → ℕ → List ℕ

@@ -72,7 +72,7 @@ fn list_rows(
     let m = lowers.len();
     let mut i: usize = 0;
     while i < n {
-        let first = i * 8;
+        let first = i * scheme::RULE_STRIDE;
         let end = first + m;
         spare[i] = list_row(&rules[first..end], lowers, uppers, n, i, entries);
         i += 1;

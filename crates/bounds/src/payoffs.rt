@@ -14,13 +14,6 @@ pub fn share_payoff(class: u64) -> [u64; 32]
     payoff
 }
 
-// A 32-bit number in 64 bits.
-pub fn wide(x: u32) -> u64
-    ensures { λ r. ⌜ r ≡ x ⌝ }
-{
-    x as u64
-}
-
 // The premiums as a figure vector.
 pub fn widened(premiums: [u32; 32]) -> [u64; 32]
     ensures { λ r. ⌜ r ≡ premiums ⌝ }
@@ -28,7 +21,7 @@ pub fn widened(premiums: [u32; 32]) -> [u64; 32]
     let mut out = [0u64; 32];
     let mut i: usize = 0;
     while i < 32 {
-        out[i] = wide(premiums[i]);
+        out[i] = scheme::wide(premiums[i]);
         i += 1;
     }
     out

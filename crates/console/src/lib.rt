@@ -26,6 +26,13 @@ pub fn word(text: &[u8], x: u64) {
     number(x);
 }
 
+// A byte in 64 bits, as `number` takes it.
+pub fn wide(x: u8) -> u64
+    ensures { λ r. ⌜ r ≡ x ⌝ }
+{
+    x as u64
+}
+
 // The end of a line.
 pub fn end() {
     bytes(b"\n");
@@ -124,7 +131,7 @@ pub fn record_at(input: &[u8], at: usize) -> &[u8]
     if !big_endian::holds(input.len(), at, 2) {
         return &input[0..0];
     }
-    let length = big_endian::be2(input, at) as usize;
+    let length = big_endian::number_at(input, at, 2) as usize;
     front(&input[at + 2..], length)
 }
 
@@ -133,13 +140,6 @@ pub fn add(sum: u64, x: u64) -> u64
     ensures { λ r. ⌜ r ≡ added sum x ⌝ }
 {
     (sum % 4_294_967_291 * 16_777_619 + x % 4_294_967_291 + 1) % 4_294_967_291
-}
-
-// A byte in 64 bits.
-pub fn wide(x: u8) -> u64
-    ensures { λ r. ⌜ r ≡ x ⌝ }
-{
-    x as u64
 }
 
 // The checksum of a text.

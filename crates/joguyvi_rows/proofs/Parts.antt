@@ -1,7 +1,7 @@
 -- A part of a record in a buffer: a class's rule row.
 -- Assumes nothing.
 use Prim.Native.Nat.{ℕ, _-_, _≤_}
-use mathlib.Core.Path.{_≡_, ap, sym, _∙_, subst, refl}
+use mathlib.Core.Path.{_≡_, ap, sym, _∙_, subst}
 use mathlib.Core.Bool.{Bool, true, false, cond}
 use mathlib.Core.List.{List, [], _++_, append-nil}
 use native.Mathlib.Omega.{arith}
@@ -16,8 +16,8 @@ use Rattle.big_endian_spec.specs.Laws.{part-held}
 use Rattle.record.specs.Laws.Lists.{sets-front}
 use Rattle.record_spec.specs.Layout.{version1, rowPlace, classesIn, columnsIn}
 use Rattle.record_spec.specs.Read.{readCause}
-use Rattle.record_spec.specs.RuleRow.{rowCause, ruleRow}
-use Rattle.record_parts.specs.RuleRowLaws.{row-read, row-framed, row-within}
+use Rattle.record_spec.specs.RuleRow.{ruleRowCause, ruleRow}
+use Rattle.record_parts.specs.Laws.RuleRow.{row-read, row-framed, row-within}
 use Rattle.joguyvi_spec.specs.Buffers.{bufferCause, filledWhere}
 use Rattle.joguyvi_spec.specs.Laws.Sizes.{buffer-out, buffer-fits, thirteen}
 use Rattle.joguyvi_spec.specs.Rows.{partNumber, ruleRowNumber}
@@ -70,31 +70,31 @@ class-only false n e h = absurd (h e)
 
 -- a rule row that is shown has a byte for each column
 module _ (bytes : List ℕ) (class : ℕ) where
-  row-size : rowCause bytes class ≡ 0 → length (ruleRow bytes class) ≡ columnsIn bytes
+  row-size : ruleRowCause bytes class ≡ 0 → length (ruleRow bytes class) ≡ columnsIn bytes
   unfolding ruleRow
   row-size none =
       let place = rowPlace version1 (columnsIn bytes) (class - 1) in
-      let enough : columnsIn bytes ≤ length (drop place bytes) = rw (length-drop place bytes) (omega (arith, row-within bytes class refl none)) in
-      ap length (answered (rowCause bytes class) (take (columnsIn bytes) (drop place bytes)) _ none) ∙ length-take-le (columnsIn bytes) (drop place bytes) enough
+      let enough : columnsIn bytes ≤ length (drop place bytes) = rw (length-drop place bytes) (omega (arith, row-within bytes class none)) in
+      ap length (answered (ruleRowCause bytes class) (take (columnsIn bytes) (drop place bytes)) _ none) ∙ length-take-le (columnsIn bytes) (drop place bytes) enough
 
   -- of bytes that are read: an empty row tells cause 11
   module _ (out : List ℕ) (read : readCause bytes ≡ 0) where
-    same-number : Dec (rowCause bytes class ≡ 0) → partNumber (ruleRow bytes class) out ≡ ruleRowNumber bytes class out
+    same-number : Dec (ruleRowCause bytes class ≡ 0) → partNumber (ruleRow bytes class) out ≡ ruleRowNumber bytes class out
     unfolding ruleRow
     same-number (yes none) =
         let size = row-size none in
         let full : length (ruleRow bytes class) ≡ 0 → ⊥ = λ z. omega (arith, row-framed bytes class none .someColumn, size) in
-        some (ruleRow bytes class) out full ∙ ap (λ m. bufferCause m out) size ∙ sym (second-cause (rowCause bytes class) (bufferCause (columnsIn bytes) out) none)
+        some (ruleRow bytes class) out full ∙ ap (λ m. bufferCause m out) size ∙ sym (second-cause (ruleRowCause bytes class) (bufferCause (columnsIn bytes) out) none)
     same-number (no h) =
-        let is : ruleRow bytes class ≡ [] = declined (rowCause bytes class) (take (columnsIn bytes) (drop (rowPlace version1 (columnsIn bytes) (class - 1)) bytes)) [] h in
-        let only : rowCause bytes class ≡ 11 = class-only (outside (classesIn bytes) class) _ (second-cause (readCause bytes) (cond (outside (classesIn bytes) class) 11 0) read) h in
-        sym (part-empty (ruleRow bytes class) out (ap length is) .0) ∙ sym (first-cause (rowCause bytes class) (bufferCause (columnsIn bytes) out) h ∙ only)
+        let is : ruleRow bytes class ≡ [] = declined (ruleRowCause bytes class) (take (columnsIn bytes) (drop (rowPlace version1 (columnsIn bytes) (class - 1)) bytes)) [] h in
+        let only : ruleRowCause bytes class ≡ 11 = class-only (outside (classesIn bytes) class) _ (second-cause (readCause bytes) (cond (outside (classesIn bytes) class) 11 0) read) h in
+        sym (part-empty (ruleRow bytes class) out (ap length is) .0) ∙ sym (first-cause (ruleRowCause bytes class) (bufferCause (columnsIn bytes) out) h ∙ only)
 
     pub rule-row-passed : {n : ℕ} {out′ : List ℕ} → Parted n (partNumber (ruleRow bytes class) out) (ruleRow bytes class) out out′
         → Parted n (ruleRowNumber bytes class out) (ruleRow bytes class) out out′
-    rule-row-passed told = (told .0 ∙ same-number (ℕ-discrete (rowCause bytes class) 0), told .1)
+    rule-row-passed told = (told .0 ∙ same-number (ℕ-discrete (ruleRowCause bytes class) 0), told .1)
 
   pub rule-row-stopped : {n : ℕ} (out : List ℕ) → n ≡ readCause bytes → (n ≡ 0 → ⊥) → Parted n (ruleRowNumber bytes class out) (ruleRow bytes class) out out
   rule-row-stopped {n} out e h =
-      let own : n ≡ rowCause bytes class = row-read bytes class e h in
-      (own ∙ sym (first-cause (rowCause bytes class) (bufferCause (columnsIn bytes) out) (λ z. h (own ∙ z))), sym (declined n (ruleRow bytes class) out h))
+      let own : n ≡ ruleRowCause bytes class = row-read bytes class e h in
+      (own ∙ sym (first-cause (ruleRowCause bytes class) (bufferCause (columnsIn bytes) out) (λ z. h (own ∙ z))), sym (declined n (ruleRow bytes class) out h))

@@ -41,13 +41,6 @@ pub fn put_part(part: &[u8], out: &mut [u8]) -> u8
     0
 }
 
-// A byte as a count.
-fn count(x: u8) -> usize
-    ensures { λ r. ⌜ r ≡ x ⌝ }
-{
-    x as usize
-}
-
 // Puts the bands of all columns into two buffers, and answers cause 13, or 0.
 pub fn put_bands(scheme: Scheme, lower: &mut [u32], upper: &mut [u32]) -> u8
     requires { ⌜ scheme .columns ≤ 8 ⌝ }
@@ -55,7 +48,7 @@ pub fn put_bands(scheme: Scheme, lower: &mut [u32], upper: &mut [u32]) -> u8
     ensures lowers { λ r. ⌜ now (lower .exit) ≡ filledWhere r (lowerBands scheme) (now (lower .entry)) ⌝ }
     ensures uppers { λ r. ⌜ now (upper .exit) ≡ filledWhere r (upperBands scheme) (now (upper .entry)) ⌝ }
 {
-    let columns = count(scheme.columns);
+    let columns = scheme.columns as usize;
     let number = scheme::slices_cause(columns, lower.len(), upper.len());
     if number != 0 {
         return number;

@@ -24,7 +24,7 @@ use Rattle.scheme.specs.RowExamples.{answerOf}
 use Rattle.record_spec.specs.Bytes.{headerBytes, bytesOf}
 use Rattle.record_spec.specs.Write.{writeAnswer, writeLeaves}
 use Rattle.ready_spec.specs.Scales.{scale1}
-use Rattle.ready_spec.specs.Ready.{ruleEntry, premiumEntry, readyScheme}
+use Rattle.ready_spec.specs.Ready.{readyScheme}
 use Rattle.ready_spec.specs.Answer.{readyAnswer}
 use Rattle.order.specs.States.{at}
 use Rattle.step_spec.specs.StepAnswer.{payoffOut}
@@ -163,7 +163,7 @@ ready-schemes = (refl, refl, refl, refl)
 
 -- ready scheme 1 takes 209 bytes
 pub ready-room : (readyNumber 1 100 (replicate 209 0) one ≡ 0) × (readyNumber 1 100 (replicate 208 0) one ≡ 13)
-unfolding readyAnswer readyScheme ruleEntry premiumEntry scale1 writeAnswer tab causeWhere sizeOut startOut horizonOut ruleOut bandOut sumOut premiumOut anyBelow sumTo
+unfolding readyAnswer readyScheme schemeOf upTo scale1 writeAnswer tab causeWhere sizeOut startOut horizonOut ruleOut bandOut sumOut premiumOut anyBelow sumTo
 ready-room = (refl, refl)
 
 -- a step takes a payoff of 32 numbers, a buffer of one for the figure and one of 32 for the row

@@ -12,7 +12,7 @@ use Rattle.scheme.specs.Cause.{orElse}
 use Rattle.scheme.specs.RowAnswer.{rowAnswer}
 use Rattle.record_spec.specs.Layout.{version1, schemeIn, columnsIn}
 use Rattle.record_spec.specs.Read.{readCause}
-use Rattle.record_spec.specs.RuleRow.{rowCause}
+use Rattle.record_spec.specs.RuleRow.{ruleRowCause}
 use Rattle.joguyvi_spec.specs.Buffers.{bufferCause, buffersCause}
 
 -- a row into two buffers: its cause, then 13 where one of them is not of 32 numbers
@@ -33,7 +33,7 @@ partNumber part out = orElse (cond (eqb (length part) 0) 11 0) (bufferCause (len
 
 -- the number for a rule row of a record (document 01, "Record"): its cause, then 13 where the buffer is not of m bytes
 abbrev pub ruleRowNumber : List ℕ → (class : ℕ) → List ℕ → ℕ
-ruleRowNumber bytes class out = orElse (rowCause bytes class) (bufferCause (columnsIn bytes) out)
+ruleRowNumber bytes class out = orElse (ruleRowCause bytes class) (bufferCause (columnsIn bytes) out)
 
 -- the lower ends of a scheme's bands, a number for each column
 abbrev pub lowerBands : Scheme → List ℕ

@@ -2,10 +2,10 @@
 ghost use mathlib.Core.Path.{_≡_};
 ghost use Prim.Native.Nat.{_/_, _≤_, _<_};
 ghost use Rattle.scheme.specs.Tables.{tab};
-ghost use Rattle.ready_spec.specs.Scales.{chosen, classesOf, factorOf, tenthsOf};
+ghost use Rattle.ready_spec.specs.Scales.{chosen, classesOf, factorOf, tenthsOf, premiumOf};
 ghost use Rattle.ready_spec.specs.Moves.{held, movedClass, Movable};
-ghost use Rattle.ready_spec.specs.Ready.{ruleEntry, premiumEntry, readyScheme};
-ghost use Rattle.scheme.specs.Stored.{noScheme};
+ghost use Rattle.ready_spec.specs.Ready.{readyRule, readyScheme};
+ghost use Rattle.scheme.specs.Stored.{upTo, rulesUpTo};
 ghost use Rattle.ready_spec.specs.Answer.{numberCause, baseCause, readyCause, readyAnswer};
 pub use ready_spec::ReadyAnswer;
 use scheme::Scheme;
@@ -33,7 +33,7 @@ const NOT_READY: u8 = 14;
 const BASE_ABOVE: u8 = 15;
 
 // The tenths of a percent of each class of ready scheme 1.
-const SCALE_1: [u16; 18] = [
+const SCALE_1: [u64; 18] = [
     792,
     822,
     855,
@@ -55,7 +55,7 @@ const SCALE_1: [u16; 18] = [
 ];
 
 // The same of ready scheme 2.
-const SCALE_2: [u16; 18] = [
+const SCALE_2: [u64; 18] = [
     701,
     731,
     764,
@@ -77,7 +77,7 @@ const SCALE_2: [u16; 18] = [
 ];
 
 // The same of ready scheme 3.
-const SCALE_3: [u16; 24] = [
+const SCALE_3: [u64; 24] = [
     541,
     570,
     604,
@@ -103,13 +103,6 @@ const SCALE_3: [u16; 24] = [
     3435,
     3953,
 ];
-
-// The same number, wider.
-fn wide(x: u16) -> u64
-    ensures { λ r. ⌜ r ≡ x ⌝ }
-{
-    x as u64
-}
 
 // The first, the second or the third number, by the ready scheme's number.
 fn chosen_of(number: u64, first: u64, second: u64, third: u64) -> u64
@@ -166,11 +159,11 @@ fn moved(s: u64, c: u64, class: u64, k: u64) -> u64
 // The rule at a place of the rules.
 fn rule_entry(number: u64, place: usize) -> u8
     requires { ⌜ place < 256 ⌝ }
-    ensures { λ r. ⌜ r ≡ ruleEntry number place ⌝ }
+    ensures { λ r. ⌜ r ≡ rulesUpTo (classesOf number) 5 (readyRule number) place ⌝ }
 {
     let s = classes_of(number);
-    let i = (place / 8) as u64;
-    let k = (place % 8) as u64;
+    let i = (place / scheme::RULE_STRIDE) as u64;
+    let k = (place % scheme::RULE_STRIDE) as u64;
     if s <= i {
         return 0;
     }
@@ -182,7 +175,7 @@ fn rule_entry(number: u64, place: usize) -> u8
 
 // The rules, class by class.
 fn rules(number: u64) -> [u8; 256]
-    ensures { λ r. ⌜ r ≡ tab 256 (ruleEntry number) ⌝ }
+    ensures { λ r. ⌜ r ≡ tab 256 (rulesUpTo (classesOf number) 5 (readyRule number)) ⌝ }
 {
     let mut out = [0u8; 256];
     let mut place: usize = 0;
@@ -199,12 +192,12 @@ fn tenths(number: u64, i: usize) -> u64
     ensures { λ r. ⌜ r ≡ tenthsOf number i ⌝ }
 {
     if number == 1 {
-        return wide(SCALE_1[i]);
+        return SCALE_1[i];
     }
     if number == 2 {
-        return wide(SCALE_2[i]);
+        return SCALE_2[i];
     }
-    wide(SCALE_3[i])
+    SCALE_3[i]
 }
 
 // A thousandth, rounded down.
@@ -218,7 +211,7 @@ fn thousandth(product: u64) -> u32
 // The premium of class i + 1.
 fn premium_entry(number: u64, base: u64, i: usize) -> u32
     requires { ⌜ base ≤ 2500000 ⌝ }
-    ensures { λ r. ⌜ r ≡ premiumEntry number base i ⌝ }
+    ensures { λ r. ⌜ r ≡ upTo (classesOf number) (premiumOf number base) i ⌝ }
 {
     let s = classes_of(number);
     if s <= i as u64 {
@@ -230,7 +223,7 @@ fn premium_entry(number: u64, base: u64, i: usize) -> u32
 // The premiums, class by class.
 fn premiums(number: u64, base: u64) -> [u32; 32]
     requires { ⌜ base ≤ 2500000 ⌝ }
-    ensures { λ r. ⌜ r ≡ tab 32 (premiumEntry number base) ⌝ }
+    ensures { λ r. ⌜ r ≡ tab 32 (upTo (classesOf number) (premiumOf number base)) ⌝ }
 {
     let mut out = [0u32; 32];
     let mut i: usize = 0;
@@ -258,22 +251,6 @@ fn made(number: u64, base: u64) -> Scheme
         lowers: [0; 8],
         uppers: [ONE, ONE, ONE, ONE, ONE, 0, 0, 0],
         premiums: premiums,
-    }
-}
-
-// A scheme all 0.
-fn none() -> Scheme
-    ensures { λ r. ⌜ r ≡ noScheme ⌝ }
-{
-    Scheme {
-        classes: 0,
-        columns: 0,
-        start: 0,
-        horizon: 0,
-        rules: [0; 256],
-        lowers: [0; 8],
-        uppers: [0; 8],
-        premiums: [0; 32],
     }
 }
 
@@ -321,7 +298,7 @@ pub fn ready(number: u64, base: u64) -> ReadyAnswer
             scheme: scheme,
         };
     }
-    let scheme = none();
+    let scheme = scheme::no_scheme();
     ReadyAnswer {
         number: refused,
         scheme: scheme,

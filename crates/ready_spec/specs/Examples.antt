@@ -6,27 +6,28 @@ use Rattle.setchain.specs.Sums.{sumTo}
 use Rattle.setchain.specs.Rows.{ONE}
 use Rattle.scheme.specs.Tables.{tab}
 use Rattle.scheme.specs.Access.{ruleAt, premiumAt}
+use Rattle.scheme.specs.Stored.{upTo, schemeOf}
 use Rattle.ready_spec.specs.Scales.{classesOf, premiumOf, scale1, scale2, scale3, tenthsOf}
-use Rattle.ready_spec.specs.Ready.{ruleEntry, premiumEntry, readyScheme}
+use Rattle.ready_spec.specs.Ready.{readyScheme}
 use Rattle.ready_spec.specs.Answer.{readyCause}
 
 -- "Scheme 1: class 10 with 3 or 4 claims to 18"
 pub three-claims : (base : ℕ) → ruleAt (readyScheme 1 base) 9 3 ≡ 18
-unfolding readyScheme ruleEntry tab
+unfolding readyScheme schemeOf upTo tab
 three-claims base = refl
 
 pub four-claims : (base : ℕ) → ruleAt (readyScheme 1 base) 9 4 ≡ 18
-unfolding readyScheme ruleEntry tab
+unfolding readyScheme schemeOf upTo tab
 four-claims base = refl
 
 -- "class 1 with none stays"
 pub no-claim : (base : ℕ) → ruleAt (readyScheme 1 base) 0 0 ≡ 1
-unfolding readyScheme ruleEntry tab
+unfolding readyScheme schemeOf upTo tab
 no-claim base = refl
 
 -- "the last column moves as k = 4 does": class 1 rises by 3 × 4 − 1
 pub last-column : (base : ℕ) → ruleAt (readyScheme 1 base) 0 4 ≡ 12
-unfolding readyScheme ruleEntry tab
+unfolding readyScheme schemeOf upTo tab
 last-column base = refl
 
 -- "m is 5 … Start is 10, horizon 40. A band is 0 to ONE in each column": of each of the three
@@ -38,7 +39,7 @@ pub record Form (number base : ℕ) : Type 0 where
   pub uppers : readyScheme number base .uppers ≡ ONE ∷ ONE ∷ ONE ∷ ONE ∷ ONE ∷ 0 ∷ 0 ∷ 0 ∷ []
 
 pub forms : (number base : ℕ) → Form number base
-unfolding readyScheme tab
+unfolding readyScheme schemeOf upTo tab
 forms number base = record { columns = refl; start = refl; horizon = refl; lowers = refl; uppers = refl }
 
 -- "Scheme 1: s 18, c 3. Scheme 2: s 18, c 4. Scheme 3: s 24, c 4.": one claim raises class 2 by c − 1, two raise class 10 by 2 c − 1, none lowers class 10 by 1, and class 18 with a claim is held to s
@@ -50,7 +51,7 @@ pub record Moves : Type 0 where
   pub held : (ruleAt (readyScheme 1 0) 17 1 ≡ 18) × (ruleAt (readyScheme 2 0) 17 1 ≡ 18) × (ruleAt (readyScheme 3 0) 17 1 ≡ 21)
 
 pub moves : Moves
-unfolding readyScheme ruleEntry tab
+unfolding readyScheme schemeOf upTo tab
 moves = record { classes = (refl, refl, refl); one = (refl, refl, refl); two = (refl, refl, refl); none = (refl, refl, refl); held = (refl, refl, refl) }
 
 -- the premiums of class 1 and of class s at base 1,000, each scheme's smallest and largest tenths, and 0 stored beyond s
@@ -60,12 +61,12 @@ pub record Premiums : Type 0 where
   pub beyond : (premiumAt (readyScheme 1 1000) 18 ≡ 0) × (premiumAt (readyScheme 2 1000) 18 ≡ 0) × (premiumAt (readyScheme 3 1000) 24 ≡ 0)
 
 pub premiums : Premiums
-unfolding readyScheme premiumEntry tab scale1 scale2 scale3
+unfolding readyScheme schemeOf upTo tab scale1 scale2 scale3
 premiums = record { first = (refl, refl, refl); last = (refl, refl, refl); beyond = (refl, refl, refl) }
 
 -- "every operation that makes a scheme sets them to 0": rules past column 5 and past class 18
 pub zero-beyond : (base : ℕ) → (ruleAt (readyScheme 1 base) 0 5 ≡ 0) × (ruleAt (readyScheme 1 base) 18 0 ≡ 0)
-unfolding readyScheme ruleEntry tab
+unfolding readyScheme schemeOf upTo tab
 zero-beyond base = (refl, refl)
 
 -- the tenths of each scale, summed over document 01's digits

@@ -9,9 +9,9 @@ use native.Mathlib.Omega.{arith}
 use native.Mathlib.Decide.{ℕ-discrete, decLt}
 use native.Mathlib.Nat.{mul-le-mul}
 use borrow.Author.Tests.{eq-eqb, ne-eqb, lt-ltb, le-ltb}
-use Rattle.ready_spec.specs.Scales.{chosen, classesOf, factorOf, tenthsOf, premiumOf, scale1, scale2, scale3}
-use Rattle.ready_spec.specs.Moves.{movedClass, Movable}
-use Rattle.ready_spec.specs.Ready.{ruleEntry, premiumEntry, readyScheme}
+use Rattle.ready_spec.specs.Scales.{chosen, classesOf, factorOf, tenthsOf, scale1, scale2, scale3}
+use Rattle.ready_spec.specs.Moves.{Movable}
+use Rattle.ready_spec.specs.Ready.{readyScheme}
 use Rattle.scheme.specs.Stored.{noScheme}
 use Rattle.ready_spec.specs.Answer.{Offered, readyCause, readyAnswer}
 
@@ -68,31 +68,6 @@ unfolding scale1 scale2 scale3
 tenths-most number i =
     chosen-all (λ l. getD l i 0 ≤ 3953) number scale1 scale2 scale3
     (all-up-to 3953 scale1 tt i) (all-up-to 3953 scale2 tt i) (all-up-to 3953 scale3 tt i)
-
--- the rule's tests
-module _ (number place : ℕ) where
-  pub rule-out : classesOf number ≤ place / 8 → ruleEntry number place ≡ 0
-  unfolding ruleEntry
-  rule-out h = rw (le-ltb (place / 8) (classesOf number) h)
-
-  pub rule-past : place / 8 < classesOf number → 5 ≤ place % 8 → ruleEntry number place ≡ 0
-  unfolding ruleEntry
-  rule-past h k = rw (lt-ltb (place / 8) (classesOf number) h, le-ltb (place % 8) 5 k)
-
-  pub rule-in : place / 8 < classesOf number → place % 8 < 5
-      → ruleEntry number place ≡ movedClass (classesOf number) (factorOf number) (place / 8 + 1) (place % 8)
-  unfolding ruleEntry
-  rule-in h k = rw (lt-ltb (place / 8) (classesOf number) h, lt-ltb (place % 8) 5 k)
-
--- the premium's tests
-module _ (number base i : ℕ) where
-  pub premium-out : classesOf number ≤ i → premiumEntry number base i ≡ 0
-  unfolding premiumEntry
-  premium-out h = rw (le-ltb i (classesOf number) h)
-
-  pub premium-in : i < classesOf number → premiumEntry number base i ≡ premiumOf number base i
-  unfolding premiumEntry
-  premium-in h = rw (lt-ltb i (classesOf number) h)
 
 -- a base in range times its tenths
 pub product-most : (number base i : ℕ) → base ≤ 2500000 → base * tenthsOf number i ≤ 9882500000

@@ -1,11 +1,10 @@
 -- Every ready scheme is accepted, and has 0 beyond s and m (document 01, "Units and the scheme" and "Ready schemes").
-use Prim.Native.Nat.{ℕ, _+_, _*_, _/_, _%_, _≤_, _<_}
-use mathlib.Core.Path.{_≡_, refl, ap, sym, _∙_}
+use Prim.Native.Nat.{ℕ, _≤_, _<_}
+use mathlib.Core.Path.{_≡_}
 use mathlib.Core.Bool.{Bool, true, false, cond}
-use lib.Dec.{eqb, ltb}
+use lib.Dec.{eqb}
 use native.Mathlib.Omega.{arith}
 use native.Mathlib.Nat.{le-refl}
-use borrow.Author.Tests.{lt-ltb}
 use Rattle.setchain.specs.Sums.{sumTo}
 use Rattle.setchain.specs.Rows.{ONE}
 use Rattle.scheme.specs.Tables.{tab}
@@ -14,43 +13,34 @@ use Rattle.scheme.specs.Accepted.{SizeFits, StartFits, HorizonFits, RulesFit, B
 use Rattle.scheme.specs.Cause.{causeOf}
 use Rattle.scheme.specs.Stored.{upTo, schemeOf, cleared, noScheme}
 use Rattle.scheme.specs.Laws.Judged.{cause-accepted}
-use Rattle.ready_spec.specs.Scales.{classesOf, factorOf, premiumOf}
-use Rattle.ready_spec.specs.Moves.{movedClass}
-use Rattle.ready_spec.specs.Ready.{ruleEntry, premiumEntry, readyScheme}
+use Rattle.ready_spec.specs.Scales.{classesOf, premiumOf}
+use Rattle.ready_spec.specs.Ready.{readyRule, readyScheme}
 use Rattle.ready_spec.specs.Answer.{Offered, readyCause, readyAnswer}
-use Rattle.scheme.specs.Laws.Tab.{getD-tab}
-use Rattle.scheme.specs.Laws.Stored.{made-cleared, none-cleared}
-use Rattle.ready_spec.specs.Laws.{classes-least, classes-most, product-most, rule-in, premium-in, offered}
+use Rattle.scheme.specs.Laws.Stored.{rule-made, lower-made, upper-made, premium-made, made-cleared, none-cleared}
+use Rattle.ready_spec.specs.Laws.{classes-least, classes-most, product-most, offered}
 
 module _ (number base : ℕ) where
   -- the rule of class i + 1 and column k
-  pub rule-at : (i k : ℕ) → i < classesOf number → k < 5
-      → ruleAt (readyScheme number base) i k ≡ movedClass (classesOf number) (factorOf number) (i + 1) k
+  pub rule-at : (i k : ℕ) → i < classesOf number → k < 5 → ruleAt (readyScheme number base) i k ≡ readyRule number i k
   unfolding readyScheme
-  rule-at i k h l =
-      let m = classes-most number in
-      let d : (i * 8 + k) / 8 ≡ i = omega arith in
-      let r : (i * 8 + k) % 8 ≡ k = omega arith in
-      getD-tab 256 (ruleEntry number) (i * 8 + k) 0 (omega arith) ∙ rw (d, r) at (rule-in number (i * 8 + k) (omega arith) (omega arith))
+  rule-at i k h l = rule-made _ _ _ _ _ _ _ _ i k (omega (arith, classes-most number)) (omega arith) h l
 
   -- the band of column k
   pub lower-at : (i k : ℕ) → k < 5 → lowerAt (readyScheme number base) i k ≡ 0
   unfolding readyScheme
-  lower-at i k l = getD-tab 8 (λ j. 0) k 0 (omega arith)
+  lower-at i k l = lower-made _ _ _ _ _ _ _ _ i k (omega arith) l
 
   pub upper-at : (i k : ℕ) → k < 5 → upperAt (readyScheme number base) i k ≡ ONE
   unfolding readyScheme
-  upper-at i k l = getD-tab 8 (λ j. cond (ltb j 5) ONE 0) k 0 (omega arith) ∙ rw (lt-ltb k 5 l)
+  upper-at i k l = upper-made _ _ _ _ _ _ _ _ i k (omega arith) l
 
   -- the premium of class i + 1
   pub premium-at : (i : ℕ) → i < classesOf number → premiumAt (readyScheme number base) i ≡ premiumOf number base i
   unfolding readyScheme
-  premium-at i h =
-      let m = classes-most number in
-      getD-tab 32 (premiumEntry number base) i 0 (omega arith) ∙ premium-in number base i h
+  premium-at i h = premium-made _ _ _ _ _ _ _ _ i (omega (arith, classes-most number)) h
 
   size-fits : SizeFits (readyScheme number base)
-  unfolding readyScheme
+  unfolding readyScheme schemeOf
   size-fits =
       record {
         someClass = omega (arith, classes-least number);
@@ -60,15 +50,15 @@ module _ (number base : ℕ) where
       }
 
   start-fits : StartFits (readyScheme number base)
-  unfolding readyScheme
+  unfolding readyScheme schemeOf
   start-fits = record { positive = omega arith; within = omega (arith, classes-least number) }
 
   horizon-fits : HorizonFits (readyScheme number base)
-  unfolding readyScheme
+  unfolding readyScheme schemeOf
   horizon-fits = record { within = omega arith }
 
   rules-fit : RulesFit (readyScheme number base)
-  unfolding readyScheme
+  unfolding readyScheme schemeOf
   rules-fit =
       record {
         positive = λ i k h l. rw (rule-at i k h l) (omega arith);
@@ -76,7 +66,7 @@ module _ (number base : ℕ) where
       }
 
   bands-fit : BandsFit (readyScheme number base)
-  unfolding readyScheme
+  unfolding readyScheme schemeOf
   bands-fit =
       record {
         ordered = λ i k h l. rw (lower-at i k l) (omega arith);
@@ -84,11 +74,11 @@ module _ (number base : ℕ) where
       }
 
   sums-fit : SumsFit (readyScheme number base)
-  unfolding readyScheme sumTo tab
+  unfolding readyScheme schemeOf upTo sumTo tab
   sums-fit = record { lowers = λ i h. omega arith; uppers = λ i h. omega arith }
 
   premiums-fit : base ≤ 2500000 → PremiumsFit (readyScheme number base)
-  unfolding readyScheme
+  unfolding readyScheme schemeOf
   premiums-fit small = record { within = λ i h. rw (premium-at i h) (omega (arith, product-most number base i small)) }
 
   -- "A scheme is accepted exactly when this list holds": it holds of every ready scheme
@@ -113,17 +103,11 @@ module _ (number base : ℕ) where
   pub ready-cause : Offered number base → causeOf (readyScheme number base) ≡ 0
   ready-cause o = cause-accepted (readyScheme number base) (ready-accepted o)
 
-  -- a ready scheme as the scheme of its values
-  ready-made : readyScheme number base
-      ≡ schemeOf (classesOf number) 5 10 40 (λ i k. movedClass (classesOf number) (factorOf number) (i + 1) k) (λ k. 0) (λ k. ONE) (premiumOf number base)
-  unfolding readyScheme ruleEntry premiumEntry schemeOf upTo tab
-  ready-made = refl
-
   -- "every operation that makes a scheme sets them to 0": also where the call is declined
   pub ready-cleared : cleared (readyAnswer number base .scheme) ≡ readyAnswer number base .scheme
-  unfolding readyAnswer
+  unfolding readyAnswer readyScheme
   ready-cleared = by (eqb (readyCause number base) 0)
     where
       by : (offered : Bool) → cleared (cond offered (readyScheme number base) noScheme) ≡ cond offered (readyScheme number base) noScheme
-      by true = ap cleared ready-made ∙ made-cleared _ _ _ _ _ _ _ _ ∙ sym ready-made
+      by true = made-cleared _ _ _ _ _ _ _ _
       by false = none-cleared

@@ -3,7 +3,6 @@ ghost use mathlib.Core.Path.{_≡_};
 ghost use Rattle.record_spec.specs.Read.{readCause, declinedWith, readAnswer};
 ghost use Rattle.record_spec.specs.Layout.{version1, lengthOf};
 pub use record_spec::ReadAnswer;
-use scheme::Scheme;
 
 mod reading;
 
@@ -18,16 +17,7 @@ pub const LENGTH_OUT: u8 = 4;
 fn declined(number: u8) -> ReadAnswer
     ensures { λ r. ⌜ r ≡ declinedWith number ⌝ }
 {
-    let scheme = Scheme {
-        classes: 0,
-        columns: 0,
-        start: 0,
-        horizon: 0,
-        rules: [0; 256],
-        lowers: [0; 8],
-        uppers: [0; 8],
-        premiums: [0; 32],
-    };
+    let scheme = scheme::no_scheme();
     ReadAnswer { number, scheme }
 }
 
@@ -64,5 +54,5 @@ pub fn length_of(classes: u8, columns: u8) -> usize
 {
     let s = classes as usize;
     let m = columns as usize;
-    7 + s * m + 8 * m + 4 * s
+    record_spec::HEADER + s * m + record_spec::BAND_WIDTH * m + record_spec::NUMBER_WIDTH * s
 }

@@ -1,3 +1,2 @@
--- The lemmas by which the band reader is proved; crate record_spec has the definitions.
-pub mod RuleRowLaws
+-- The lemmas by which rule rows, bands and the band reader are proved; crate record_spec has the definitions.
 pub mod Laws

@@ -1,16 +1,37 @@
-// Parts of a record: the band of a column, the reader that hands the bands out, and the rule row of a class.
-pub use record_spec::Band;
+// The parts of a record: the rule row of a class, the band of a column, and the band reader, which hands the bands out in order.
 ghost use mathlib.Core.Path.{_≡_};
-ghost use Prim.Native.Nat.{_<_};
 ghost use Rattle.record_spec.specs.Read.{readCause};
+ghost use Rattle.record_spec.specs.RuleRow.{ruleRowCause, ruleRow};
 ghost use Rattle.record_spec.specs.Reader.{stored, handedOut, bandAt, BandAnswered, afterAt, openPart};
-ghost use Rattle.record_spec.specs.RuleRow.{rowCause, ruleRow};
+use record_spec::BAND_WIDTH;
+pub use record_spec::Band;
+use record_spec::HEADER;
+use record_spec::NUMBER_WIDTH;
 
-// a byte as a count
-fn count(x: u8) -> usize
-    ensures { λ r. ⌜ (r ≡ x) × (r < 256) ⌝ }
+// the first cause of a rule row, or 0
+fn rule_row_cause(bytes: &[u8], class: u64) -> u8
+    ensures { λ r. ⌜ r ≡ ruleRowCause (now (bytes .entry)) class ⌝ }
 {
-    x as usize
+    let number = record::cause(bytes);
+    if number != 0 {
+        return number;
+    }
+    if scheme::class_out(bytes[3], class) {
+        return scheme::CLASS_OUT;
+    }
+    0
+}
+
+// The rule row of a class: the part of the record that holds it, or an empty part for every cause.
+pub fn rule_row(bytes: &[u8], class: u64) -> &[u8]
+    ensures { λ r. ⌜ now r ≡ ruleRow (now (bytes .entry)) class ⌝ }
+{
+    if rule_row_cause(bytes, class) != 0 {
+        return &bytes[0..0];
+    }
+    let columns = bytes[4] as usize;
+    let start = HEADER + ((class - 1) as usize) * columns;
+    &bytes[start..start + columns]
 }
 
 // A reader: the lent record, and the column whose band comes next.
@@ -32,7 +53,7 @@ fn stored(bytes: &[u8], column: usize) -> bool
     if record::cause(bytes) != 0 {
         return false;
     }
-    let columns = count(bytes[4]);
+    let columns = bytes[4] as usize;
     column < columns
 }
 
@@ -54,11 +75,11 @@ pub fn band_at(bytes: &[u8], column: usize) -> Band
     if !stored(bytes, column) {
         return Band::NoMore;
     }
-    let classes = count(bytes[3]);
-    let columns = count(bytes[4]);
-    let place = 7 + classes * columns + column * 8;
-    let lower = big_endian::be4(bytes, place);
-    let upper = big_endian::be4(bytes, place + 4);
+    let classes = bytes[3] as usize;
+    let columns = bytes[4] as usize;
+    let place = HEADER + classes * columns + column * BAND_WIDTH;
+    let lower = big_endian::number_at(bytes, place, NUMBER_WIDTH);
+    let upper = big_endian::number_at(bytes, place + NUMBER_WIDTH, NUMBER_WIDTH);
     Band::Ends { lower, upper }
 }
 
@@ -81,7 +102,8 @@ fn after(bytes: &[u8], column: usize) -> usize
 
 // Opens a reader over any bytes, at column 0.
 pub fn open<'a>(bytes: &'a [u8]) -> Opened<'a>
-    ensures { λ r. ⌜ (r .number ≡ readCause (now (bytes .entry))) × (now (r .reader .bytes) ≡ openPart (now (bytes .entry))) × (readCause (now (bytes .entry)) ≡ 0 → r .reader .bytes ≡ bytes .entry) × (r .reader .at ≡ 0) ⌝ }
+    ensures { λ r. ⌜ (r .number ≡ readCause (now (bytes .entry))) × (now (r .reader .bytes) ≡ openPart (now (bytes .entry)))
+        × (readCause (now (bytes .entry)) ≡ 0 → r .reader .bytes ≡ bytes .entry) × (r .reader .at ≡ 0) ⌝ }
 {
     Opened {
         number: record::cause(bytes),
@@ -111,30 +133,4 @@ pub fn first_band(bytes: &[u8]) -> Band
     let opened = open(bytes);
     let mut reader = opened.reader;
     next(&mut reader)
-}
-
-// the first cause of a rule row, or 0
-fn row_cause(bytes: &[u8], class: u64) -> u8
-    ensures { λ r. ⌜ r ≡ rowCause (now (bytes .entry)) class ⌝ }
-{
-    let number = record::cause(bytes);
-    if number != 0 {
-        return number;
-    }
-    if scheme::class_out(bytes[3], class) {
-        return scheme::CLASS_OUT;
-    }
-    0
-}
-
-// The rule row of a class: the part of the record that holds it, or an empty part for every cause.
-pub fn rule_row(bytes: &[u8], class: u64) -> &[u8]
-    ensures { λ r. ⌜ now r ≡ ruleRow (now (bytes .entry)) class ⌝ }
-{
-    if row_cause(bytes, class) != 0 {
-        return &bytes[0..0];
-    }
-    let columns = count(bytes[4]);
-    let start = 7 + ((class - 1) as usize) * columns;
-    &bytes[start..start + columns]
 }

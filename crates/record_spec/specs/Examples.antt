@@ -16,7 +16,7 @@ use Rattle.big_endian_spec.specs.Numbers.{beAt}
 use Rattle.record_spec.specs.Joined.{joined}
 use Rattle.record_spec.specs.Layout.{version1, lengthOf, schemeIn}
 use Rattle.record_spec.specs.Read.{frameCause, readCause, readAnswer}
-use Rattle.record_spec.specs.RuleRow.{rowCause, ruleRow}
+use Rattle.record_spec.specs.RuleRow.{ruleRowCause, ruleRow}
 use Rattle.record_spec.specs.Reader.{bandAt, bandNumber, bandEnds, openPart, answers, storedBands, handedOut, endsOf}
 use Rattle.record_spec.specs.Bytes.{headerBytes, bytesOf}
 use Rattle.record_spec.specs.Write.{writeNumber, writtenLength, writeAnswer, writeLeaves, Reread, WritePromise}
@@ -87,7 +87,7 @@ unfolding ruleRow frameCause beAt schemeOf upTo tab causeWhere sizeOut startOut 
 rows-a = (refl, refl, refl)
 
 -- the cause behind an empty part: "where it is accepted the cause was 11"
-pub row-causes : (rowCause exampleA 2 ≡ 0) × (rowCause exampleA 3 ≡ 11) × (rowCause (small 1 20 1 1 101) 3 ≡ 6)
+pub row-causes : (ruleRowCause exampleA 2 ≡ 0) × (ruleRowCause exampleA 3 ≡ 11) × (ruleRowCause (small 1 20 1 1 101) 3 ≡ 6)
 unfolding frameCause beAt schemeOf upTo tab causeWhere sizeOut startOut horizonOut ruleOut bandOut sumOut premiumOut anyBelow sumTo
 row-causes = (refl, refl, refl)
 

@@ -4,11 +4,11 @@ use mathlib.Core.Path.{_≡_}
 use mathlib.Core.List.{List}
 use lib.ListN.{length, getD}
 use Rattle.big_endian_spec.specs.Numbers.{beAt}
-use Rattle.record_spec.specs.Layout.{version1, lengthOf, classesIn, columnsIn}
+use Rattle.record_spec.specs.Layout.{HEADER, version1, lengthOf, classesIn, columnsIn}
 
 pub record Framed (bytes : List ℕ) : Type 0 where
   pub version : getD bytes 0 0 ≡ 1
-  pub header : 7 ≤ length bytes
+  pub header : HEADER ≤ length bytes
   pub field : beAt 2 bytes 1 ≡ length bytes
   pub someClass : 1 ≤ classesIn bytes
   pub classes : classesIn bytes ≤ 32

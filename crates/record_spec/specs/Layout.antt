@@ -15,9 +15,13 @@ pub record Layout : Type 0 where
   -- how many bytes a premium has
   pub width : ℕ
 
--- "Byte 0: version, 1.", a header of 7 bytes, "premiums of 4 bytes"
+-- the length of the header, bytes 0 to 6
+abbrev pub HEADER : ℕ
+HEADER = 7
+
+-- "Byte 0: version, 1.", the header, "premiums of 4 bytes"
 abbrev pub version1 : Layout
-version1 = record { version = 1; header = 7; width = 4 }
+version1 = record { version = 1; header = HEADER; width = 4 }
 
 -- "Length = 7 + s × m + 8 × m + 4 × s"
 abbrev pub lengthOf : Layout → (s m : ℕ) → ℕ

@@ -4,11 +4,11 @@ use mathlib.Core.Bool.{cond, not, _||_}
 use mathlib.Core.List.{List}
 use lib.Dec.{eqb, ltb}
 use lib.ListN.{length, getD}
-use Rattle.scheme.specs.Cause.{outside, causeOf, orElse}
+use Rattle.scheme.specs.Cause.{sizesCause, causeOf, orElse}
 use Rattle.record_spec.specs.declared.ReadAnswer.{ReadAnswer}
 use Rattle.big_endian_spec.specs.Numbers.{beAt}
 use Rattle.scheme.specs.Stored.{noScheme}
-use Rattle.record_spec.specs.Layout.{version1, lengthOf, classesIn, columnsIn, schemeIn}
+use Rattle.record_spec.specs.Layout.{HEADER, version1, lengthOf, classesIn, columnsIn, schemeIn}
 
 -- cause 1: "no byte, or byte 0 is not 1"
 abbrev pub versionCause : List ℕ → ℕ
@@ -16,21 +16,17 @@ versionCause bytes = cond (eqb (length bytes) 0 || not (eqb (getD bytes 0 0) 1))
 
 -- cause 2: "under 7 bytes, or length field differs from bytes given"
 abbrev pub fieldCause : List ℕ → ℕ
-fieldCause bytes = cond (ltb (length bytes) 7 || not (eqb (beAt 2 bytes 1) (length bytes))) 2 0
-
--- cause 3: "s or m out of range"
-abbrev pub sizeCause : (s m : ℕ) → ℕ
-sizeCause s m = cond (outside 32 s || outside 8 m) 3 0
+fieldCause bytes = cond (ltb (length bytes) HEADER || not (eqb (beAt 2 bytes 1) (length bytes))) 2 0
 
 -- cause 4: "length differs from the formula"
 abbrev pub lengthCause : (length s m : ℕ) → ℕ
 lengthCause length s m = cond (not (eqb length (lengthOf version1 s m))) 4 0
 
--- the first of the causes 1 to 4, or 0
+-- the first of the causes 1 to 4, or 0; cause 3 is that of s and m
 unfoldable pub frameCause : List ℕ → ℕ
 frameCause bytes =
     orElse (orElse (versionCause bytes) (fieldCause bytes))
-    (orElse (sizeCause (classesIn bytes) (columnsIn bytes)) (lengthCause (length bytes) (classesIn bytes) (columnsIn bytes)))
+    (orElse (sizesCause (classesIn bytes) (columnsIn bytes)) (lengthCause (length bytes) (classesIn bytes) (columnsIn bytes)))
 
 -- causes 1 to 4 by the bytes, then 5 to 10 by the scheme in them: "Tests run in number order; the first that applies is returned."
 abbrev pub readCause : List ℕ → ℕ

@@ -1,6 +1,15 @@
 // What reading a record, writing one and the band reader answer. The record's layout, and all that is read from it and written by it, are defined in specs/.
 use scheme::Scheme;
 
+// The header's length: the rules start there.
+pub const HEADER: usize = 7;
+
+// How many bytes a band's end has, and a premium.
+pub const NUMBER_WIDTH: usize = 4;
+
+// How many bytes a band has, lower and upper end.
+pub const BAND_WIDTH: usize = 8;
+
 // What reading a record answers: number 0 and the scheme, or the cause and a scheme of 0.
 pub struct ReadAnswer {
     pub number: u8,

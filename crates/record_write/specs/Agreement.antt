@@ -21,7 +21,7 @@ use Rattle.scheme.specs.Laws.Values.{cause-same, cleared-values}
 use Rattle.big_endian_spec.specs.Numbers.{Bytes, beAt, beBytes}
 use Rattle.scheme.specs.Stored.{schemeOf, cleared}
 use Rattle.record_spec.specs.declared.WriteAnswer.{WriteAnswer}
-use Rattle.record_spec.specs.Layout.{version1, lengthOf, rowPlace, bandPlace, premiumPlace, classesIn, columnsIn, schemeIn}
+use Rattle.record_spec.specs.Layout.{HEADER, version1, lengthOf, rowPlace, bandPlace, premiumPlace, classesIn, columnsIn, schemeIn}
 use Rattle.record_spec.specs.Bytes.{headerBytes, headerOf, rulesOf, bandsOf, premiumsOf, bytesOf}
 use Rattle.record_spec.specs.Read.{frameCause, readCause, readAnswer}
 use Rattle.record_spec.specs.Write.{recordLength, writeCause, writeAnswer, writeLeaves, WritePromise}
@@ -35,7 +35,7 @@ use Rattle.record_write.specs.Laws.Write.{written, answer-number, answer
 use Rattle.record_write.specs.Laws.Body.{body-put, rule-read, lower-read, upper-read, premium-read}
 
 -- the seven bytes of the header, put after read
-header-put : (bytes : List ℕ) → Bytes bytes → Framed bytes → headerOf version1 (schemeIn version1 bytes) ≡ take 7 bytes
+header-put : (bytes : List ℕ) → Bytes bytes → Framed bytes → headerOf version1 (schemeIn version1 bytes) ≡ take HEADER bytes
 unfolding headerBytes schemeOf tab
 header-put bytes small f =
     let first : (1 ∷ []) ≡ take 1 bytes = ap (λ x. x ∷ []) (sym (f .version)) ∙ tab-part 1 0 bytes (omega (arith, f .header)) in
@@ -55,7 +55,7 @@ rewritten bytes small e =
     let split : headerOf version1 s ++ rulesOf s ++ bandsOf s ++ premiumsOf version1 s ≡ headerOf version1 s ++ (rulesOf s ++ bandsOf s ++ premiumsOf version1 s) = simp append-assoc in
     split
     ∙ ap₂ (λ a b. a ++ b) (header-put bytes small f) (body-put version1 bytes (classesIn bytes) (columnsIn bytes) small (f .classes) (f .columns) (f .whole))
-    ∙ take-append-drop 7 bytes
+    ∙ take-append-drop HEADER bytes
 
 -- the record of an accepted scheme holds the scheme, with 0 beyond s and m
 module _ (s : Scheme) (accepted : causeOf s ≡ 0) where

@@ -8,18 +8,21 @@ ghost use Rattle.scheme.specs.Tables.{tab};
 ghost use Rattle.scheme.specs.Accepted.{SizeFits};
 ghost use Rattle.big_endian_spec.specs.Numbers.{beBytes};
 ghost use Rattle.record_spec.specs.Joined.{joined};
-ghost use Rattle.record_spec.specs.Layout.{version1};
+ghost use Rattle.record_spec.specs.Layout.{HEADER, version1};
 ghost use Rattle.record_spec.specs.Bytes.{headerBytes, bandBytes, bytesOf};
 ghost use Rattle.record_spec.specs.Write.{recordLength};
+use record_spec::BAND_WIDTH;
+use record_spec::HEADER;
+use record_spec::NUMBER_WIDTH;
 use scheme::Scheme;
 
 // puts the header
 fn header(out: &mut [u8], size: usize, s: u8, m: u8, start: u8, horizon: u8)
-    requires { ⌜ (7 ≤ length (now out)) × (size ≤ 455) ⌝ }
+    requires { ⌜ (HEADER ≤ length (now out)) × (size ≤ 455) ⌝ }
     ensures { λ _. ⌜ now (out .exit) ≡ sets (now (out .entry)) 0 (headerBytes 1 size s m start horizon) ⌝ }
 {
     out[0] = 1;
-    big_endian::put2(out, 1, size as u32);
+    big_endian::put_number(out, 1, 2, size as u32);
     out[3] = s;
     out[4] = m;
     out[5] = start;
@@ -36,7 +39,7 @@ fn rules(out: &mut [u8], from: usize, rules: &[u8; 256], s: usize, m: usize)
     let mut to = from;
     while i < s {
         big_endian::copy(rules, at, out, to, m);
-        at += 8;
+        at += scheme::RULE_STRIDE;
         to += m;
         i += 1;
     }
@@ -47,8 +50,8 @@ fn put_band(out: &mut [u8], at: usize, lower: u32, upper: u32)
     requires { ⌜ at + 8 ≤ length (now out) ⌝ }
     ensures { λ _. ⌜ now (out .exit) ≡ sets (now (out .entry)) at (bandBytes lower upper) ⌝ }
 {
-    big_endian::put4(out, at, lower);
-    big_endian::put4(out, at + 4, upper);
+    big_endian::put_number(out, at, NUMBER_WIDTH, lower);
+    big_endian::put_number(out, at + NUMBER_WIDTH, NUMBER_WIDTH, upper);
 }
 
 // puts m bands, lower and upper, from place `from` on
@@ -60,7 +63,7 @@ fn bands(out: &mut [u8], from: usize, lowers: &[u32; 8], uppers: &[u32; 8], m: u
     let mut to = from;
     while k < m {
         put_band(out, to, lowers[k], uppers[k]);
-        to += 8;
+        to += BAND_WIDTH;
         k += 1;
     }
 }
@@ -73,8 +76,8 @@ fn premiums(out: &mut [u8], from: usize, premiums: &[u32; 32], s: usize)
     let mut j: usize = 0;
     let mut to = from;
     while j < s {
-        big_endian::put4(out, to, premiums[j]);
-        to += 4;
+        big_endian::put_number(out, to, NUMBER_WIDTH, premiums[j]);
+        to += NUMBER_WIDTH;
         j += 1;
     }
 }
@@ -95,11 +98,11 @@ pub fn whole(scheme: Scheme, out: &mut [u8], size: usize)
         scheme.horizon,
     );
     let rows = scheme.rules;
-    rules(out, 7, &rows, s, m);
+    rules(out, HEADER, &rows, s, m);
     let lowers = scheme.lowers;
     let uppers = scheme.uppers;
-    let after = 7 + s * m;
+    let after = HEADER + s * m;
     bands(out, after, &lowers, &uppers, m);
     let money = scheme.premiums;
-    premiums(out, after + m * 8, &money, s);
+    premiums(out, after + m * BAND_WIDTH, &money, s);
 }

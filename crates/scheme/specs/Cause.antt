@@ -12,9 +12,17 @@ use Rattle.scheme.specs.Access.{cellCount, ruleAt, lowerAt, upperAt, pre
 abbrev pub outside : ℕ → ℕ → Bool
 outside max x = eqb x 0 || ltb max x
 
--- cause 3: s or m out of range
+-- s or m out of range
+abbrev pub sizesOut : (s m : ℕ) → Bool
+sizesOut s m = outside 32 s || outside 8 m
+
+-- cause 3 of s classes and m columns
+abbrev pub sizesCause : (s m : ℕ) → ℕ
+sizesCause s m = cond (sizesOut s m) 3 0
+
+-- cause 3: those of the scheme
 unfoldable pub sizeOut : Scheme → Bool
-sizeOut s = outside 32 (s .classes) || outside 8 (s .columns)
+sizeOut s = sizesOut (s .classes) (s .columns)
 
 -- cause 5: start 0 or above s
 unfoldable pub startOut : Scheme → Bool

@@ -5,12 +5,12 @@ use lib.Dec.{ltb}
 use Rattle.setchain.specs.Sums.{sumTo}
 use Rattle.setchain.specs.Rows.{ONE}
 use Rattle.scheme.specs.Tables.{anyBelow}
-use Rattle.scheme.specs.Cause.{outside, bandTest}
+use Rattle.scheme.specs.Cause.{outside, sizesOut, bandTest}
 
 -- the first of causes 3, 5 and 6, or 0
 abbrev pub formCause : ℕ → ℕ → ℕ → ℕ → ℕ
 formCause classes columns start horizon =
-    cond (outside 32 classes || outside 8 columns) 3 (cond (outside classes start) 5 (cond (ltb 100 horizon) 6 0))
+    cond (sizesOut classes columns) 3 (cond (outside classes start) 5 (cond (ltb 100 horizon) 6 0))
 
 -- the first of causes 8 and 9 for one list of bands, or 0
 abbrev pub bandCause : ℕ → (ℕ → ℕ) → (ℕ → ℕ) → ℕ

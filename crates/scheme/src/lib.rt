@@ -1,6 +1,8 @@
 // The scheme of document 01, its limits and its refusal numbers.
 ghost use mathlib.Core.Path.{_≡_};
-ghost use Rattle.scheme.specs.Cause.{outside, orElse, sliceCause, slicesCause};
+ghost use Prim.Native.Nat.{_≤_};
+ghost use Rattle.scheme.specs.Cause.{outside, sizesCause, orElse, sliceCause, slicesCause};
+ghost use Rattle.scheme.specs.Stored.{noScheme};
 
 // The limits of document 01, "Units and the scheme"; ONE is setchain's.
 pub const MOST_CLASSES: u8 = 32;
@@ -10,6 +12,9 @@ pub const MOST_COLUMNS: u8 = 8;
 pub const MOST_YEARS: u8 = 100;
 
 pub const MOST_PREMIUM: u32 = 10_000_000;
+
+// How far the rules of a class stand after those of the class before it.
+pub const RULE_STRIDE: usize = 8;
 
 // ONE as a band's end.
 pub const MOST_BAND: u32 = 1_000_000_000;
@@ -60,6 +65,49 @@ pub struct RowAnswer {
     pub number: u8,
     pub lower: [u64; 32],
     pub upper: [u64; 32],
+}
+
+// A scheme all 0, as it stands beside a refusal's number.
+pub fn no_scheme() -> Scheme
+    ensures { λ r. ⌜ r ≡ noScheme ⌝ }
+{
+    Scheme {
+        classes: 0,
+        columns: 0,
+        start: 0,
+        horizon: 0,
+        rules: [0; 256],
+        lowers: [0; 8],
+        uppers: [0; 8],
+        premiums: [0; 32],
+    }
+}
+
+// A band's end or a premium in 64 bits.
+pub fn wide(x: u32) -> u64
+    ensures { λ r. ⌜ (r ≡ x) × (r ≤ 4294967295) ⌝ }
+{
+    x as u64
+}
+
+// Whether x is not one of 1 to max.
+pub fn outside(x: u8, max: u8) -> bool
+    ensures { λ r. ⌜ r ≡ outside max x ⌝ }
+{
+    x == 0 || max < x
+}
+
+// Cause 3 of s classes and m columns, or 0.
+pub fn sizes_cause(classes: u8, columns: u8) -> u8
+    ensures { λ r. ⌜ r ≡ sizesCause classes columns ⌝ }
+{
+    if outside(classes, MOST_CLASSES) {
+        return SIZE_OUT;
+    }
+    if outside(columns, MOST_COLUMNS) {
+        return SIZE_OUT;
+    }
+    0
 }
 
 // Whether a class is not one of 1 to s: cause 11.

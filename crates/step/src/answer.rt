@@ -95,7 +95,7 @@ fn answered(
 {
     let m = columns as usize;
     let n = classes as usize;
-    let from = (class - 1) as usize * 8;
+    let from = (class - 1) as usize * scheme::RULE_STRIDE;
     let to = from + m;
     let mut row = [0u64; 32];
     let figure = solve(

@@ -1,6 +1,7 @@
 -- `cause` meets its contract: the stages of `Laws.Cause`, in their order.
 use mathlib.Core.Path.{ap₂, _∙_}
 use Rattle.scheme.specs.Cause.{ruleOut, premiumOut, orElse}
+use Rattle.scheme.specs.Accepted.{SizeFits}
 use Rattle.scheme.specs.Laws.Cause.{size-fits, cause-form, cause-later}
 use Rattle.acceptance.proofs.cause.Statement.{statement}
 use Rattle.acceptance.proofs.cause.Tie as tie
@@ -11,14 +12,27 @@ form-cause-requires c κs = tt
 returns : tie.Need-returns
 returns c = cause-form _ _ _ (c .before .form-cause .ensures) (c .if1 .taken)
 
+-- a form without a cause fits
+fits : (c : tie.Else1) → SizeFits (c .before .before .args .scheme)
+fits c = size-fits _ _ (c .before .form-cause .ensures) (c .if1 .left)
+
 rule-cause-requires : tie.Need-rule-cause-requires
-rule-cause-requires c κs = let w = size-fits (c .before .before .before .before .before .before .before .args .scheme) _ (c .before .before .before .before .before .before .form-cause .ensures) (c .before .before .before .before .before .if1 .left) in (w .classes, w .columns)
+rule-cause-requires c κs =
+    let at-lowers = c .before .before .before in
+    let at-form = at-lowers .before .before in
+    (fits at-form .classes, fits at-form .columns)
 
 band-cause-requires : tie.Need-band-cause-requires
-band-cause-requires c κs = size-fits (c .before .before .before .before .before .before .before .before .before .before .args .scheme) _ (c .before .before .before .before .before .before .before .before .before .form-cause .ensures) (c .before .before .before .before .before .before .before .before .if1 .left) .columns
+band-cause-requires c κs =
+    let at-rule-cause = c .before .before in
+    let at-lowers = at-rule-cause .before .before .before .before in
+    fits (at-lowers .before .before) .columns
 
 premium-cause-requires : tie.Need-premium-cause-requires
-premium-cause-requires c κs = size-fits (c .before .before .before .before .before .before .before .before .before .before .before .before .args .scheme) _ (c .before .before .before .before .before .before .before .before .before .before .before .form-cause .ensures) (c .before .before .before .before .before .before .before .before .before .before .if1 .left) .classes
+premium-cause-requires c κs =
+    let at-rule-cause = c .before .before .before .before in
+    let at-lowers = at-rule-cause .before .before .before .before in
+    fits (at-lowers .before .before) .classes
 
 or-else-requires : tie.Need-or-else-requires
 or-else-requires c κs = tt
@@ -29,10 +43,15 @@ or-else-requires-2 c κs = tt
 returns-2 : tie.Need-returns-2
 unfolding ruleOut premiumOut
 returns-2 c =
+    let at-premium-cause = c .before .before in
+    let at-band-cause = at-premium-cause .before .before in
+    let at-rule-cause = at-band-cause .before .before .before in
+    let at-lowers = at-rule-cause .before .before .before .before in
+    let at-form = at-lowers .before .before in
     c .or-else2 .ensures
-    ∙ ap₂ (λ a b. orElse a b) (c .before .before .before .before .before .before .before .rule-cause .ensures)
-    (c .before .or-else .ensures ∙ ap₂ (λ a b. orElse a b) (c .before .before .before .before .band-cause .ensures) (c .before .before .premium-cause .ensures))
-    ∙ cause-later (c .before .before .before .before .before .before .before .before .before .before .before .before .before .before .before .args .scheme) _ _ (c .before .before .before .before .before .before .before .before .before .before .before .before .before .before .form-cause .ensures) (c .before .before .before .before .before .before .before .before .before .before .before .before .before .if1 .left)
+    ∙ ap₂ (λ a b. orElse a b) (at-rule-cause .rule-cause .ensures)
+    (c .before .or-else .ensures ∙ ap₂ (λ a b. orElse a b) (at-band-cause .band-cause .ensures) (at-premium-cause .premium-cause .ensures))
+    ∙ cause-later (at-form .before .before .args .scheme) _ _ (at-form .before .form-cause .ensures) (at-form .if1 .left)
 
 pub cause-spec : {M : Type 1} → statement M
 cause-spec =

@@ -59,8 +59,10 @@ loop-less c = omega arith
 
 loop-again : tie.Need-loop-again Inv-loop μ-loop
 loop-again c =
-    let start = c .before .before .before .before .before .before .before .before .before .args in
-    let turn = c .before .before .loop in (
+    let at-loop = c .before .before in
+    let at-room = at-loop .before .before .before in
+    let start = at-room .before .before .before .before .args in
+    let turn = at-loop .loop in (
       omega arith,
       turn .inv .1,
       turn .inv .2,
@@ -73,7 +75,8 @@ same-length c = rw (c .before .loop .inv .3) (simp length-sets)
 returns-3 : tie.Need-returns-3 Inv-loop μ-loop
 returns-3 c =
     let turn = c .before .loop in
-    let end : turn .k ≡ c .before .before .before .before .before .before .before .before .args .n = omega arith in
+    let at-room = c .before .before .before .before in
+    let end : turn .k ≡ at-room .before .before .before .before .args .n = omega arith in
     rw end at (turn .inv .3) ∙ sym (part-held _ _ _ _ _ (turn .inv .1) (turn .inv .2))
 
 pub copy-spec : {M : Type 1} → statement M

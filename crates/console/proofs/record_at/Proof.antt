@@ -32,8 +32,8 @@ returns c =
     let at-holds = at-then .before in
     record-none _ _ (sym (at-holds .holds .ensures) ∙ not-true (at-holds .holds .result) (at-then .if1 .taken))
 
-be2-requires : tie.Need-be2-requires
-be2-requires c κs = search needs
+number-at-requires : tie.Need-number-at-requires
+number-at-requires c κs = search needs
 
 cast-length : tie.Need-cast-length
 cast-length c = search needs
@@ -55,8 +55,8 @@ front-requires c κs = search needs
 
 returns-2 : tie.Need-returns-2
 returns-2 c =
-    let at-be2 = c .before .before in
-    record-held _ _ (at-be2 .be2 .ensures) (c .front .ensures)
+    let at-number-at = c .before .before in
+    record-held _ _ (at-number-at .number-at .ensures) (c .front .ensures)
 
 pub record-at-spec : {M : Type 1} → statement M
 record-at-spec =
@@ -67,7 +67,7 @@ record-at-spec =
     part-result-start
     part-result-end
     returns
-    be2-requires
+    number-at-requires
     cast-length
     add-front
     sub-front

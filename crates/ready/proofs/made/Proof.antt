@@ -2,6 +2,7 @@
 -- Assumes nothing.
 use native.Mathlib.Omega.{arith}
 use Rattle.scheme.specs.Tables.{tab}
+use Rattle.scheme.specs.Stored.{upTo, schemeOf}
 use Rattle.ready_spec.specs.Ready.{readyScheme}
 use Rattle.ready_spec.specs.Laws.{classes-most}
 use borrow.Author.Needs.{needs}
@@ -21,7 +22,7 @@ cast-t6 : tie.Need-cast-t6
 cast-t6 c = omega (arith, classes-most (c .before .before .before .args .number))
 
 returns : tie.Need-returns
-unfolding readyScheme tab
+unfolding readyScheme schemeOf upTo tab
 returns c = rw (c .before .before .classes-of .ensures, c .before .rules .ensures, c .premiums .ensures)
 
 pub made-spec : {M : Type 1} → statement M

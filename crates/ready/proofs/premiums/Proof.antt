@@ -2,13 +2,14 @@
 -- Assumes nothing.
 use Prim.Native.Nat.{_-_, _≤_}
 use native.Mathlib.Omega.{arith}
-use Rattle.ready_spec.specs.Ready.{premiumEntry}
+use Rattle.scheme.specs.Stored.{upTo}
+use Rattle.ready_spec.specs.Scales.{classesOf, premiumOf}
 use Rattle.scheme.specs.Laws.Filled.{Filled, fill-none, fill-more, fill-all}
 use Rattle.ready.proofs.premiums.Statement.{statement}
 use Rattle.ready.proofs.premiums.Tie as tie
 
 abbrev Inv-loop : tie.InvT-loop
-Inv-loop number base out₀ i₀ out i = (i ≤ 32) × Filled 32 (premiumEntry number base) i out
+Inv-loop number base out₀ i₀ out i = (i ≤ 32) × Filled 32 (upTo (classesOf number) (premiumOf number base)) i out
 
 abbrev μ-loop : tie.MeasureT-loop
 μ-loop number base out₀ i₀ out i = 32 - i

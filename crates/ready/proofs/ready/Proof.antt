@@ -15,11 +15,13 @@ made-requires c κs = offered (c .before .before .args .number) _ (sym (c .befor
 returns : tie.Need-returns
 returns c = rw (c .made .ensures) (sym (answer-made _ _ (sym (c .before .before .cause .ensures) ∙ c .before .if1 .taken)))
 
-none-requires : tie.Need-none-requires
-none-requires c κs = search needs
+no-scheme-requires : tie.Need-no-scheme-requires
+no-scheme-requires c κs = search needs
 
 returns-2 : tie.Need-returns-2
-returns-2 c = rw (c .none .ensures, c .before .before .cause .ensures) (sym (answer-none _ _ (λ e. c .before .if1 .left (c .before .before .cause .ensures ∙ e))))
+returns-2 c =
+    let at-cause = c .before .before in
+    rw (c .no-scheme .ensures, at-cause .cause .ensures) (sym (answer-none _ _ (λ e. c .before .if1 .left (at-cause .cause .ensures ∙ e))))
 
 pub ready-spec : {M : Type 1} → statement M
-ready-spec = tie.close (tie.spec cause-requires made-requires returns none-requires returns-2)
+ready-spec = tie.close (tie.spec cause-requires made-requires returns no-scheme-requires returns-2)

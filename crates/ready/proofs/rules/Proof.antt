@@ -2,13 +2,15 @@
 -- Assumes nothing.
 use Prim.Native.Nat.{_-_, _≤_}
 use native.Mathlib.Omega.{arith}
-use Rattle.ready_spec.specs.Ready.{ruleEntry}
+use Rattle.scheme.specs.Stored.{rulesUpTo}
+use Rattle.ready_spec.specs.Scales.{classesOf}
+use Rattle.ready_spec.specs.Ready.{readyRule}
 use Rattle.scheme.specs.Laws.Filled.{Filled, fill-none, fill-more, fill-all}
 use Rattle.ready.proofs.rules.Statement.{statement}
 use Rattle.ready.proofs.rules.Tie as tie
 
 abbrev Inv-loop : tie.InvT-loop
-Inv-loop number out₀ place₀ out place = (place ≤ 256) × Filled 256 (ruleEntry number) place out
+Inv-loop number out₀ place₀ out place = (place ≤ 256) × Filled 256 (rulesUpTo (classesOf number) 5 (readyRule number)) place out
 
 abbrev μ-loop : tie.MeasureT-loop
 μ-loop number out₀ place₀ out place = 256 - place

@@ -15,7 +15,7 @@ declined-requires : tie.Need-declined-requires
 declined-requires c κs = search needs
 
 -- no cause in the frame: the scheme's cause is the answer's number
-next : (c : tie.After-cause) → c .cause .result ≡ readCause (c .before .before .before .before .before .args .bytes .now)
+next : (c : tie.After-cause) → let at-frame = c .before .before .before in c .cause .result ≡ readCause (at-frame .before .before .args .bytes .now)
 next c =
     scheme-next _ (sym (c .before .before .before .frame .ensures) ∙ c .before .before .if1 .left)
     (c .cause .ensures ∙ ap causeOf (c .before .parsed .ensures))

@@ -14,13 +14,13 @@ use Rattle.scheme.specs.Laws.Stored.{split, upTo-below, upTo-past}
 use Rattle.record.specs.Laws.Lists.{sets-below, sets-within, sets-past}
 
 -- an array of 0 has none of its entries filled
-pub fill-none : (n : ℕ) (f : ℕ → ℕ) → replicate n 0 ≡ tab n (upTo 0 f)
-fill-none n f =
+pub stored-none : (n : ℕ) (f : ℕ → ℕ) → replicate n 0 ≡ tab n (upTo 0 f)
+stored-none n f =
     as-tab 0 (replicate n 0) n (upTo 0 f) (length-replicate n 0) (λ k lt. getD-replicate n k 0 0 lt ∙ sym (upTo-past 0 f k (omega arith)))
 
 -- one more entry
-pub fill-more : (n k : ℕ) (f : ℕ → ℕ) (l : List ℕ) (x : ℕ) → k < n → l ≡ tab n (upTo k f) → x ≡ f k → set l k x ≡ tab n (upTo (k + 1) f)
-fill-more n k f l x lt filled e = as-tab 0 (set l k x) n (upTo (k + 1) f) (length-set l k x ∙ size) (λ j jn. entry j jn (ℕ-discrete j k))
+pub stored-more : (n k : ℕ) (f : ℕ → ℕ) (l : List ℕ) (x : ℕ) → k < n → l ≡ tab n (upTo k f) → x ≡ f k → set l k x ≡ tab n (upTo (k + 1) f)
+stored-more n k f l x lt filled e = as-tab 0 (set l k x) n (upTo (k + 1) f) (length-set l k x ∙ size) (λ j jn. entry j jn (ℕ-discrete j k))
   where
     size : length l ≡ n
     size = ap length filled ∙ length-tab n (upTo k f)

@@ -2,7 +2,7 @@
 use mathlib.Core.Path.{ap}
 use Prim.Native.Nat.{_+_}
 use native.Mathlib.Omega.{arith}
-use Rattle.record_parts.specs.Laws.{after-within}
+use Rattle.record_parts.specs.Laws.Reader.{after-within}
 use borrow.Author.Needs.{needs}
 use Rattle.record_parts.proofs.after.Statement.{statement}
 use Rattle.record_parts.proofs.after.Tie as tie

@@ -1,4 +1,6 @@
--- `first_band` meets its contract: a walk of its MIR, by hand. The reader that `open` answers is put into a local, which is lent to `next` for a lifetime ν that the walk makes within the slice's own, and is taken back once ν has ended. All that the proof knows of `open` and of `next` is that each meets its contract.
+-- `first_band` meets its contract: a walk of its MIR, by hand. The reader that `open` answers is put into a local, which is lent to `next` for a lifetime ν
+-- that the walk makes within the slice's own, and is taken back once ν has ended. All that the proof knows of `open` and of `next` is that each meets its
+-- contract.
 -- In a local MIR erases the lifetime of a struct's type, so the values are shown to have the types at `erased`: what a struct owns does not say the lifetime's name.
 use mathlib.Core.Path.{_≡_, refl, ap, _∙_}
 use Prim.Native.Nat.{ℕ}
@@ -17,7 +19,8 @@ use ghost.Atoms.{Atoms, sem}
 use contract.BorrowLft.{meet-⊑-right}
 use contract.Monad.{Fun, fact}
 use contract.Running.{givenOf, tables, tablesOf}
-use types.Kit.{Given, ‵, raw, _⊛_, given, ⋆, some, later, _$_, _∵_, !, qed, by, move, keep, drop, rewrite, use1, use2, use3, split, join, learn, pick, fsplit, fjoin, fpick, fpack, suffices, frame, await, done}
+use types.Kit.{Given, ‵, raw, _⊛_, given, ⋆, some, later, _$_, _∵_, !, qed, by, move, keep, drop}
+use types.Kit.{rewrite, use1, use2, use3, split, join, learn, pick, fsplit, fjoin, fpick, fpack, suffices, frame, await, done}
 use types.Part.{whole, sub, look-in}
 use types.Run.{look, init, forget, stop, fld, from, load, of-opd, addr, and-then, no-more, assigns, land, returns, enter, alloc1, alloc0, params1, pass1, pass0, free1, free0}
 use types.SemTy.{Body}
@@ -47,7 +50,7 @@ use denote.Triple.Clauses.{ensured, lasts}
 use denote.Exit.{yes}
 use Rattle.record_spec.specs.Read.{readCause}
 use Rattle.record_spec.specs.Reader.{bandAt, BandAnswered, afterAt, openPart}
-use Rattle.record_parts.specs.Laws.{told, part-answer}
+use Rattle.record_parts.specs.Laws.Reader.{told, part-answer}
 use Rattle.record_spec.specs.declared.Band.{Band}
 use Rattle.record_parts.specs.declared.Reader.{Reader}
 use Rattle.record_parts.specs.declared.Opened.{Opened}
@@ -59,13 +62,13 @@ use Rattle.record_parts.proofs.Opened as O
 use Rattle.record_parts.proofs.Opened.Laws as O′
 use Rattle.record_parts.proofs.open as opening
 use Rattle.record_parts.proofs.open.Symbol as opening-def
-use Rattle.record_parts.proofs.open.Symbol.{name as #bands·open}
+use Rattle.record_parts.proofs.open.Symbol.{name as #record-parts·open}
 use Rattle.record_parts.proofs.open.Met as opening-thm
 use Rattle.record_parts.proofs.next as next
 use Rattle.record_parts.proofs.next.Symbol as next-def
-use Rattle.record_parts.proofs.next.Symbol.{name as #bands·next}
+use Rattle.record_parts.proofs.next.Symbol.{name as #record-parts·next}
 use Rattle.record_parts.proofs.next.Met as next-thm
-use Rattle.record_parts.proofs.first_band.Key.{name as #bands·first-band}
+use Rattle.record_parts.proofs.first_band.Key.{name as #record-parts·first-band}
 use Rattle.record_parts.proofs.first_band as first
 use Rattle.record_parts.proofs.first_band.Statement as stated
 use Rattle.record_parts.proofs.first_band.Code as code
@@ -125,7 +128,9 @@ module _ {M : Type 1} (𝓤 : URA M) (H : Heap 𝓤) (A : Atoms 𝓤) (W : Given
   goes-open =
       qed W ((‵ (flft κ q) ⊛ ‵ ftrue) ∷ ‵ Own ∷ []) ∵
       move ! (1 ∷ []) $ use1 W (‵ Own ⊛ ‵ Own) (shr-slice-copy 𝓤 H A W (named 0) κ u8 .twice s (v ∷ [])) $ split ! $
-      nothing ! $ move ! (1 ∷ 0 ∷ []) $ fjoin ! $ move ! (2 ∷ 0 ∷ []) $ use2 W (raw (Opening 𝓤 H A at-mem run .pre to-open)) (qed W ((‵ (flft κ q) ⊛ ‵ ftrue) ∷ ‵ (owns (ShrSlice (named 0) κ u8 ∷ []) (s, tt) (v ∷ [], tt)) ∷ []) ∵ join ! $ frame ! $ done !) $ frame ! $ done !
+      nothing ! $ move ! (1 ∷ 0 ∷ []) $ fjoin ! $ move ! (2 ∷ 0 ∷ []) $
+      use2 W (raw (Opening 𝓤 H A at-mem run .pre to-open)) (qed W ((‵ (flft κ q) ⊛ ‵ ftrue) ∷ ‵ (owns (ShrSlice (named 0) κ u8 ∷ []) (s, tt) (v ∷ [], tt)) ∷ []) ∵
+      join ! $ frame ! $ done !) $ frame ! $ done !
 
   -- what is known of its answer
   abbrev Is-open : Opened → Type 0
@@ -145,7 +150,8 @@ module _ {M : Type 1} (𝓤 : URA M) (H : Heap 𝓤) (A : Atoms 𝓤) (W : Given
   lies-out : (g : Reader) (l : ℕ) → ent 𝓤 (sem 𝓤 H A (mem R .lies g l 0)) (sep 𝓤 (sem 𝓤 H A (fat fullShare (T′.mir erased) l 0 (T′.lowered g))) (sem 𝓤 H A (OwnR g)))
   unfolding partOf
   lies-out g l =
-      qed W (‵ (mem R .lies g l 0) ∷ []) ∵ fpick ! (λ vs. fsplit ! $ spelt ! R (Is R) (shows 𝓤 H A R) (LL.vals (T.the-type αᵉ) (T′.the-laws αᵉ)) (LL.tells (T.the-type αᵉ) (T′.the-laws αᵉ)) fullShare g vs l 0 $
+      qed W (‵ (mem R .lies g l 0) ∷ []) ∵ fpick ! (λ vs. fsplit ! $
+      spelt ! R (Is R) (shows 𝓤 H A R) (LL.vals (T.the-type αᵉ) (T′.the-laws αᵉ)) (LL.tells (T.the-type αᵉ) (T′.the-laws αᵉ)) fullShare g vs l 0 $
       use1 W (‵ (fat fullShare (T′.mir erased) l 0 (T′.lowered g))) (W .laws .raw-at fullShare (T′.mir erased) l 0 (T′.lowered g)) $ done !)
 
   -- the call of `next`, at the reader g in the local l, lent for ν ∷ κ under the name δ
@@ -156,7 +162,8 @@ module _ {M : Type 1} (𝓤 : URA M) (H : Heap 𝓤) (A : Atoms 𝓤) (W : Given
   to-next ν l δ g = (((ν ∷ κ, (κ, tt)), (ql, (qr, tt)), (meet-⊑-right (ν ∷ []) κ, tt), (lent l δ g, tt), (vptr l 0 ∷ [], tt)), tt)
 
   goes-next : (ν l : ℕ) (δ : GName) (g : Reader)
-      → ent 𝓤 (⋆ 𝓤 H A (‵ (flft (ν ∷ []) fullShare) ∷ (‵ (flft κ q) ⊛ ‵ ftrue) ∷ ‵ (MutRef (named 0) (ν ∷ κ) R .own (lent l δ g) (vptr l 0 ∷ [])) ∷ [])) (sep 𝓤 (Next 𝓤 H A at-mem run .pre (to-next ν l δ g)) (Rest 𝓤 H A W ν ql))
+      → ent 𝓤 (⋆ 𝓤 H A (‵ (flft (ν ∷ []) fullShare) ∷ (‵ (flft κ q) ⊛ ‵ ftrue) ∷ ‵ (MutRef (named 0) (ν ∷ κ) R .own (lent l δ g) (vptr l 0 ∷ [])) ∷ []))
+      (sep 𝓤 (Next 𝓤 H A at-mem run .pre (to-next ν l δ g)) (Rest 𝓤 H A W ν ql))
   goes-next ν l δ g =
       qed W (‵ (flft (ν ∷ []) fullShare) ∷ (‵ (flft κ q) ⊛ ‵ ftrue) ∷ ‵ (MutRef (named 0) (ν ∷ κ) R .own (lent l δ g) (vptr l 0 ∷ [])) ∷ []) ∵
       move ! (1 ∷ []) $ split ! $ use1 W (‵ (flft κ ql) ⊛ ‵ (flft κ qr)) (W .lfts .lft-split κ q) $ split ! $
@@ -184,35 +191,45 @@ module _ {M : Type 1} (𝓤 : URA M) (H : Heap 𝓤) (A : Atoms 𝓤) (W : Given
   answers-first : (r : Opened) (t : Band) (g′ : Reader) → Is-open r → Is-next (r .reader) t g′ → BandAnswered (now s) 0 t
   answers-first r t g′ e e′ = told (now s) 0 (e′ .0 .answer ∙ ap (λ l. bandAt l (r .reader .at)) (e .1) ∙ ap (bandAt (openPart (now s))) (e .3) ∙ part-answer (now s) 0)
 
-  module _ (C : Calls 𝓤 H) (Λ : Loops 𝓤 H) (fm : FmC 𝓤 H (W .laws) C) (known-open : Triple 𝓤 (C #bands·open) (Opening 𝓤 H A at-mem run)) (known-next : Triple 𝓤 (C #bands·next) (Next 𝓤 H A at-mem run)) where
+  module _ (C : Calls 𝓤 H) (Λ : Loops 𝓤 H) (fm : FmC 𝓤 H (W .laws) C) (known-open : Triple 𝓤 (C #record-parts·open) (Opening 𝓤 H A at-mem run))
+      (known-next : Triple 𝓤 (C #record-parts·next) (Next 𝓤 H A at-mem run)) where
     walk : Is (ShrSlice (named 0) κ u8) s (v ∷ []) → ent 𝓤 (onEntry 𝓤 H A first.signature (κ, tt) (q, tt) (s, tt) (v ∷ [], tt)) (WpFn 𝓤 H C Λ code.function (v ∷ []) Post)
     walk p =
         qed W ((‵ (flft κ q) ⊛ ‵ ftrue) ∷ ‵ (owns (ShrSlice (named 0) κ u8 ∷ []) (s, tt) (v ∷ [], tt)) ∷ []) ∵ enter ! C Λ code.function (v ∷ []) _ $
-        alloc1 ! (λ l₀. alloc1 ! (λ l₁. alloc1 ! (λ l₂. alloc1 ! (λ l₃. alloc1 ! (λ l₄. alloc1 ! (λ l₅. alloc0 ! $ params1 ! $ pass1 ! (init ! 8 refl (shr-slice-lawful 𝓤 H A W (named 0) κ u8 .typed s (v ∷ []) p .0)) $ pass0 ! $
+        alloc1 ! (λ l₀. alloc1 ! (λ l₁. alloc1 ! (λ l₂. alloc1 ! (λ l₃. alloc1 ! (λ l₄. alloc1 ! (λ l₅. alloc0 ! $ params1 ! $
+        pass1 ! (init ! 8 refl (shr-slice-lawful 𝓤 H A W (named 0) κ u8 .typed s (v ∷ []) p .0)) $ pass0 ! $
         move ! (13 ∷ []) $ fsplit ! $ move ! (1 ∷ []) $ drop ! $ move ! (13 ∷ 0 ∷ []) $
         use2 W (raw (Opening 𝓤 H A at-mem run .pre to-open) ⊛ ‵ Own) goes-open $ split ! $
         calls-at ! fm (Opening 𝓤 H A at-mem run) known-open to-open (and-then ! (load ! (from ! (stop !)) (look ! 10 refl)) (no-more !)) (λ u.
-        use1 W (later (some (λ (r : Opened). ((‵ (flft κ q) ⊛ ‵ ftrue) ⊛ ‵ (OwnO r u)) ⊛ raw (ensured 𝓤 H A opening.ended (opening.clauses 𝓤 H A at-mem run) (κ, tt) (s, tt) tt r)))) (id⊢ 𝓤 _) $ await ! tt $ pick ! (λ r.
+        use1 W (later (some (λ (r : Opened). ((‵ (flft κ q) ⊛ ‵ ftrue) ⊛ ‵ (OwnO r u)) ⊛ raw
+        (ensured 𝓤 H A opening.ended (opening.clauses 𝓤 H A at-mem run) (κ, tt) (s, tt) tt r)))) (id⊢ 𝓤 _) $ await ! tt $ pick ! (λ r.
         split ! $ move ! (1 ∷ []) $ use1 W (raw (fact 𝓤 (Is-open r))) (open-said r) $ heard ! (Is-open r) (λ e. split ! $ move ! (1 ∷ []) $
         -- [what the answer owns; the token; what s owns; room for _5; …; _4; …; _3; …; _2; …; _1; …; _0; …]
         peeks ! (O.the-row α) (Is (O.the-row α)) (shows 𝓤 H A (O.the-row α)) r (u ∷ []) (λ is.
         land ! (from ! (stop !)) (init ! 9 refl (LL.lawful (O.the-type αᵉ) (O′.the-laws αᵉ) 𝓤 H A W .typed r _ is .0)) $
-        rewrite ! 9 (λ (y : Val). ‵ (fat fullShare (O′.mir erased) l₂ 0 y)) (ap only (LL.tells (O.the-type α) (O′.the-laws α) r _ is)) refl $ rewrite ! 0 (λ (y : Val). ‵ (OwnO r y)) (ap only (LL.tells (O.the-type α) (O′.the-laws α) r _ is)) refl $
-        assigns ! (of-opd ! (load ! (from ! (fld ! refl (stop !))) (look-in ! 9 (sub ! 1 refl (whole !))))) (from ! (stop !)) (init ! 5 refl (LL.lawful (T.the-type αᵉ) (T′.the-laws αᵉ) 𝓤 H A W .typed (r .reader) _ (is-reader r u is) .0)) $
-        assigns ! (of-opd ! (load ! (from ! (stop !)) (look ! 5 refl))) (from ! (stop !)) (init ! 7 refl (LL.lawful (T.the-type αᵉ) (T′.the-laws αᵉ) 𝓤 H A W .typed (r .reader) _ (is-reader r u is) .0)) $
+        rewrite ! 9 (λ (y : Val). ‵ (fat fullShare (O′.mir erased) l₂ 0 y)) (ap only (LL.tells (O.the-type α) (O′.the-laws α) r _ is)) refl $
+        rewrite ! 0 (λ (y : Val). ‵ (OwnO r y)) (ap only (LL.tells (O.the-type α) (O′.the-laws α) r _ is)) refl $
+        assigns ! (of-opd ! (load ! (from ! (fld ! refl (stop !))) (look-in ! 9 (sub ! 1 refl (whole !))))) (from ! (stop !))
+        (init ! 5 refl (LL.lawful (T.the-type αᵉ) (T′.the-laws αᵉ) 𝓤 H A W .typed (r .reader) _ (is-reader r u is) .0)) $
+        assigns ! (of-opd ! (load ! (from ! (stop !)) (look ! 5 refl))) (from ! (stop !))
+        (init ! 7 refl (LL.lawful (T.the-type αᵉ) (T′.the-laws αᵉ) 𝓤 H A W .typed (r .reader) _ (is-reader r u is) .0)) $
         assigns ! (addr ! (from ! (stop !))) (from ! (stop !)) (init ! 3 refl (tt, tt)) $
         -- the reader is taken out of the answer, and the local that holds it is lent for a new lifetime within the slice's
-        use1 W (given (O′.lowered r ∷ [] ≡ O′.lowered r ∷ []) (‵ (all-own (O.the-type α .parts) (O′.the-laws α) (r .number, (r .reader, tt))))) (own-open 𝓤 H A W (O.the-type α) (O′.the-laws α) (r .number, (r .reader, tt)) (O′.lowered r)) $ learn ! (λ _.
+        use1 W (given (O′.lowered r ∷ [] ≡ O′.lowered r ∷ []) (‵ (all-own (O.the-type α .parts) (O′.the-laws α) (r .number, (r .reader, tt)))))
+        (own-open 𝓤 H A W (O.the-type α) (O′.the-laws α) (r .number, (r .reader, tt)) (O′.lowered r)) $ learn ! (λ _.
         fsplit ! $ drop ! $ fsplit ! $
         -- [what the reader owns; …; the token; what s owns; _5; …; _4; …; _3; …; _2; …; _1; …; room for _0; …]
         move ! (8 ∷ 0 ∷ []) $ use2 W (‵ (mem R .lies (r .reader) l₃ 0)) (lies-in (r .reader) l₃) $ lft-new ! tt (λ ν. move ! (1 ∷ []) $
-        use1 W (later (some (λ (δ : GName). ‵ (MutRef (named 0) (ν ∷ κ) R .own (lent l₃ δ (r .reader)) (vptr l₃ 0 ∷ [])) ⊛ ‵ (flent (ν ∷ κ) (Body (mem R) l₃ 0 δ))))) (lends-ref 𝓤 H A W R (named 0) (ν ∷ κ) (r .reader) l₃ 0) $ await ! tt $ pick ! (λ δ. split ! $
+        use1 W (later (some (λ (δ : GName). ‵ (MutRef (named 0) (ν ∷ κ) R .own (lent l₃ δ (r .reader)) (vptr l₃ 0 ∷ [])) ⊛ ‵
+        (flent (ν ∷ κ) (Body (mem R) l₃ 0 δ))))) (lends-ref 𝓤 H A W R (named 0) (ν ∷ κ) (r .reader) l₃ 0) $ await ! tt $ pick ! (λ δ. split ! $
         -- [the reference; the lender's part; ν's token; …; the token; what s owns; _5; …; _4; …; _3's end; _2; …; _1; …; room for _0; …]
         move ! (2 ∷ 4 ∷ 0 ∷ []) $ use3 W (raw (Next 𝓤 H A at-mem run .pre (to-next ν l₃ δ (r .reader))) ⊛ raw (Rest 𝓤 H A W ν ql)) (goes-next ν l₃ δ (r .reader)) $ split ! $
         calls-at ! fm (Next 𝓤 H A at-mem run) known-next (to-next ν l₃ δ (r .reader)) (and-then ! (load ! (from ! (stop !)) (look ! 5 refl)) (no-more !)) (λ u′.
-        use1 W (later (some (λ (t : Band). ((‵ (flft (ν ∷ κ) ql) ⊛ ‵ (flft κ qr) ⊛ ‵ ftrue) ⊛ ‵ (B.the-row .own t (u′ ∷ []))) ⊛ raw (ensured 𝓤 H A next.ended (next.clauses 𝓤 H A at-mem run) (ν ∷ κ, (κ, tt)) (lent l₃ δ (r .reader), tt) tt t)))) (id⊢ 𝓤 _) $ await ! tt $ pick ! (λ t.
+        use1 W (later (some (λ (t : Band). ((‵ (flft (ν ∷ κ) ql) ⊛ ‵ (flft κ qr) ⊛ ‵ ftrue) ⊛ ‵ (B.the-row .own t (u′ ∷ []))) ⊛ raw
+        (ensured 𝓤 H A next.ended (next.clauses 𝓤 H A at-mem run) (ν ∷ κ, (κ, tt)) (lent l₃ δ (r .reader), tt) tt t)))) (id⊢ 𝓤 _) $ await ! tt $ pick ! (λ t.
         -- what `next` ensures, at the reader's last value
-        split ! $ move ! (1 ∷ []) $ use1 W (some (λ (gs : Reader × Unit {0}). ‵ (lasts next.ended (ν ∷ κ, (κ, tt)) (lent l₃ δ (r .reader), tt) gs) ⊛ raw (fact 𝓤 (Is-next (r .reader) t (gs .0))))) (id⊢ 𝓤 _) $ pick ! (λ gs.
+        split ! $ move ! (1 ∷ []) $
+        use1 W (some (λ (gs : Reader × Unit {0}). ‵ (lasts next.ended (ν ∷ κ, (κ, tt)) (lent l₃ δ (r .reader), tt) gs) ⊛ raw (fact 𝓤 (Is-next (r .reader) t (gs .0))))) (id⊢ 𝓤 _) $ pick ! (λ gs.
         split ! $ move ! (1 ∷ []) $ heard ! (Is-next (r .reader) t (gs .0)) (λ e′. fsplit ! $ move ! (2 ∷ []) $ split ! $ move ! (1 ∷ []) $
         -- [the band; the two tokens; the last value; …; the way back; the lender's part; …; what s owns; _5; …; _4; …; _3's end; _2; …; _1; …; room for _0; …]
         peeks ! B.the-row (Is B.the-row) (shows 𝓤 H A B.the-row) t (u′ ∷ []) (λ is′.
@@ -225,26 +242,30 @@ module _ {M : Type 1} (𝓤 : URA M) (H : Heap 𝓤) (A : Atoms 𝓤) (W : Given
         use1 W (‵ (fat fullShare (T′.mir erased) l₃ 0 (T′.lowered (gs .0))) ⊛ ‵ (OwnR (gs .0))) (lies-out (gs .0) l₃) $ split ! $
         -- [_3; what the reader owns; the token; the band; …; …; what s owns; _5; …; _4; …; _3's end; _2; …; _1; …; _0; …]
         returns ! (look ! 16 refl) $ forget ! 0 refl $ forget ! 7 refl $ forget ! 9 refl $ forget ! 12 refl $ forget ! 14 refl $ forget ! 16 refl $
-        move ! (16 ∷ 17 ∷ []) $ free1 ! $ move ! (14 ∷ 15 ∷ []) $ free1 ! $ move ! (12 ∷ 13 ∷ []) $ free1 ! $ move ! (0 ∷ 11 ∷ []) $ free1 ! $ move ! (8 ∷ 9 ∷ []) $ free1 ! $ move ! (6 ∷ 7 ∷ []) $ free1 ! $ free0 ! $
+        move ! (16 ∷ 17 ∷ []) $ free1 ! $ move ! (14 ∷ 15 ∷ []) $ free1 ! $ move ! (12 ∷ 13 ∷ []) $ free1 ! $ move ! (0 ∷ 11 ∷ []) $ free1 ! $
+        move ! (8 ∷ 9 ∷ []) $ free1 ! $ move ! (6 ∷ 7 ∷ []) $ free1 ! $ free0 ! $
         keep ! (2 ∷ 1 ∷ 5 ∷ []) $ by ! (exits t u′ (answers-first r t (gs .0) e e′))))))))))))))))))))
 
 module _ {M : Type 1} (𝓤 : URA M) (H : Heap 𝓤) (A : Atoms 𝓤) (W : Given 𝓤 H A) (mem : Memory → SProp 𝓤) (run : Routine → Fun 𝓤) where
-  first-walks : (C : Calls 𝓤 H) (Λ : Loops 𝓤 H) → FmC 𝓤 H (W .laws) C → Triple 𝓤 (C #bands·open) (Opening 𝓤 H A mem run) → Triple 𝓤 (C #bands·next) (Next 𝓤 H A mem run)
+  first-walks : (C : Calls 𝓤 H) (Λ : Loops 𝓤 H) → FmC 𝓤 H (W .laws) C → Triple 𝓤 (C #record-parts·open) (Opening 𝓤 H A mem run) → Triple 𝓤 (C #record-parts·next) (Next 𝓤 H A mem run)
       → Walks 𝓤 H A first.ended stayed (WpFn 𝓤 H C Λ code.function) (first.clauses 𝓤 H A mem run)
-  first-walks C Λ fm known-open known-next = walked 𝓤 H A first.ended stayed (first.clauses 𝓤 H A mem run) (WpFn 𝓤 H C Λ code.function) (λ κs. (slice-vals, tt)) (λ κs. (shr-slice-tells (named 0) (κs .0) u8, tt))
+  first-walks C Λ fm known-open known-next =
+      walked 𝓤 H A first.ended stayed (first.clauses 𝓤 H A mem run) (WpFn 𝓤 H C Λ code.function) (λ κs. (slice-vals, tt)) (λ κs. (shr-slice-tells (named 0) (κs .0) u8, tt))
       (λ κs qs bounds a g are. via 𝓤 _ (fst∗ 𝓤 _ (emp 𝓤)) (walk 𝓤 H A W mem run (κs .0) (qs .0) (a .0) C Λ fm known-open known-next (are .0)))
 
 first-meets : {M : Type 1} (𝓤 : URA M) (H : Heap 𝓤) (A : Atoms 𝓤) (W : Given 𝓤 H A) (mem : Memory → SProp 𝓤) (run : Routine → Fun 𝓤) (𝓣 : Tables 𝓤 H)
-    → Triple 𝓤 (𝓣 .C #bands·open) (Opening 𝓤 H A mem run) → Triple 𝓤 (𝓣 .C #bands·next) (Next 𝓤 H A mem run)
+    → Triple 𝓤 (𝓣 .C #record-parts·open) (Opening 𝓤 H A mem run) → Triple 𝓤 (𝓣 .C #record-parts·next) (Next 𝓤 H A mem run)
     → Meets 𝓤 H A first.signature (WpFn 𝓤 H (𝓣 .C) (𝓣 .Λ) code.function) (first.spec 𝓤 H A mem run)
-first-meets 𝓤 H A W mem run 𝓣 known-open known-next = walk-meets 𝓤 H A first.ended stayed W (goes-none-slice 𝓤 H A W 1 (0 ∷ []) tt (plain (λ _. u8)) yes, tt) (first.clauses 𝓤 H A mem run) (WpFn 𝓤 H (𝓣 .C) (𝓣 .Λ) code.function) (WpFn-mono 𝓤 H (W .laws) 𝓣 code.function)
+first-meets 𝓤 H A W mem run 𝓣 known-open known-next =
+    walk-meets 𝓤 H A first.ended stayed W (goes-none-slice 𝓤 H A W 1 (0 ∷ []) tt (plain (λ _. u8)) yes, tt) (first.clauses 𝓤 H A mem run)
+    (WpFn 𝓤 H (𝓣 .C) (𝓣 .Λ) code.function) (WpFn-mono 𝓤 H (W .laws) 𝓣 code.function)
     (first-walks 𝓤 H A W mem run (𝓣 .C) (𝓣 .Λ) (fmOf 𝓤 H (W .laws) 𝓣) known-open known-next)
 
 pub first-band-spec : {M : Type 1} → stated.statement M
 unfolding code.routine tablesOf
 first-band-spec 𝓤 H 𝓜 𝓖 𝓡 =
     entered 𝓤 H (tripleOf 𝓤 H (𝓖 .A) first.signature (first.spec 𝓤 H (𝓖 .A) (𝓜 .mem) (𝓡 .run)))
-    (tables 𝓤 H 𝓜 𝓡 code.env .C) (tables 𝓤 H 𝓜 𝓡 code.env .Λ) #bands·first-band code.function (code.unfolded 𝓤 H 𝓜 𝓡)
+    (tables 𝓤 H 𝓜 𝓡 code.env .C) (tables 𝓤 H 𝓜 𝓡 code.env .Λ) #record-parts·first-band code.function (code.unfolded 𝓤 H 𝓜 𝓡)
     (first-meets 𝓤 H (𝓖 .A) (givenOf 𝓤 H 𝓜 𝓖) (𝓜 .mem) (𝓡 .run) (tablesOf 𝓤 H 𝓜 (tables 𝓤 H 𝓜 𝓡 code.env))
-    (cited 𝓤 H (Opening 𝓤 H (𝓖 .A) (𝓜 .mem) (𝓡 .run)) 𝓜 𝓡 code.env #bands·open opening-def.routine code.calls-bands·open (opening-thm.met 𝓤 H 𝓜 𝓖 𝓡))
-    (cited 𝓤 H (Next 𝓤 H (𝓖 .A) (𝓜 .mem) (𝓡 .run)) 𝓜 𝓡 code.env #bands·next next-def.routine code.calls-bands·next (next-thm.met 𝓤 H 𝓜 𝓖 𝓡)))
+    (cited 𝓤 H (Opening 𝓤 H (𝓖 .A) (𝓜 .mem) (𝓡 .run)) 𝓜 𝓡 code.env #record-parts·open opening-def.routine code.calls-record-parts·open (opening-thm.met 𝓤 H 𝓜 𝓖 𝓡))
+    (cited 𝓤 H (Next 𝓤 H (𝓖 .A) (𝓜 .mem) (𝓡 .run)) 𝓜 𝓡 code.env #record-parts·next next-def.routine code.calls-record-parts·next (next-thm.met 𝓤 H 𝓜 𝓖 𝓡)))

@@ -1,7 +1,7 @@
 -- `handed_out` meets its contract: 0 where no band is stored, else 1.
 use mathlib.Core.Path.{sym, _∙_}
 use borrow.Author.Tests.{not-true, not-false}
-use Rattle.record_parts.specs.Laws.{one-handed, none-handed}
+use Rattle.record_parts.specs.Laws.Reader.{one-handed, none-handed}
 use borrow.Author.Needs.{needs}
 use Rattle.record_parts.proofs.handed_out.Statement.{statement}
 use Rattle.record_parts.proofs.handed_out.Tie as tie

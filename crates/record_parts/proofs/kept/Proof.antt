@@ -1,6 +1,6 @@
 -- `kept` meets its contract: an empty part, or the bytes.
 use mathlib.Core.Path.{refl, _∙_}
-use Rattle.record_parts.specs.Laws.{part-accepted, part-declined}
+use Rattle.record_parts.specs.Laws.Reader.{part-accepted, part-declined}
 use borrow.Author.Needs.{needs}
 use Rattle.record_parts.proofs.kept.Statement.{statement}
 use Rattle.record_parts.proofs.kept.Tie as tie

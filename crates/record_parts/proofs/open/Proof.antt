@@ -1,4 +1,5 @@
--- `open` meets its contract: a walk of its MIR, by hand. Two covered functions are called on the slice, for the number and for the part that is kept, and of their results a `Reader` is made, and the `Opened` around it.
+-- `open` meets its contract: a walk of its MIR, by hand. Two covered functions are called on the slice, for the number and for the part that is kept, and of
+-- their results a `Reader` is made, and the `Opened` around it.
 -- A `&[u8]` is Copy, so what it owns is had again for each call. All that the proof knows of the two is that each meets its contract.
 use mathlib.Core.Path.{_≡_, refl, ap}
 use Prim.Native.Nat.{ℕ, _<_, _^_}
@@ -52,9 +53,9 @@ use Rattle.record.proofs.cause.Symbol.{name as #record·cause}
 use Rattle.record.proofs.cause.Met as cause-thm
 use Rattle.record_parts.proofs.kept as kept
 use Rattle.record_parts.proofs.kept.Symbol as kept-def
-use Rattle.record_parts.proofs.kept.Symbol.{name as #bands·kept}
+use Rattle.record_parts.proofs.kept.Symbol.{name as #record-parts·kept}
 use Rattle.record_parts.proofs.kept.Met as kept-thm
-use Rattle.record_parts.proofs.open.Key.{name as #bands·open}
+use Rattle.record_parts.proofs.open.Key.{name as #record-parts·open}
 use Rattle.record_parts.proofs.open as it
 use Rattle.record_parts.proofs.open.Statement as stated
 use Rattle.record_parts.proofs.open.Code as code
@@ -104,13 +105,17 @@ module _ {M : Type 1} (𝓤 : URA M) (H : Heap 𝓤) (A : Atoms 𝓤) (W : Given
   goes-cause =
       qed W ((‵ (flft κ q) ⊛ ‵ ftrue) ∷ ‵ (Own s v) ∷ []) ∵
       move ! (1 ∷ []) $ use1 W (‵ (Own s v) ⊛ ‵ (Own s v)) (shr-slice-copy 𝓤 H A W (named 0) κ u8 .twice s (v ∷ [])) $ split ! $
-      nothing ! $ move ! (1 ∷ 0 ∷ []) $ fjoin ! $ move ! (2 ∷ 0 ∷ []) $ use2 W (raw (Cause 𝓤 H A mem run .pre to-cause)) (qed W ((‵ (flft κ q) ⊛ ‵ ftrue) ∷ ‵ (owns (ShrSlice (named 0) κ u8 ∷ []) (s, tt) (v ∷ [], tt)) ∷ []) ∵ join ! $ frame ! $ done !) $ frame ! $ done !
+      nothing ! $ move ! (1 ∷ 0 ∷ []) $ fjoin ! $ move ! (2 ∷ 0 ∷ []) $
+      use2 W (raw (Cause 𝓤 H A mem run .pre to-cause)) (qed W ((‵ (flft κ q) ⊛ ‵ ftrue) ∷ ‵ (owns (ShrSlice (named 0) κ u8 ∷ []) (s, tt) (v ∷ [], tt)) ∷ []) ∵
+      join ! $ frame ! $ done !) $ frame ! $ done !
 
   goes-kept : ent 𝓤 (⋆ 𝓤 H A ((‵ (flft κ q) ⊛ ‵ ftrue) ∷ ‵ (Own s v) ∷ [])) (sep 𝓤 (Kept 𝓤 H A mem run .pre to-kept) (sem 𝓤 H A (Own s v)))
   goes-kept =
       qed W ((‵ (flft κ q) ⊛ ‵ ftrue) ∷ ‵ (Own s v) ∷ []) ∵
       move ! (1 ∷ []) $ use1 W (‵ (Own s v) ⊛ ‵ (Own s v)) (shr-slice-copy 𝓤 H A W (named 0) κ u8 .twice s (v ∷ [])) $ split ! $
-      nothing ! $ move ! (1 ∷ 0 ∷ []) $ fjoin ! $ move ! (2 ∷ 0 ∷ []) $ use2 W (raw (Kept 𝓤 H A mem run .pre to-kept)) (qed W ((‵ (flft κ q) ⊛ ‵ ftrue) ∷ ‵ (owns (ShrSlice (named 0) κ u8 ∷ []) (s, tt) (v ∷ [], tt)) ∷ []) ∵ join ! $ frame ! $ done !) $ frame ! $ done !
+      nothing ! $ move ! (1 ∷ 0 ∷ []) $ fjoin ! $ move ! (2 ∷ 0 ∷ []) $
+      use2 W (raw (Kept 𝓤 H A mem run .pre to-kept)) (qed W ((‵ (flft κ q) ⊛ ‵ ftrue) ∷ ‵ (owns (ShrSlice (named 0) κ u8 ∷ []) (s, tt) (v ∷ [], tt)) ∷ []) ∵
+      join ! $ frame ! $ done !) $ frame ! $ done !
 
   cause-said : (n : ℕ) → ent 𝓤 (ensured 𝓤 H A cause.ended (cause.clauses 𝓤 H A mem run) (κ, tt) (s, tt) tt n) (fact 𝓤 (n ≡ readCause (now s)))
   cause-said n = exE 𝓤 _ (λ ws. snd∗ 𝓤 (sem 𝓤 H A (lasts cause.ended (κ, tt) (s, tt) ws)) (fact 𝓤 (n ≡ readCause (now s))))
@@ -130,7 +135,8 @@ module _ {M : Type 1} (𝓤 : URA M) (H : Heap 𝓤) (A : Atoms 𝓤) (W : Given
       → ent 𝓤 (⋆ 𝓤 H A (‵ (Own p (w p)) ∷ (‵ (flft κ q) ⊛ ‵ ftrue) ∷ ‵ (Own s v) ∷ [])) (Post (O′.lowered (made n p)))
   exits n p fits e e′ =
       qed W (‵ (Own p (w p)) ∷ (‵ (flft κ q) ⊛ ‵ ftrue) ∷ ‵ (Own s v) ∷ []) ∵
-      suffices ! _ (ends-at 𝓤 H A it.ended stayed (it.clauses 𝓤 H A mem run) W (((κ, tt), (q, tt), tt, (s, tt), (v ∷ [], tt)), tt) (O′.lowered (made n p)) (made n p) (tt, tt) (tt, tt)) $ says ! (e, e′ .0, e′ .1, refl) $
+      suffices ! _ (ends-at 𝓤 H A it.ended stayed (it.clauses 𝓤 H A mem run) W (((κ, tt), (q, tt), tt, (s, tt), (v ∷ [], tt)), tt) (O′.lowered (made n p))
+      (made n p) (tt, tt) (tt, tt)) $ says ! (e, e′ .0, e′ .1, refl) $
       move ! (1 ∷ []) $ frame ! $ nothing ! $ move ! (2 ∷ 0 ∷ []) $ fjoin ! $ frame ! $
       -- [what p owns]: with at's facts it is what the reader owns, and with number's facts that is what the whole owns
       nothing ! $ owned ! usize (Is usize) (uint-makes 𝓤 H A W w64) 0 _ (refl, lit< tt) $ fjoin ! $ move ! (1 ∷ 0 ∷ []) $ fjoin ! $
@@ -138,51 +144,60 @@ module _ {M : Type 1} (𝓤 : URA M) (H : Heap 𝓤) (A : Atoms 𝓤) (W : Given
       nothing ! $ move ! (1 ∷ 0 ∷ []) $ fjoin ! $ owned ! u8 (Is u8) (uint-makes 𝓤 H A W w8) n _ (refl, fits) $ fjoin ! $
       by ! (own-shut 𝓤 H A W (O.the-type α) (O′.the-laws α) (n, (reader p, tt)))
 
-  module _ (C : Calls 𝓤 H) (Λ : Loops 𝓤 H) (fm : FmC 𝓤 H (W .laws) C) (known-cause : Triple 𝓤 (C #record·cause) (Cause 𝓤 H A mem run)) (known-kept : Triple 𝓤 (C #bands·kept) (Kept 𝓤 H A mem run)) where
+  module _ (C : Calls 𝓤 H) (Λ : Loops 𝓤 H) (fm : FmC 𝓤 H (W .laws) C) (known-cause : Triple 𝓤 (C #record·cause) (Cause 𝓤 H A mem run))
+      (known-kept : Triple 𝓤 (C #record-parts·kept) (Kept 𝓤 H A mem run)) where
     walk : Is (ShrSlice (named 0) κ u8) s (v ∷ []) → ent 𝓤 (onEntry 𝓤 H A it.signature (κ, tt) (q, tt) (s, tt) (v ∷ [], tt)) (WpFn 𝓤 H C Λ code.function (v ∷ []) Post)
     walk p =
         qed W ((‵ (flft κ q) ⊛ ‵ ftrue) ∷ ‵ (owns (ShrSlice (named 0) κ u8 ∷ []) (s, tt) (v ∷ [], tt)) ∷ []) ∵ enter ! C Λ code.function (v ∷ []) _ $
-        alloc1 ! (λ l₀. alloc1 ! (λ l₁. alloc1 ! (λ l₂. alloc1 ! (λ l₃. alloc1 ! (λ l₄. alloc0 ! $ params1 ! $ pass1 ! (init ! 6 refl (shr-slice-lawful 𝓤 H A W (named 0) κ u8 .typed s (v ∷ []) p .0)) $ pass0 ! $
+        alloc1 ! (λ l₀. alloc1 ! (λ l₁. alloc1 ! (λ l₂. alloc1 ! (λ l₃. alloc1 ! (λ l₄. alloc0 ! $ params1 ! $
+        pass1 ! (init ! 6 refl (shr-slice-lawful 𝓤 H A W (named 0) κ u8 .typed s (v ∷ []) p .0)) $ pass0 ! $
         -- [room for _4; …; _3; …; _2; …; _1; …; room for _0; …; the token; what s owns]
         move ! (11 ∷ []) $ fsplit ! $ move ! (1 ∷ []) $ drop ! $ move ! (11 ∷ 0 ∷ []) $
         use2 W (raw (Cause 𝓤 H A mem run .pre to-cause) ⊛ ‵ (Own s v)) goes-cause $ split ! $
         calls-at ! fm (Cause 𝓤 H A mem run) known-cause to-cause (and-then ! (load ! (from ! (stop !)) (look ! 8 refl)) (no-more !)) (λ u.
-        use1 W (later (some (λ (n : ℕ). ((‵ (flft κ q) ⊛ ‵ ftrue) ⊛ ‵ (u8 .own n (u ∷ []))) ⊛ raw (ensured 𝓤 H A cause.ended (cause.clauses 𝓤 H A mem run) (κ, tt) (s, tt) tt n)))) (id⊢ 𝓤 _) $ await ! tt $ pick ! (λ n.
+        use1 W (later (some (λ (n : ℕ). ((‵ (flft κ q) ⊛ ‵ ftrue) ⊛ ‵ (u8 .own n (u ∷ []))) ⊛ raw
+        (ensured 𝓤 H A cause.ended (cause.clauses 𝓤 H A mem run) (κ, tt) (s, tt) tt n)))) (id⊢ 𝓤 _) $ await ! tt $ pick ! (λ n.
         split ! $ move ! (1 ∷ []) $ use1 W (raw (fact 𝓤 (n ≡ readCause (now s)))) (cause-said n) $ heard ! (n ≡ readCause (now s)) (λ e. split ! $ move ! (1 ∷ []) $
         -- [the number; the token; what s owns; room for _4; …; _3; …; _2; …; _1; …; _0; …]
         peeks ! u8 (Is u8) (shows 𝓤 H A u8) n (u ∷ []) (λ is.
         land ! (from ! (stop !)) (init ! 7 refl (uint-lawful 𝓤 H A W w8 .typed n _ is .0)) $ rewrite ! 7 (λ (x : Val). ‵ (fat fullShare (tyInt w8) l₂ 0 x)) (ap only (is .0)) refl $ drop ! $
         use2 W (raw (Kept 𝓤 H A mem run .pre to-kept) ⊛ ‵ (Own s v)) goes-kept $ split ! $
         calls-at ! fm (Kept 𝓤 H A mem run) known-kept to-kept (and-then ! (load ! (from ! (stop !)) (look ! 8 refl)) (no-more !)) (λ u′.
-        use1 W (later (some (λ (r : RefT (List ℕ)). ((‵ (flft κ q) ⊛ ‵ ftrue) ⊛ ‵ (Own r u′)) ⊛ raw (ensured 𝓤 H A kept.ended (kept.clauses 𝓤 H A mem run) (κ, tt) (s, tt) tt r)))) (id⊢ 𝓤 _) $ await ! tt $ pick ! (λ r.
+        use1 W (later (some (λ (r : RefT (List ℕ)). ((‵ (flft κ q) ⊛ ‵ ftrue) ⊛ ‵ (Own r u′)) ⊛ raw
+        (ensured 𝓤 H A kept.ended (kept.clauses 𝓤 H A mem run) (κ, tt) (s, tt) tt r)))) (id⊢ 𝓤 _) $ await ! tt $ pick ! (λ r.
         split ! $ move ! (1 ∷ []) $ use1 W (raw (fact 𝓤 (Is-kept r))) (kept-said r) $ heard ! (Is-kept r) (λ e′. split ! $ move ! (1 ∷ []) $
         -- [what the part owns; the token; what s owns; room for _4; …; _3; …; _2; …; _1; …; _0; …]
         peeks ! (ShrSlice (named 0) κ u8) (Is (ShrSlice (named 0) κ u8)) (shows 𝓤 H A (ShrSlice (named 0) κ u8)) r (u′ ∷ []) (λ is′.
         land ! (from ! (stop !)) (init ! 5 refl (shr-slice-lawful 𝓤 H A W erased κ u8 .typed r (u′ ∷ []) is′ .0)) $
         rewrite ! 5 (λ (x : Val). ‵ (fat fullShare (sliceTy (tyRef erased imm (tyInt w8))) l₃ 0 x)) (ap only (is′ .0 .0)) refl $ rewrite ! 0 (λ (x : Val). ‵ (Own r x)) (ap only (is′ .0 .0)) refl $
-        assigns ! (agg ! (and-then ! (load ! (from ! (stop !)) (look ! 5 refl)) (and-then ! (lit ! tt) (no-more !)))) (from ! (stop !)) (init ! 3 refl (tt, ((tt, (record { fits = is′ .0 .1 .0 }, tt)), (record { fits = lit< tt }, tt)))) $
-        assigns ! (agg ! (and-then ! (load ! (from ! (stop !)) (look ! 7 refl)) (and-then ! (load ! (from ! (stop !)) (look ! 3 refl)) (no-more !)))) (from ! (stop !)) (init ! 11 refl (tt, (record { fits = is .1 }, (((tt, (record { fits = is′ .0 .1 .0 }, tt)), (record { fits = lit< tt }, tt)), tt)))) $
+        assigns ! (agg ! (and-then ! (load ! (from ! (stop !)) (look ! 5 refl)) (and-then ! (lit ! tt) (no-more !)))) (from ! (stop !))
+        (init ! 3 refl (tt, ((tt, (record { fits = is′ .0 .1 .0 }, tt)), (record { fits = lit< tt }, tt)))) $
+        assigns ! (agg ! (and-then ! (load ! (from ! (stop !)) (look ! 7 refl)) (and-then ! (load ! (from ! (stop !)) (look ! 3 refl)) (no-more !))))
+        (from ! (stop !)) (init ! 11 refl (tt, (record { fits = is .1 }, (((tt, (record { fits = is′ .0 .1 .0 }, tt)), (record { fits = lit< tt }, tt)), tt)))) $
         returns ! (look ! 11 refl) $ forget ! 3 refl $ forget ! 5 refl $ forget ! 7 refl $ forget ! 9 refl $ forget ! 11 refl $
         move ! (11 ∷ 12 ∷ []) $ free1 ! $ move ! (9 ∷ 10 ∷ []) $ free1 ! $ move ! (7 ∷ 8 ∷ []) $ free1 ! $ move ! (5 ∷ 6 ∷ []) $ free1 ! $ move ! (3 ∷ 4 ∷ []) $ free1 ! $ free0 ! $
         by ! (exits n r (is .1) e e′))))))))))))))
 
 module _ {M : Type 1} (𝓤 : URA M) (H : Heap 𝓤) (A : Atoms 𝓤) (W : Given 𝓤 H A) (mem : Memory → SProp 𝓤) (run : Routine → Fun 𝓤) where
-  open-walks : (C : Calls 𝓤 H) (Λ : Loops 𝓤 H) → FmC 𝓤 H (W .laws) C → Triple 𝓤 (C #record·cause) (Cause 𝓤 H A mem run) → Triple 𝓤 (C #bands·kept) (Kept 𝓤 H A mem run)
+  open-walks : (C : Calls 𝓤 H) (Λ : Loops 𝓤 H) → FmC 𝓤 H (W .laws) C → Triple 𝓤 (C #record·cause) (Cause 𝓤 H A mem run) → Triple 𝓤 (C #record-parts·kept) (Kept 𝓤 H A mem run)
       → Walks 𝓤 H A it.ended stayed (WpFn 𝓤 H C Λ code.function) (it.clauses 𝓤 H A mem run)
-  open-walks C Λ fm known-cause known-kept = walked 𝓤 H A it.ended stayed (it.clauses 𝓤 H A mem run) (WpFn 𝓤 H C Λ code.function) (λ κs. (slice-vals, tt)) (λ κs. (shr-slice-tells (named 0) (κs .0) u8, tt))
+  open-walks C Λ fm known-cause known-kept =
+      walked 𝓤 H A it.ended stayed (it.clauses 𝓤 H A mem run) (WpFn 𝓤 H C Λ code.function) (λ κs. (slice-vals, tt)) (λ κs. (shr-slice-tells (named 0) (κs .0) u8, tt))
       (λ κs qs bounds a g are. via 𝓤 _ (fst∗ 𝓤 _ (emp 𝓤)) (walk 𝓤 H A W mem run (κs .0) (qs .0) (a .0) C Λ fm known-cause known-kept (are .0)))
 
 open-meets : {M : Type 1} (𝓤 : URA M) (H : Heap 𝓤) (A : Atoms 𝓤) (W : Given 𝓤 H A) (mem : Memory → SProp 𝓤) (run : Routine → Fun 𝓤) (𝓣 : Tables 𝓤 H)
-    → Triple 𝓤 (𝓣 .C #record·cause) (Cause 𝓤 H A mem run) → Triple 𝓤 (𝓣 .C #bands·kept) (Kept 𝓤 H A mem run)
+    → Triple 𝓤 (𝓣 .C #record·cause) (Cause 𝓤 H A mem run) → Triple 𝓤 (𝓣 .C #record-parts·kept) (Kept 𝓤 H A mem run)
     → Meets 𝓤 H A it.signature (WpFn 𝓤 H (𝓣 .C) (𝓣 .Λ) code.function) (it.spec 𝓤 H A mem run)
-open-meets 𝓤 H A W mem run 𝓣 known-cause known-kept = walk-meets 𝓤 H A it.ended stayed W (goes-none-slice 𝓤 H A W 1 (0 ∷ []) tt (plain (λ _. u8)) yes, tt) (it.clauses 𝓤 H A mem run) (WpFn 𝓤 H (𝓣 .C) (𝓣 .Λ) code.function) (WpFn-mono 𝓤 H (W .laws) 𝓣 code.function)
+open-meets 𝓤 H A W mem run 𝓣 known-cause known-kept =
+    walk-meets 𝓤 H A it.ended stayed W (goes-none-slice 𝓤 H A W 1 (0 ∷ []) tt (plain (λ _. u8)) yes, tt) (it.clauses 𝓤 H A mem run)
+    (WpFn 𝓤 H (𝓣 .C) (𝓣 .Λ) code.function) (WpFn-mono 𝓤 H (W .laws) 𝓣 code.function)
     (open-walks 𝓤 H A W mem run (𝓣 .C) (𝓣 .Λ) (fmOf 𝓤 H (W .laws) 𝓣) known-cause known-kept)
 
 pub open-spec : {M : Type 1} → stated.statement M
 unfolding code.routine tablesOf
 open-spec 𝓤 H 𝓜 𝓖 𝓡 =
     entered 𝓤 H (tripleOf 𝓤 H (𝓖 .A) it.signature (it.spec 𝓤 H (𝓖 .A) (𝓜 .mem) (𝓡 .run)))
-    (tables 𝓤 H 𝓜 𝓡 code.env .C) (tables 𝓤 H 𝓜 𝓡 code.env .Λ) #bands·open code.function (code.unfolded 𝓤 H 𝓜 𝓡)
+    (tables 𝓤 H 𝓜 𝓡 code.env .C) (tables 𝓤 H 𝓜 𝓡 code.env .Λ) #record-parts·open code.function (code.unfolded 𝓤 H 𝓜 𝓡)
     (open-meets 𝓤 H (𝓖 .A) (givenOf 𝓤 H 𝓜 𝓖) (𝓜 .mem) (𝓡 .run) (tablesOf 𝓤 H 𝓜 (tables 𝓤 H 𝓜 𝓡 code.env))
     (cited 𝓤 H (Cause 𝓤 H (𝓖 .A) (𝓜 .mem) (𝓡 .run)) 𝓜 𝓡 code.env #record·cause cause-def.routine code.calls-record·cause (cause-thm.met 𝓤 H 𝓜 𝓖 𝓡))
-    (cited 𝓤 H (Kept 𝓤 H (𝓖 .A) (𝓜 .mem) (𝓡 .run)) 𝓜 𝓡 code.env #bands·kept kept-def.routine code.calls-bands·kept (kept-thm.met 𝓤 H 𝓜 𝓖 𝓡)))
+    (cited 𝓤 H (Kept 𝓤 H (𝓖 .A) (𝓜 .mem) (𝓡 .run)) 𝓜 𝓡 code.env #record-parts·kept kept-def.routine code.calls-record-parts·kept (kept-thm.met 𝓤 H 𝓜 𝓖 𝓡)))

@@ -7,25 +7,19 @@ use native.Mathlib.Omega.{arith}
 use lib.Dec.{eqb, ltb}
 use lib.ListN.{length, getD}
 use borrow.Author.Tests.{ltb-false, eqb-true, not-false, eq-eqb, ne-eqb, le-ltb}
-use Rattle.scheme.specs.Cause.{outside, orElse}
-use Rattle.scheme.specs.Laws.Cause.{outside-false, inside-outside, first-cause, second-cause, first-none, second-none, test-none}
+use Rattle.scheme.specs.Cause.{sizesCause, orElse}
+use Rattle.scheme.specs.Laws.Cause.{inside-outside, sizes-clear, first-cause, second-cause, first-none, second-none, test-none}
 use Rattle.scheme.specs.Laws.Tables.{or-false-left, or-false-right}
 use Rattle.big_endian_spec.specs.Numbers.{beAt}
-use Rattle.record_spec.specs.Layout.{version1, lengthOf, classesIn, columnsIn}
-use Rattle.record_spec.specs.Read.{versionCause, fieldCause, sizeCause, lengthCause, frameCause}
+use Rattle.record_spec.specs.Layout.{HEADER, version1, lengthOf, classesIn, columnsIn}
+use Rattle.record_spec.specs.Read.{versionCause, fieldCause, lengthCause, frameCause}
 use Rattle.record_spec.specs.Frame.{Framed}
 
--- the sizes of bytes without cause 3
-pub sizes-clear : (s m : ℕ) → sizeCause s m ≡ 0 → ((1 ≤ s) × (s ≤ 32)) × ((1 ≤ m) × (m ≤ 8))
-sizes-clear s m e =
-    let test = test-none (outside 32 s || outside 8 m) 3 (omega arith) e in
-    (outside-false 32 s (or-false-left (outside 32 s) (outside 8 m) test), outside-false 8 m (or-false-right (outside 32 s) (outside 8 m) test))
-
 -- the header of bytes without the causes 1 and 2
-pub head-long : (bytes : List ℕ) → orElse (versionCause bytes) (fieldCause bytes) ≡ 0 → 7 ≤ length bytes
+pub head-long : (bytes : List ℕ) → orElse (versionCause bytes) (fieldCause bytes) ≡ 0 → HEADER ≤ length bytes
 head-long bytes e =
-    let test = test-none (ltb (length bytes) 7 || not (eqb (beAt 2 bytes 1) (length bytes))) 2 (omega arith) (second-none (versionCause bytes) (fieldCause bytes) e) in
-    ltb-false (length bytes) 7 (or-false-left (ltb (length bytes) 7) _ test)
+    let test = test-none (ltb (length bytes) HEADER || not (eqb (beAt 2 bytes 1) (length bytes))) 2 (omega arith) (second-none (versionCause bytes) (fieldCause bytes) e) in
+    ltb-false (length bytes) HEADER (or-false-left (ltb (length bytes) HEADER) _ test)
 
 -- bytes without the causes 1 to 4 are framed
 pub frame-clear : (bytes : List ℕ) → frameCause bytes ≡ 0 → Framed bytes
@@ -34,13 +28,13 @@ frame-clear bytes e =
     let head = first-none (orElse (versionCause bytes) (fieldCause bytes)) _ e in
     let shape = second-none (orElse (versionCause bytes) (fieldCause bytes)) _ e in
     let version = test-none (eqb (length bytes) 0 || not (eqb (getD bytes 0 0) 1)) 1 (omega arith) (first-none (versionCause bytes) (fieldCause bytes) head) in
-    let field = test-none (ltb (length bytes) 7 || not (eqb (beAt 2 bytes 1) (length bytes))) 2 (omega arith) (second-none (versionCause bytes) (fieldCause bytes) head) in
-    let sizes = sizes-clear (classesIn bytes) (columnsIn bytes) (first-none (sizeCause (classesIn bytes) (columnsIn bytes)) _ shape) in
-    let whole = test-none (not (eqb (length bytes) (lengthOf version1 (classesIn bytes) (columnsIn bytes)))) 4 (omega arith) (second-none (sizeCause (classesIn bytes) (columnsIn bytes)) _ shape) in
+    let field = test-none (ltb (length bytes) HEADER || not (eqb (beAt 2 bytes 1) (length bytes))) 2 (omega arith) (second-none (versionCause bytes) (fieldCause bytes) head) in
+    let sizes = sizes-clear (classesIn bytes) (columnsIn bytes) (first-none (sizesCause (classesIn bytes) (columnsIn bytes)) _ shape) in
+    let whole = test-none (not (eqb (length bytes) (lengthOf version1 (classesIn bytes) (columnsIn bytes)))) 4 (omega arith) (second-none (sizesCause (classesIn bytes) (columnsIn bytes)) _ shape) in
     record {
       version = eqb-true (getD bytes 0 0) 1 (not-false _ (or-false-right (eqb (length bytes) 0) _ version));
       header = head-long bytes head;
-      field = eqb-true (beAt 2 bytes 1) (length bytes) (not-false _ (or-false-right (ltb (length bytes) 7) _ field));
+      field = eqb-true (beAt 2 bytes 1) (length bytes) (not-false _ (or-false-right (ltb (length bytes) HEADER) _ field));
       someClass = sizes .0 .0;
       classes = sizes .0 .1;
       someColumn = sizes .1 .0;
@@ -54,7 +48,7 @@ unfolding frameCause
 frame-head bytes e some = rw e (sym (first-cause (orElse (versionCause bytes) (fieldCause bytes)) _ (λ z. some (e ∙ z))))
 
 pub frame-shape : (bytes : List ℕ) {n : ℕ} → orElse (versionCause bytes) (fieldCause bytes) ≡ 0
-    → n ≡ orElse (sizeCause (classesIn bytes) (columnsIn bytes)) (lengthCause (length bytes) (classesIn bytes) (columnsIn bytes)) → n ≡ frameCause bytes
+    → n ≡ orElse (sizesCause (classesIn bytes) (columnsIn bytes)) (lengthCause (length bytes) (classesIn bytes) (columnsIn bytes)) → n ≡ frameCause bytes
 unfolding frameCause
 frame-shape bytes none e = e ∙ sym (second-cause (orElse (versionCause bytes) (fieldCause bytes)) _ none)
 
@@ -65,7 +59,7 @@ framed bytes h =
     simp (
       ne-eqb (length bytes) 0 (λ e. omega arith),
       eq-eqb (getD bytes 0 0) 1 (h .version),
-      le-ltb (length bytes) 7 (h .header),
+      le-ltb (length bytes) HEADER (h .header),
       eq-eqb (beAt 2 bytes 1) (length bytes) (h .field),
       inside-outside 32 (classesIn bytes) (h .someClass) (h .classes),
       inside-outside 8 (columnsIn bytes) (h .someColumn) (h .columns),

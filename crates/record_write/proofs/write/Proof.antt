@@ -25,9 +25,10 @@ length-of-requires c κs = search needs
 
 returns-2 : tie.Need-returns-2
 returns-2 c =
-    let start = c .before .before .before .before .before .args in
+    let at-accepted = c .before .before in
+    let start = at-accepted .before .before .before .args in
     keeps (start .scheme) (start .out .now)
-    (declined _ _ (by-slice (start .scheme) (start .out .now) (accepted (c .before .before)) (rw (← (c .before .length-of .ensures)) (c .if2 .taken))) (λ e. omega arith))
+    (declined _ _ (by-slice (start .scheme) (start .out .now) (accepted at-accepted) (rw (← (c .before .length-of .ensures)) (c .if2 .taken))) (λ e. omega arith))
 
 whole-requires : tie.Need-whole-requires
 whole-requires c κs = (accepted-cause _ (accepted (c .before .before .before)) .size, c .before .before .length-of .ensures, omega arith)
@@ -37,10 +38,11 @@ same-length c = search needs
 
 returns-3 : tie.Need-returns-3
 returns-3 c =
-    let at-if = c .before .before .before .before .before in
-    let start = at-if .before .before .before .before .args in
+    let at-whole = c .before .before in
+    let at-length = at-whole .before .before .before in
+    let start = at-length .before .before .before .before .args in
     keeps (start .scheme) (start .out .now)
-    (written (start .scheme) (start .out .now) (accepted (at-if .before)) (at-if .length-of .ensures) (omega arith) (c .before .before .whole .ensures))
+    (written (start .scheme) (start .out .now) (accepted (at-length .before)) (at-length .length-of .ensures) (omega arith) (at-whole .whole .ensures))
 
 pub write-spec : {M : Type 1} → statement M
 write-spec =

@@ -11,7 +11,7 @@ use Rattle.big_endian_spec.specs.Numbers.{beBytes}
 use Rattle.record_spec.specs.Joined.{joined}
 use Rattle.record_spec.specs.Write.{recordLength}
 use Rattle.scheme.specs.Tables.{tab}
-use Rattle.record_spec.specs.Layout.{Layout, version1, lengthOf}
+use Rattle.record_spec.specs.Layout.{Layout, HEADER, version1, lengthOf}
 use Rattle.record_spec.specs.Bytes.{bandBytes, headerBytes, headerOf, rulesOf, bandsOf, premiumsOf, bytesOf}
 use Rattle.scheme.specs.Laws.Tab.{length-tab}
 use Rattle.record_write.specs.Laws.Lists.{length-joined, sets-4}
@@ -20,7 +20,7 @@ use Rattle.big_endian_spec.specs.Laws.{length-beBytes}
 use Rattle.record_write.specs.Laws.Numbers.{length-band}
 
 module _ (y : Layout) (s : Scheme) where
-  pub length-header : length (headerOf y s) ≡ 7
+  pub length-header : length (headerOf y s) ≡ HEADER
   unfolding headerBytes beBytes
   length-header = refl
 
@@ -33,30 +33,30 @@ module _ (y : Layout) (s : Scheme) where
   pub length-premiums : length (premiumsOf y s) ≡ s .classes * y .width
   length-premiums = length-joined (y .width) (s .classes) _ (λ i lt. length-beBytes (y .width) (premiumAt s i))
 
-  -- the record is as long as the formula says, where the layout's header has these 7 bytes
-  pub length-bytes : y .header ≡ 7 → length (bytesOf y s) ≡ lengthOf y (s .classes) (s .columns)
+  -- the record is as long as the formula says, where the layout's header has this length
+  pub length-bytes : y .header ≡ HEADER → length (bytesOf y s) ≡ lengthOf y (s .classes) (s .columns)
   unfolding bytesOf
-  length-bytes seven =
+  length-bytes same =
       let whole : length (bytesOf y s) ≡ length (headerOf y s) + length (rulesOf s) + length (bandsOf s) + length (premiumsOf y s) = simp length-append in
       omega (arith, whole, length-header, length-rules, length-bands, length-premiums)
 
   -- the parts laid one by one, each where the last one ends
-  pub laid : y .header ≡ 7 → (l : List ℕ) → lengthOf y (s .classes) (s .columns) ≤ length l
-      → sets (sets (sets (sets l 0 (headerOf y s)) 7 (rulesOf s)) (7 + s .classes * s .columns) (bandsOf s))
-      (7 + s .classes * s .columns + s .columns * 8) (premiumsOf y s)
+  pub laid : y .header ≡ HEADER → (l : List ℕ) → lengthOf y (s .classes) (s .columns) ≤ length l
+      → sets (sets (sets (sets l 0 (headerOf y s)) HEADER (rulesOf s)) (HEADER + s .classes * s .columns) (bandsOf s))
+      (HEADER + s .classes * s .columns + s .columns * 8) (premiumsOf y s)
       ≡ bytesOf y s ++ drop (lengthOf y (s .classes) (s .columns)) l
   unfolding bytesOf
-  laid seven l fits =
-      sets-4 l (headerOf y s) (rulesOf s) (bandsOf s) (premiumsOf y s) 7 _ _ length-header (ap (λ n. 7 + n) length-rules)
-      (ap (λ n. 7 + s .classes * s .columns + n) length-bands)
-      ∙ sets-front l (bytesOf y s) (omega (arith, length-bytes seven))
-      ∙ ap (λ n. bytesOf y s ++ drop n l) (length-bytes seven)
+  laid same l fits =
+      sets-4 l (headerOf y s) (rulesOf s) (bandsOf s) (premiumsOf y s) HEADER _ _ length-header (ap (λ n. HEADER + n) length-rules)
+      (ap (λ n. HEADER + s .classes * s .columns + n) length-bands)
+      ∙ sets-front l (bytesOf y s) (omega (arith, length-bytes same))
+      ∙ ap (λ n. bytesOf y s ++ drop n l) (length-bytes same)
 
 -- what the writer lays, in its own terms
 pub wrote : (s : Scheme) (l : List ℕ) {size : ℕ} {h r m p : List ℕ} → size ≡ recordLength s → size ≤ length l
     → h ≡ sets l 0 (headerBytes 1 size (s .classes) (s .columns) (s .start) (s .horizon))
-    → r ≡ sets h 7 (joined (s .classes) (λ i. tab (s .columns) (λ k. getD (s .rules) (i * 8 + k) 0)))
-    → m ≡ sets r (7 + s .classes * s .columns) (joined (s .columns) (λ k. bandBytes (getD (s .lowers) k 0) (getD (s .uppers) k 0)))
-    → p ≡ sets m (7 + s .classes * s .columns + s .columns * 8) (joined (s .classes) (λ i. beBytes 4 (getD (s .premiums) i 0)))
+    → r ≡ sets h HEADER (joined (s .classes) (λ i. tab (s .columns) (λ k. getD (s .rules) (i * 8 + k) 0)))
+    → m ≡ sets r (HEADER + s .classes * s .columns) (joined (s .columns) (λ k. bandBytes (getD (s .lowers) k 0) (getD (s .uppers) k 0)))
+    → p ≡ sets m (HEADER + s .classes * s .columns + s .columns * 8) (joined (s .classes) (λ i. beBytes 4 (getD (s .premiums) i 0)))
     → p ≡ bytesOf version1 s ++ drop size l
 wrote s l es fits eh er em ep = rw (ep, em, er, eh, es) (laid version1 s refl l (rw es at fits))

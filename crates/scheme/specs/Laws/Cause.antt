@@ -1,14 +1,14 @@
 -- Laws of the first cause: what each test tells, and how the stages of the code make the whole.
 use Prim.Native.Nat.{ℕ, _≤_, _<_}
 use mathlib.Core.Path.{_≡_, refl, ap, ap₂, sym, _∙_}
-use mathlib.Core.Bool.{Bool, true, false, cond, _||_}
+use mathlib.Core.Bool.{Bool, true, false, cond}
 use lib.Dec.{eqb, ltb}
 use native.Mathlib.Decide.{ℕ-discrete}
 use native.Mathlib.Omega.{arith}
 use borrow.Author.Tests.{ltb-false, eqb-false, eq-eqb, ne-eqb, le-ltb}
 use Rattle.scheme.specs.declared.Scheme.{Scheme}
 use Rattle.scheme.specs.Access.{cellCount, lowerAt, upperAt}
-use Rattle.scheme.specs.Cause.{outside, sizeOut, startOut, horizonOut, ruleOut, bandOut, sumOut, causeWhere, orElse}
+use Rattle.scheme.specs.Cause.{outside, sizesOut, sizesCause, sizeOut, startOut, horizonOut, ruleOut, bandOut, sumOut, causeWhere, orElse}
 use Rattle.scheme.specs.Accepted.{SizeFits}
 use Rattle.scheme.specs.Stages.{formCause, bandCause}
 use Rattle.scheme.specs.Laws.Tables.{or-false-left, or-false-right, any-same}
@@ -21,6 +21,11 @@ outside-false max x e =
 
 pub inside-outside : (max x : ℕ) → 1 ≤ x → x ≤ max → outside max x ≡ false
 inside-outside max x h k = simp (ne-eqb x 0 (λ e. omega arith), le-ltb max x k)
+
+-- sizes that passed the test
+sizes-inside : (s m : ℕ) → sizesOut s m ≡ false → ((1 ≤ s) × (s ≤ 32)) × ((1 ≤ m) × (m ≤ 8))
+sizes-inside s m test =
+    (outside-false 32 s (or-false-left (outside 32 s) (outside 8 m) test), outside-false 8 m (or-false-right (outside 32 s) (outside 8 m) test))
 
 -- the first of two causes
 pub first-cause : (a b : ℕ) → (a ≡ 0 → ⊥) → orElse a b ≡ a
@@ -44,6 +49,15 @@ second-none a b e = sym (second-cause a b (first-none a b e)) ∙ e
 pub test-none : (b : Bool) (n : ℕ) → 0 < n → cond b n 0 ≡ 0 → b ≡ false
 test-none true n h e = absurd (omega arith)
 test-none false n h e = refl
+
+-- no cause in the sizes
+pub sizes-clear : (s m : ℕ) → sizesCause s m ≡ 0 → ((1 ≤ s) × (s ≤ 32)) × ((1 ≤ m) × (m ≤ 8))
+sizes-clear s m e = sizes-inside s m (test-none (sizesOut s m) 3 (omega arith) e)
+
+-- a cause in the sizes is the first of those of the form
+pub sizes-first : (a : Bool) (rest : ℕ) {n : ℕ} → n ≡ cond a 3 0 → (n ≡ 0 → ⊥) → n ≡ cond a 3 rest
+sizes-first true rest e some = e
+sizes-first false rest e some = absurd (some e)
 
 -- no cause in the number of a class
 pub class-fits : (s class : ℕ) → _≡_ {A = ℕ} (cond (outside s class) 11 0) 0 → (1 ≤ class) × (class ≤ s)
@@ -98,11 +112,8 @@ form-size false b c n e h = refl
 -- a scheme whose form has no cause is of a size that fits
 pub size-fits : (s : Scheme) (n : ℕ) → n ≡ formCause (s .classes) (s .columns) (s .start) (s .horizon) → n ≡ 0 → SizeFits s
 size-fits s n e h =
-    let size : ((outside 32 (s .classes) || outside 8 (s .columns)) ≡ false) =
-    form-size (outside 32 (s .classes) || outside 8 (s .columns)) (outside (s .classes) (s .start)) (ltb 100 (s .horizon)) n e h in
-    let l : (1 ≤ s .classes) × (s .classes ≤ 32) = outside-false 32 (s .classes) (or-false-left (outside 32 (s .classes)) (outside 8 (s .columns)) size) in
-    let r : (1 ≤ s .columns) × (s .columns ≤ 8) = outside-false 8 (s .columns) (or-false-right (outside 32 (s .classes)) (outside 8 (s .columns)) size) in
-    record { someClass = l .0; classes = l .1; someColumn = r .0; columns = r .1 }
+    let sizes = sizes-inside (s .classes) (s .columns) (form-size (sizesOut (s .classes) (s .columns)) (outside (s .classes) (s .start)) (ltb 100 (s .horizon)) n e h) in
+    record { someClass = sizes .0 .0; classes = sizes .0 .1; someColumn = sizes .1 .0; columns = sizes .1 .1 }
 
 -- the stages of the code, for a scheme
 module _ (s : Scheme) (moneyOut : Bool) where

@@ -130,10 +130,24 @@ module _ (s : Scheme) where
   by-tests false true c d e f g e1 e2 e3 e4 e5 e6 e7 = refused (Refused.start (size-tells .fits e1) (contrary start-tells e2))
   by-tests false false true d e f g e1 e2 e3 e4 e5 e6 e7 = refused (Refused.horizon (size-tells .fits e1) (start-tells .fits e2) (contrary horizon-tells e3))
   by-tests false false false true e f g e1 e2 e3 e4 e5 e6 e7 = refused (Refused.rules (size-tells .fits e1) (start-tells .fits e2) (horizon-tells .fits e3) (contrary rules-tell e4))
-  by-tests false false false false true f g e1 e2 e3 e4 e5 e6 e7 = refused (Refused.bands (size-tells .fits e1) (start-tells .fits e2) (horizon-tells .fits e3) (rules-tell .fits e4) (contrary bands-tell e5))
-  by-tests false false false false false true g e1 e2 e3 e4 e5 e6 e7 = refused (Refused.sums (size-tells .fits e1) (start-tells .fits e2) (horizon-tells .fits e3) (rules-tell .fits e4) (bands-tell .fits e5) (contrary sums-tell e6))
-  by-tests false false false false false false true e1 e2 e3 e4 e5 e6 e7 = refused (Refused.premiums (size-tells .fits e1) (start-tells .fits e2) (horizon-tells .fits e3) (rules-tell .fits e4) (bands-tell .fits e5) (sums-tell .fits e6) (contrary premiums-tell e7))
-  by-tests false false false false false false false e1 e2 e3 e4 e5 e6 e7 = accepted (record { size = size-tells .fits e1; start = start-tells .fits e2; horizon = horizon-tells .fits e3; rules = rules-tell .fits e4; bands = bands-tell .fits e5; sums = sums-tell .fits e6; premiums = premiums-tell .fits e7 })
+  by-tests false false false false true f g e1 e2 e3 e4 e5 e6 e7 =
+      refused (Refused.bands (size-tells .fits e1) (start-tells .fits e2) (horizon-tells .fits e3) (rules-tell .fits e4) (contrary bands-tell e5))
+  by-tests false false false false false true g e1 e2 e3 e4 e5 e6 e7 =
+      refused (Refused.sums (size-tells .fits e1) (start-tells .fits e2) (horizon-tells .fits e3) (rules-tell .fits e4) (bands-tell .fits e5) (contrary sums-tell e6))
+  by-tests false false false false false false true e1 e2 e3 e4 e5 e6 e7 =
+      refused (Refused.premiums (size-tells .fits e1) (start-tells .fits e2) (horizon-tells .fits e3) (rules-tell .fits e4) (bands-tell .fits e5)
+      (sums-tell .fits e6) (contrary premiums-tell e7))
+  by-tests false false false false false false false e1 e2 e3 e4 e5 e6 e7 =
+      accepted
+      (record {
+        size = size-tells .fits e1;
+        start = start-tells .fits e2;
+        horizon = horizon-tells .fits e3;
+        rules = rules-tell .fits e4;
+        bands = bands-tell .fits e5;
+        sums = sums-tell .fits e6;
+        premiums = premiums-tell .fits e7;
+      })
 
   pub judged : Judged (causeOf s)
   unfolding causeWhere

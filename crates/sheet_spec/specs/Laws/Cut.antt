@@ -12,6 +12,7 @@ use borrow.Author.Tests.{ne-eqb, le-ltb}
 use Rattle.scheme.specs.Cause.{orElse}
 use Rattle.big_endian_spec.specs.Numbers.{Bytes, beAt}
 use Rattle.big_endian_spec.specs.Laws.{bytes-take, beAt-fits}
+use Rattle.record_spec.specs.Layout.{HEADER}
 use Rattle.record_spec.specs.Read.{frameCause, readCause}
 use Rattle.sheet_spec.specs.Sheet.{refusedLine, sheetText}
 use Rattle.sheet_spec.specs.Laws.Room.{text-refused}
@@ -31,8 +32,8 @@ module _ (bytes : List ℕ) (small : Bytes bytes) (long : 65536 ≤ length bytes
   long-cause : readCause bytes ≡ cond (not (eqb (getD bytes 0 0) 1)) 1 2
   unfolding frameCause
   long-cause =
-      first-two (eqb (length bytes) 0 || not (eqb (getD bytes 0 0) 1)) (ltb (length bytes) 7 || not (eqb (beAt 2 bytes 1) (length bytes))) _ _
-      (simp (le-ltb (length bytes) 7 (omega arith), ne-eqb (beAt 2 bytes 1) (length bytes) differs))
+      first-two (eqb (length bytes) 0 || not (eqb (getD bytes 0 0) 1)) (ltb (length bytes) HEADER || not (eqb (beAt 2 bytes 1) (length bytes))) _ _
+      (simp (le-ltb (length bytes) HEADER (omega arith), ne-eqb (beAt 2 bytes 1) (length bytes) differs))
       ∙ ap (λ b. cond (b || not (eqb (getD bytes 0 0) 1)) 1 2) (ne-eqb (length bytes) 0 (λ e. omega arith))
 
   pub long-text : sheetText bytes ≡ refusedLine (cond (not (eqb (getD bytes 0 0) 1)) 1 2)

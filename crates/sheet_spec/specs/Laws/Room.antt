@@ -13,11 +13,11 @@ use lib.Seq.{length-take-le, take-at}
 use Rattle.scheme.specs.Laws.Cause.{second-none}
 use Rattle.scheme.specs.declared.Scheme.{Scheme}
 use Rattle.scheme.specs.Accepted.{Accepted}
-use Rattle.scheme.specs.Cause.{outside, sizeOut, startOut, horizonOut, ruleOut, bandOut, sumOut, premiumOut, causeWhere, causeOf, orElse}
+use Rattle.scheme.specs.Cause.{sizesOut, sizesCause, sizeOut, startOut, horizonOut, ruleOut, bandOut, sumOut, premiumOut, causeWhere, causeOf, orElse}
 use Rattle.scheme.specs.Laws.Judged.{accepted-cause}
 use Rattle.big_endian_spec.specs.Numbers.{beAt}
-use Rattle.record_spec.specs.Layout.{version1, lengthOf, classesIn, columnsIn, schemeIn}
-use Rattle.record_spec.specs.Read.{versionCause, fieldCause, sizeCause, lengthCause, frameCause, readCause}
+use Rattle.record_spec.specs.Layout.{HEADER, version1, lengthOf, classesIn, columnsIn, schemeIn}
+use Rattle.record_spec.specs.Read.{versionCause, fieldCause, lengthCause, frameCause, readCause}
 use Rattle.record_spec.specs.declared.WriteAnswer.the-variants.{Written, Declined}
 use Rattle.sheet_spec.specs.Sheet.{classLines, yearPremium, yearLines, sheetOf, refusedLine, sheetText}
 use Rattle.sheet_spec.specs.Answer.{roomOf, roomFor, sheetAnswer, sheetLeaves, TextPromise}
@@ -92,12 +92,12 @@ unfolding frameCause
 frame-cause-most bytes =
     let s = classesIn bytes in
     let m = columnsIn bytes in
-    or-most (orElse (versionCause bytes) (fieldCause bytes)) (orElse (sizeCause s m) (lengthCause (length bytes) s m)) 10
+    or-most (orElse (versionCause bytes) (fieldCause bytes)) (orElse (sizesCause s m) (lengthCause (length bytes) s m)) 10
     (or-most (versionCause bytes) (fieldCause bytes) 10
     (cond-most (eqb (length bytes) 0 || not (eqb (getD bytes 0 0) 1)) 1 0 10 (omega arith) (omega arith))
-    (cond-most (ltb (length bytes) 7 || not (eqb (beAt 2 bytes 1) (length bytes))) 2 0 10 (omega arith) (omega arith)))
-    (or-most (sizeCause s m) (lengthCause (length bytes) s m) 10
-    (cond-most (outside 32 s || outside 8 m) 3 0 10 (omega arith) (omega arith))
+    (cond-most (ltb (length bytes) HEADER || not (eqb (beAt 2 bytes 1) (length bytes))) 2 0 10 (omega arith) (omega arith)))
+    (or-most (sizesCause s m) (lengthCause (length bytes) s m) 10
+    (cond-most (sizesOut s m) 3 0 10 (omega arith) (omega arith))
     (cond-most (not (eqb (length bytes) (lengthOf version1 s m))) 4 0 10 (omega arith) (omega arith)))
 
 pub read-cause-most : (bytes : List ℕ) → readCause bytes ≤ 10

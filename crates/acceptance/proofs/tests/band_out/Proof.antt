@@ -36,9 +36,9 @@ band-bad-requires c κs = tt
 
 returns : tie.Need-returns Inv-loop μ-loop
 returns c =
-    sym
-    (any-hit _ (c .before .before .before .before .before .loop .k) _ (omega arith)
-    (sym (c .before .band-bad .ensures) ∙ c .if1 .taken))
+    let at-band-bad = c .before in
+    let turn = at-band-bad .before .before .before .before .loop in
+    sym (any-hit _ (turn .k) _ (omega arith) (sym (at-band-bad .band-bad .ensures) ∙ c .if1 .taken))
 
 add-k : tie.Need-add-k Inv-loop μ-loop
 add-k c = omega arith
@@ -47,11 +47,10 @@ loop-less : tie.Need-loop-less Inv-loop μ-loop
 loop-less c = omega arith
 
 loop-again : tie.Need-loop-again Inv-loop μ-loop
-loop-again c = (
-  omega arith,
-  any-more _ _ (c .before .before .before .before .before .loop .inv .1)
-      (sym (c .before .band-bad .ensures) ∙ c .if1 .left),
-)
+loop-again c =
+    let at-band-bad = c .before in
+    let turn = at-band-bad .before .before .before .before .loop in
+    (omega arith, any-more _ _ (turn .inv .1) (sym (at-band-bad .band-bad .ensures) ∙ c .if1 .left))
 
 returns-2 : tie.Need-returns-2 Inv-loop μ-loop
 returns-2 c = any-end _ _ _ (omega arith) (c .before .loop .inv .1)

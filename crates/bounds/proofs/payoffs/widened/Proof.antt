@@ -39,7 +39,7 @@ loop-less : tie.Need-loop-less Inv-loop μ-loop
 loop-less c = omega arith
 
 loop-again : tie.Need-loop-again Inv-loop μ-loop
-loop-again c = written-more _ (at (c .before .before .before .args .t1)) (c .before .before .loop .out) _ _ (omega arith) (c .wide .ensures) (c .before .before .loop .inv)
+loop-again c = written-more _ (at (c .before .before .before .args .t1)) (c .before .before .loop .out) _ _ (omega arith) (c .wide .ensures .0) (c .before .before .loop .inv)
 
 returns : tie.Need-returns Inv-loop μ-loop
 returns c = written-copy (omega arith) (c .before .loop .inv)

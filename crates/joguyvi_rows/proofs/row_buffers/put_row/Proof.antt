@@ -65,8 +65,8 @@ same-length-2 c = search needs
 returns-2 : tie.Need-returns-2
 returns-2 c =
     let at-copy-row2 = c .before .before in
-    let at-copy-row = at-copy-row2 .before .before .before .before in
-    let at-if1 = at-copy-row .before .before .before .before in
+    let at-copy-row = at-copy-row2 .before .before .before .before .before in
+    let at-if1 = at-copy-row .before .before .before .before .before in
     let at-or-else = at-if1 .before in
     let start = at-or-else .before .before .before .before in
     let fit = sizes at-if1 in

@@ -11,12 +11,12 @@ use Rattle.record.proofs.reading.field_cause.Tie as tie
 returns : tie.Need-returns
 returns c = simp (lt-ltb _ _ (c .if1 .taken))
 
-be2-requires : tie.Need-be2-requires
-be2-requires c κs = search needs
+number-at-requires : tie.Need-number-at-requires
+number-at-requires c κs = search needs
 
 -- the header holds the field
-field : (c : tie.After-be2) → c .be2 .result ≡ beAt 2 (c .before .before .before .args .bytes .now) 1
-field c = c .be2 .ensures ∙ read-held 2 (c .before .before .before .args .bytes .now) 1 (omega arith)
+field : (c : tie.After-number-at) → c .number-at .result ≡ beAt 2 (c .before .before .before .args .bytes .now) 1
+field c = c .number-at .ensures ∙ read-held 2 (c .before .before .before .args .bytes .now) 1 (omega arith) (omega arith)
 
 cast-if2 : tie.Need-cast-if2
 cast-if2 c = search needs
@@ -28,4 +28,4 @@ returns-3 : tie.Need-returns-3
 returns-3 c = simp (le-ltb _ _ (c .before .before .if1 .left), eq-eqb _ _ (sym (field (c .before)) ∙ c .if2 .left))
 
 pub field-cause-spec : {M : Type 1} → statement M
-field-cause-spec = tie.close (tie.spec returns be2-requires cast-if2 returns-2 returns-3)
+field-cause-spec = tie.close (tie.spec returns number-at-requires cast-if2 returns-2 returns-3)

@@ -1,5 +1,7 @@
 -- `reading::frame` meets its contract: the header's causes, then the shape's.
 use mathlib.Core.Path.{_≡_, ap₂, sym, _∙_}
+use mathlib.Core.List.{List}
+use Prim.Native.Nat.{ℕ}
 use native.Mathlib.Omega.{arith}
 use Rattle.scheme.specs.Cause.{orElse}
 use Rattle.record_spec.specs.Read.{versionCause, fieldCause}
@@ -8,12 +10,14 @@ use borrow.Author.Needs.{needs}
 use Rattle.record.proofs.reading.frame.Statement.{statement}
 use Rattle.record.proofs.reading.frame.Tie as tie
 
-head : (c : tie.After-or-else)
-    → c .or-else .result ≡ orElse (versionCause (c .before .before .before .before .args .bytes .now)) (fieldCause (c .before .before .before .before .args .bytes .now))
+-- the bytes that were given
+abbrev given : tie.After-or-else → List ℕ
+given c = c .before .before .before .before .args .bytes .now
+
+head : (c : tie.After-or-else) → c .or-else .result ≡ orElse (versionCause (given c)) (fieldCause (given c))
 head c = c .or-else .ensures ∙ ap₂ (λ a b. orElse a b) (c .before .before .version-cause .ensures) (c .before .field-cause .ensures)
 
-none : (c : tie.Else1)
-    → orElse (versionCause (c .before .before .before .before .before .args .bytes .now)) (fieldCause (c .before .before .before .before .before .args .bytes .now)) ≡ 0
+none : (c : tie.Else1) → orElse (versionCause (given (c .before))) (fieldCause (given (c .before))) ≡ 0
 none c = sym (head (c .before)) ∙ c .if1 .left
 
 version-cause-requires : tie.Need-version-cause-requires
@@ -29,13 +33,13 @@ returns : tie.Need-returns
 returns c = frame-head _ (head (c .before)) (c .if1 .taken)
 
 shared-slice-read-classes : tie.Need-shared-slice-read-classes
-shared-slice-read-classes c = omega (arith, head-long (c .before .before .before .before .before .before .args .bytes .now) (none (c .before)))
+shared-slice-read-classes c = omega (arith, head-long (given (c .before .before)) (none (c .before)))
 
 shared-slice-read-columns : tie.Need-shared-slice-read-columns
-shared-slice-read-columns c = omega (arith, head-long (c .before .before .before .before .before .before .before .args .bytes .now) (none (c .before .before)))
+shared-slice-read-columns c = omega (arith, head-long (given (c .before .before .before)) (none (c .before .before)))
 
-size-cause-requires : tie.Need-size-cause-requires
-size-cause-requires c κs = search needs
+sizes-cause-requires : tie.Need-sizes-cause-requires
+sizes-cause-requires c κs = search needs
 
 length-cause-requires : tie.Need-length-cause-requires
 length-cause-requires c κs = search needs
@@ -45,7 +49,9 @@ or-else-requires-2 c κs = search needs
 
 returns-2 : tie.Need-returns-2
 returns-2 c =
-    frame-shape _ (none (c .before .before .before .before .before)) (c .or-else2 .ensures ∙ ap₂ (λ a b. orElse a b) (c .before .before .size-cause .ensures) (c .before .length-cause .ensures))
+    let at-sizes = c .before .before in
+    frame-shape _ (none (at-sizes .before .before .before))
+    (c .or-else2 .ensures ∙ ap₂ (λ a b. orElse a b) (at-sizes .sizes-cause .ensures) (c .before .length-cause .ensures))
 
 pub frame-spec : {M : Type 1} → statement M
 frame-spec =
@@ -57,7 +63,7 @@ frame-spec =
     returns
     shared-slice-read-classes
     shared-slice-read-columns
-    size-cause-requires
+    sizes-cause-requires
     length-cause-requires
     or-else-requires-2
     returns-2)

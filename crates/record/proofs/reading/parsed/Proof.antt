@@ -1,6 +1,6 @@
 -- `reading::parsed` meets its contract: the parts stand where the layout says.
 use Prim.Native.Nat.{ℕ, _+_, _*_, _≤_}
-use mathlib.Core.Path.{_≡_, ap}
+use mathlib.Core.Path.{_≡_, refl, ap}
 use mathlib.Core.List.{List}
 use native.Mathlib.Omega.{arith}
 use native.Mathlib.Nat.{mul-le-mul}
@@ -9,17 +9,17 @@ use Rattle.scheme.specs.declared.Scheme.{Scheme}
 use Rattle.scheme.specs.Tables.{tab}
 use Rattle.big_endian_spec.specs.Numbers.{beAt}
 use Rattle.scheme.specs.Stored.{upTo, rulesUpTo, schemeOf}
-use Rattle.record_spec.specs.Layout.{version1, classesIn, columnsIn, schemeIn}
+use Rattle.record_spec.specs.Layout.{HEADER, version1, classesIn, columnsIn, schemeIn}
 use Rattle.scheme.specs.Laws.Tab.{tab-eq}
 use Rattle.scheme.specs.Laws.Stored.{upTo-eq}
 use borrow.Author.Needs.{needs}
 use Rattle.record.proofs.reading.parsed.Statement.{statement}
 use Rattle.record.proofs.reading.parsed.Tie as tie
 
--- where the fields stand, by the record's length
-places : (c : tie.After-shared-slice-known5)
-    → classesIn (c .before .before .before .before .before .args .bytes .now) * columnsIn (c .before .before .before .before .before .args .bytes .now) ≤ 32 * 8
-places c = let framed = c .before .before .before .before .before .pre in mul-le-mul (framed .classes) (framed .columns)
+-- s × m is within the rules' places
+places : (c : tie.After-shared-slice-known4)
+    → classesIn (c .before .before .before .before .args .bytes .now) * columnsIn (c .before .before .before .before .args .bytes .now) ≤ 32 * 8
+places c = let framed = c .before .before .before .before .pre in mul-le-mul (framed .classes) (framed .columns)
 
 -- an upper end stands 4 bytes past the lower end
 upper-places : (bytes : List ℕ) (p n : ℕ)
@@ -29,15 +29,15 @@ upper-places bytes p n =
 
 -- the scheme of the parts that were read
 made : (bytes : List ℕ) {rules lowers uppers premiums : List ℕ}
-    → rules ≡ tab 256 (rulesUpTo (classesIn bytes) (columnsIn bytes) (λ i k. getD bytes (7 + i * columnsIn bytes + k) 0))
-    → lowers ≡ tab 8 (upTo (columnsIn bytes) (λ k. beAt 4 bytes (7 + classesIn bytes * columnsIn bytes + k * 8)))
-    → uppers ≡ tab 8 (upTo (columnsIn bytes) (λ k. beAt 4 bytes (7 + classesIn bytes * columnsIn bytes + 4 + k * 8)))
-    → premiums ≡ tab 32 (upTo (classesIn bytes) (λ i. beAt 4 bytes (7 + classesIn bytes * columnsIn bytes + columnsIn bytes * 8 + i * 4)))
+    → rules ≡ tab 256 (rulesUpTo (classesIn bytes) (columnsIn bytes) (λ i k. getD bytes (HEADER + i * columnsIn bytes + k) 0))
+    → lowers ≡ tab 8 (upTo (columnsIn bytes) (λ k. beAt 4 bytes (HEADER + classesIn bytes * columnsIn bytes + k * 8)))
+    → uppers ≡ tab 8 (upTo (columnsIn bytes) (λ k. beAt 4 bytes (HEADER + classesIn bytes * columnsIn bytes + 4 + k * 8)))
+    → premiums ≡ tab 32 (upTo (classesIn bytes) (λ i. beAt 4 bytes (HEADER + classesIn bytes * columnsIn bytes + columnsIn bytes * 8 + i * 4)))
     → _≡_ {A = Scheme}
     record { classes = classesIn bytes; columns = columnsIn bytes; start = getD bytes 5 0; horizon = getD bytes 6 0; rules = rules; lowers = lowers; uppers = uppers; premiums = premiums }
     (schemeIn version1 bytes)
 unfolding schemeOf
-made bytes r l u p = rw (r, l, u, upper-places bytes (7 + classesIn bytes * columnsIn bytes) (columnsIn bytes), p)
+made bytes r l u p = rw (r, l, u, upper-places bytes (HEADER + classesIn bytes * columnsIn bytes) (columnsIn bytes), p)
 
 shared-slice-read-classes : tie.Need-shared-slice-read-classes
 shared-slice-read-classes c = search needs
@@ -58,36 +58,60 @@ cast-m : tie.Need-cast-m
 cast-m c = search needs
 
 mul-bands : tie.Need-mul-bands
-mul-bands c = omega (arith, places c)
+mul-bands c = omega (arith, places (c .before))
 
 add-bands : tie.Need-add-bands
-add-bands c = omega (arith, places c)
+add-bands c = omega (arith, places (c .before))
 
 rules-requires : tie.Need-rules-requires
-rules-requires c κs = omega (arith, places c)
+rules-requires c κs = omega (arith, places (c .before))
 
-ends-requires : tie.Need-ends-requires
-ends-requires c κs = omega (arith, places (c .before))
+slice-aggregate-read-numbers : tie.Need-slice-aggregate-read-numbers
+slice-aggregate-read-numbers c = refl
 
-add-ends : tie.Need-add-ends
-add-ends c = omega (arith, places (c .before .before))
+read-numbers-requires : tie.Need-read-numbers-requires
+read-numbers-requires c κs = let room = places (c .before .before .before) in (omega arith, omega arith, omega arith, refl)
 
-ends-requires-2 : tie.Need-ends-requires-2
-ends-requires-2 c κs = omega (arith, places (c .before .before))
+add-read-numbers : tie.Need-add-read-numbers
+add-read-numbers c = let at-lowers = c .before .before in omega (arith, places (at-lowers .before .before .before))
 
-mul-premiums : tie.Need-mul-premiums
-mul-premiums c = search needs
+slice-aggregate-read-numbers-2 : tie.Need-slice-aggregate-read-numbers-2
+slice-aggregate-read-numbers-2 c = refl
 
-add-premiums : tie.Need-add-premiums
-add-premiums c = omega (arith, places (c .before .before .before))
+read-numbers-requires-2 : tie.Need-read-numbers-requires-2
+read-numbers-requires-2 c κs =
+    let at-lowers = c .before .before .before in
+    let room = places (at-lowers .before .before .before) in
+    (omega arith, omega arith, omega arith, refl)
 
-premiums-requires : tie.Need-premiums-requires
-premiums-requires c κs = omega (arith, places (c .before .before .before))
+mul-read-numbers : tie.Need-mul-read-numbers
+mul-read-numbers c = search needs
+
+add-read-numbers-2 : tie.Need-add-read-numbers-2
+add-read-numbers-2 c =
+    let at-uppers = c .before .before in
+    let at-lowers = at-uppers .before .before .before in
+    omega (arith, places (at-lowers .before .before .before))
+
+slice-aggregate-read-numbers-3 : tie.Need-slice-aggregate-read-numbers-3
+slice-aggregate-read-numbers-3 c = refl
+
+read-numbers-requires-3 : tie.Need-read-numbers-requires-3
+read-numbers-requires-3 c κs =
+    let at-uppers = c .before .before .before in
+    let at-lowers = at-uppers .before .before .before in
+    let room = places (at-lowers .before .before .before) in
+    (omega arith, omega arith, omega arith, refl)
 
 returns : tie.Need-returns
 returns c =
-    made (c .before .before .before .before .before .before .before .before .before .args .bytes .now)
-    (c .before .before .before .rules .ensures) (c .before .before .ends .ensures) (c .before .ends2 .ensures) (c .premiums .ensures)
+    let at-premiums = c .before .before in
+    let at-uppers = at-premiums .before .before .before in
+    let at-lowers = at-uppers .before .before .before in
+    let at-places = at-lowers .before .before .before in
+    made (at-places .before .before .before .before .args .bytes .now)
+    (at-lowers .before .rules .ensures) (at-uppers .before .before .read-numbers .ensures) (at-premiums .before .before .read-numbers2 .ensures)
+    (c .before .read-numbers3 .ensures)
 
 pub parsed-spec : {M : Type 1} → statement M
 parsed-spec =
@@ -102,10 +126,13 @@ parsed-spec =
     mul-bands
     add-bands
     rules-requires
-    ends-requires
-    add-ends
-    ends-requires-2
-    mul-premiums
-    add-premiums
-    premiums-requires
+    slice-aggregate-read-numbers
+    read-numbers-requires
+    add-read-numbers
+    slice-aggregate-read-numbers-2
+    read-numbers-requires-2
+    mul-read-numbers
+    add-read-numbers-2
+    slice-aggregate-read-numbers-3
+    read-numbers-requires-3
     returns)

@@ -52,8 +52,9 @@ loop-less c = omega arith
 
 loop-again : tie.Need-loop-again Inv-loop μ-loop
 loop-again c =
-    let start = c .before .before .before .before .before .before .args in
-    let turn = c .before .before .before .before .loop in
+    let at-loop = c .before .before .before .before in
+    let start = at-loop .before .before .args in
+    let turn = at-loop .loop in
     let here : turn .at ≡ start .from + turn .i * start .m = turn .inv .1 in
     let to : turn .to ≡ turn .i * 8 = turn .inv .2 in
     let size : length (turn .rules) ≡ 256 = rw (turn .inv .3) (length-tab 256 _) in (

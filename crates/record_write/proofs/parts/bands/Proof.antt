@@ -41,7 +41,7 @@ put-band-requires : tie.Need-put-band-requires Inv-loop μ-loop
 put-band-requires c κs = omega (arith, size (c .before .before .before .before))
 
 add-to : tie.Need-add-to Inv-loop μ-loop
-add-to c = omega (arith, size (c .before .before .before .before .before .before .before))
+add-to c = let at-put = c .before .before .before in omega (arith, size (at-put .before .before .before .before))
 
 add-k : tie.Need-add-k Inv-loop μ-loop
 add-k c = omega arith
@@ -51,8 +51,10 @@ loop-less c = omega arith
 
 loop-again : tie.Need-loop-again Inv-loop μ-loop
 loop-again c =
-    let start = c .before .before .before .before .before .before .before .before .before .args in
-    let turn = c .before .before .before .before .before .before .before .loop in (
+    let at-put = c .before .before .before in
+    let at-loop = at-put .before .before .before .before in
+    let start = at-loop .before .before .args in
+    let turn = at-loop .loop in (
       omega arith,
       omega arith,
       c .before .before .put-band .ensures ∙ rw (turn .inv .2, turn .inv .1) (join-more 8 _ (start .out .now) (start .from) (turn .k) (λ j lt. length-band _ _)),

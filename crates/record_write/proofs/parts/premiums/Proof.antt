@@ -26,17 +26,17 @@ size c = rw (c .loop .inv .2) (simp length-sets)
 loop-holds : tie.Need-loop-holds Inv-loop μ-loop
 loop-holds c = (omega arith, omega arith, join-none _ _ _)
 
-mul-put4 : tie.Need-mul-put4 Inv-loop μ-loop
-mul-put4 c = omega arith
+mul-put-number : tie.Need-mul-put-number Inv-loop μ-loop
+mul-put-number c = omega arith
 
-element-copy-out-put4 : tie.Need-element-copy-out-put4 Inv-loop μ-loop
-element-copy-out-put4 c = omega arith
+element-copy-out-put-number : tie.Need-element-copy-out-put-number Inv-loop μ-loop
+element-copy-out-put-number c = omega arith
 
-put4-requires : tie.Need-put4-requires Inv-loop μ-loop
-put4-requires c κs = search needs
+put-number-requires : tie.Need-put-number-requires Inv-loop μ-loop
+put-number-requires c κs = search needs
 
 add-to : tie.Need-add-to Inv-loop μ-loop
-add-to c = omega (arith, size (c .before .before .before .before .before .before))
+add-to c = let at-put = c .before .before in omega (arith, size (at-put .before .before .before .before))
 
 add-j : tie.Need-add-j Inv-loop μ-loop
 add-j c = omega arith
@@ -46,11 +46,13 @@ loop-less c = omega arith
 
 loop-again : tie.Need-loop-again Inv-loop μ-loop
 loop-again c =
-    let start = c .before .before .before .before .before .before .before .before .args in
-    let turn = c .before .before .before .before .before .before .loop in (
+    let at-put = c .before .before in
+    let at-loop = at-put .before .before .before .before in
+    let start = at-loop .before .before .args in
+    let turn = at-loop .loop in (
       omega arith,
       omega arith,
-      c .before .before .put4 .ensures ∙ put-held 4 (turn .out) (turn .to) _ (omega (arith, size (c .before .before .before .before .before .before)))
+      at-put .put-number .ensures ∙ put-held 4 (turn .out) (turn .to) _ (omega (arith, size at-loop))
           ∙ rw (turn .inv .2, turn .inv .1) (join-more 4 _ (start .out .now) (start .from) (turn .j) (λ i lt. length-beBytes 4 _)),
     )
 
@@ -67,9 +69,9 @@ premiums-spec =
     Inv-loop
     μ-loop
     loop-holds
-    mul-put4
-    element-copy-out-put4
-    put4-requires
+    mul-put-number
+    element-copy-out-put-number
+    put-number-requires
     add-to
     add-j
     loop-less

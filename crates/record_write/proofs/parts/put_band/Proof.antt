@@ -6,22 +6,25 @@ use borrow.Author.Needs.{needs}
 use Rattle.record_write.proofs.parts.put_band.Statement.{statement}
 use Rattle.record_write.proofs.parts.put_band.Tie as tie
 
-put4-requires : tie.Need-put4-requires
-put4-requires c κs = search needs
+put-number-requires : tie.Need-put-number-requires
+put-number-requires c κs = search needs
 
-add-put4 : tie.Need-add-put4
-add-put4 c = search needs
+add-put-number : tie.Need-add-put-number
+add-put-number c = search needs
 
-put4-requires-2 : tie.Need-put4-requires-2
-put4-requires-2 c κs = search needs
+put-number-requires-2 : tie.Need-put-number-requires-2
+put-number-requires-2 c κs = search needs
 
 same-length : tie.Need-same-length
 same-length c = search needs
 
 returns : tie.Need-returns
 returns c =
-    let start = c .before .before .before .before .before .before .before .before .before .args in
-    c .before .before .put42 .ensures ∙ rw (c .before .before .before .before .before .before .put4 .ensures) (put-band (start .out .now) (start .at) (start .lower) (start .upper) (omega arith))
+    let at-upper = c .before .before in
+    let at-lower = at-upper .before .before .before .before in
+    let start = at-lower .before .before .before .args in
+    at-upper .put-number2 .ensures
+    ∙ rw (at-lower .put-number .ensures) (put-band (start .out .now) (start .at) (start .lower) (start .upper) (omega arith))
 
 pub put-band-spec : {M : Type 1} → statement M
-put-band-spec = tie.close (tie.spec put4-requires add-put4 put4-requires-2 same-length returns)
+put-band-spec = tie.close (tie.spec put-number-requires add-put-number put-number-requires-2 same-length returns)

@@ -43,7 +43,10 @@ add-at : tie.Need-add-at Inv-loop μ-loop
 add-at c = omega arith
 
 add-to : tie.Need-add-to Inv-loop μ-loop
-add-to c = omega (arith, size (c .before .before .before .before .before .before), room (c .before .before .before .before .before))
+add-to c =
+    let at-copy = c .before .before in
+    let in-loop = at-copy .before .before .before in
+    omega (arith, size (in-loop .before), room in-loop)
 
 add-i : tie.Need-add-i Inv-loop μ-loop
 add-i c = omega arith
@@ -53,13 +56,15 @@ loop-less c = omega arith
 
 loop-again : tie.Need-loop-again Inv-loop μ-loop
 loop-again c =
-    let start = c .before .before .before .before .before .before .before .before .args in
-    let turn = c .before .before .before .before .before .before .loop in (
+    let at-copy = c .before .before in
+    let in-loop = at-copy .before .before .before in
+    let start = in-loop .before .before .before .args in
+    let turn = in-loop .before .loop in (
       omega arith,
       omega arith,
       omega arith,
-      c .before .before .copy .ensures
-          ∙ part-held (start .m) (start .rules .now) (turn .at) (turn .out) (turn .to) (omega arith) (omega (arith, size (c .before .before .before .before .before .before), room (c .before .before .before .before .before)))
+      at-copy .copy .ensures
+          ∙ part-held (start .m) (start .rules .now) (turn .at) (turn .out) (turn .to) (omega arith) (omega (arith, size (in-loop .before), room in-loop))
           ∙ rw (turn .inv .3, turn .inv .2, turn .inv .1, ← (tab-part (start .m) (turn .i * 8) (start .rules .now) (omega arith)))
           (join-more (start .m) _ (start .out .now) (start .from) (turn .i) (λ j lt. length-tab (start .m) _)),
     )

@@ -1,7 +1,7 @@
 -- `outside` meets its contract.
 use borrow.Author.Tests.{eq-eqb, ne-eqb}
-use Rattle.acceptance.proofs.tests.outside.Statement.{statement}
-use Rattle.acceptance.proofs.tests.outside.Tie as tie
+use Rattle.scheme.proofs.outside.Statement.{statement}
+use Rattle.scheme.proofs.outside.Tie as tie
 
 returns : tie.Need-returns
 returns c = simp (eq-eqb _ _ (c .if1 .taken))

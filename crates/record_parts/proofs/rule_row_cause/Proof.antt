@@ -1,13 +1,13 @@
--- `row_cause` meets its contract: the bytes' cause, or the class's.
+-- `rule_row_cause` meets its contract: the bytes' cause, or the class's.
 use mathlib.Core.Path.{_≡_, ap, sym, _∙_}
 use mathlib.Core.Bool.{cond}
 use native.Mathlib.Omega.{arith}
 use Rattle.record_spec.specs.Read.{readCause}
 use Rattle.record_spec.specs.Laws.Read.{read-framed}
-use Rattle.record_parts.specs.RuleRowLaws.{row-read, row-next}
+use Rattle.record_parts.specs.Laws.RuleRow.{row-read, row-next}
 use borrow.Author.Needs.{needs}
-use Rattle.record_parts.proofs.row_cause.Statement.{statement}
-use Rattle.record_parts.proofs.row_cause.Tie as tie
+use Rattle.record_parts.proofs.rule_row_cause.Statement.{statement}
+use Rattle.record_parts.proofs.rule_row_cause.Tie as tie
 
 cause-requires : tie.Need-cause-requires
 cause-requires c κs = search needs
@@ -26,16 +26,18 @@ class-out-requires c κs = search needs
 
 returns-2 : tie.Need-returns-2
 returns-2 c =
-    row-next _ (c .before .before .before .before .before .before .args .class) (accepted (c .before .before .before))
+    let at-class = c .before .before .before in
+    row-next _ (at-class .before .before .before .args .class) (accepted at-class)
     (sym (ap (λ out. cond out 11 0) (sym (c .before .class-out .ensures) ∙ c .if2 .taken)))
 
 returns-3 : tie.Need-returns-3
 returns-3 c =
-    row-next _ (c .before .before .before .before .before .before .args .class) (accepted (c .before .before .before))
+    let at-class = c .before .before .before in
+    row-next _ (at-class .before .before .before .args .class) (accepted at-class)
     (sym (ap (λ out. cond out 11 0) (sym (c .before .class-out .ensures) ∙ c .if2 .left)))
 
-pub row-cause-spec : {M : Type 1} → statement M
-row-cause-spec =
+pub rule-row-cause-spec : {M : Type 1} → statement M
+rule-row-cause-spec =
     tie.close
     (tie.spec
     cause-requires
