@@ -2,9 +2,9 @@
 use crate::Bounds;
 use crate::entries::list_scheme;
 use crate::years::years;
-use scheme::Scheme;
 use order::number;
 use order::state;
+use scheme::Scheme;
 ghost use mathlib.Core.Path.{_≡_};
 ghost use Rattle.bounds.specs.Start.{Entered, Ready, startBounds, startFigure};
 

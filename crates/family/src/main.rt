@@ -3,8 +3,8 @@
 // describes the lines.
 use bounds::Bounds;
 use record_parts::Band;
-use scheme::Scheme;
 use record_write::WriteAnswer;
+use scheme::Scheme;
 
 // The most bytes of a record, and five more.
 const ROOM: usize = 460;

@@ -3,8 +3,8 @@ ghost use mathlib.Core.Path.{_≡_};
 ghost use Prim.Native.Nat.{_-_, _≤_};
 ghost use Rattle.scheme.specs.RowAnswer.{rowRefused};
 ghost use Rattle.rows.specs.Rows.{entriesOf, rowFrom};
-use scheme::RowAnswer;
 use crate::gather;
+use scheme::RowAnswer;
 
 // The lower or the upper entries of one class from its rules and their bands' ends, with 0 beyond s.
 pub fn entries(rules: &[u8], ends: &[u32], classes: u8) -> [u64; 32]

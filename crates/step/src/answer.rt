@@ -1,10 +1,10 @@
 // The public one-year step's parts (document 01, "One year" and "When a call is declined").
 use crate::StepAnswer;
 use crate::step::step;
-use rows::gather;
-use order::sort;
-use scheme::Scheme;
 use order::number;
+use order::sort;
+use rows::gather;
+use scheme::Scheme;
 ghost use mathlib.Core.Path.{_≡_};
 ghost use Prim.Native.Nat.{_≤_};
 ghost use lib.Dec.{ltb};

@@ -1,6 +1,6 @@
 // The fill: a row that starts from the lowers and gives the spare parts along an order of the classes.
-use rows::spare;
 use order::state;
+use rows::spare;
 ghost use mathlib.Core.Path.{_≡_};
 ghost use lib.ListN.{length};
 ghost use Rattle.step.specs.Fill.{Fillable, Filled, Pourable};

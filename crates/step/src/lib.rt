@@ -1,7 +1,7 @@
 // The one-year step of a class (document 01, "One year").
+use scheme::Scheme;
 pub use step_spec::MOST_PAYOFF;
 pub use step_spec::StepAnswer;
-use scheme::Scheme;
 ghost use mathlib.Core.Bool.{true, false};
 ghost use Rattle.step_spec.specs.StepAnswer.{StepAnswered};
 

@@ -85,10 +85,9 @@ returns : tie.Need-returns
 returns c =
     let at-walk = c .before .before .before .before .before in
     let at-sort = at-walk .before .before .before .before .before .before .before .before in
-    let start = at-sort .before .before .before .before .before in
-    (
+    let start = at-sort .before .before .before .before .before in (
       year-formed (start .pre) (fits start) (start .args .high) (at-sort .sort .ensures) (at-walk .walk .ensures)
-      (drop (length (start .args .gain .now)) zeros) _ (c .before .settle .ensures),
+          (drop (length (start .args .gain .now)) zeros) _ (c .before .settle .ensures),
       year-placed (start .pre) (fits start) (start .args .high) (at-sort .sort .ensures),
     )
 

@@ -36,8 +36,8 @@ loop-again : tie.Need-loop-again Inv-loop μ-loop
 loop-again c = (
   omega arith,
   rw (c .before .before .loop .inv .1)
-  (word-more (c .before .before .before .args .word .now) (c .before .before .before .args .out .now) (c .before .before .before .args .at)
-  (c .before .before .loop .k) (omega arith)),
+      (word-more (c .before .before .before .args .word .now) (c .before .before .before .args .out .now) (c .before .before .before .args .at)
+      (c .before .before .loop .k) (omega arith)),
 )
 
 add-result : tie.Need-add-result Inv-loop μ-loop

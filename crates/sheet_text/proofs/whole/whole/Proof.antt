@@ -29,11 +29,10 @@ scheme-line-requires c κs =
 all-years-requires : tie.Need-all-years-requires
 all-years-requires c κs =
     let at-scheme-line = c .before .before .before in
-    let start = at-scheme-line .before .before .before .before .before .before .before in
-    (
+    let start = at-scheme-line .before .before .before .before .before .before .before in (
       room-next (at-scheme-line .scheme-line .ensures)
-      (room-first (totalText (start .args .low .now) (start .args .high .now) (start .args .scheme .horizon + 1) (start .args .scheme .classes))
-      (sheet-room _ (start .pre .2) (start .pre .3) (start .pre .0))),
+          (room-first (totalText (start .args .low .now) (start .args .high .now) (start .args .scheme .horizon + 1) (start .args .scheme .classes))
+          (sheet-room _ (start .pre .2) (start .pre .3) (start .pre .0))),
       omega (arith, start .pre .1 .classes),
       omega (arith, table-size false (start .args .scheme) (start .pre .2)),
       omega (arith, table-size true (start .args .scheme) (start .pre .3)),

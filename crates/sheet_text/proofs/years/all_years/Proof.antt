@@ -21,13 +21,12 @@ loop-holds c = (omega arith, joined-none _ _ _)
 year-lines-requires : tie.Need-year-lines-requires Inv-loop μ-loop
 year-lines-requires c κs =
     let at-loop = c .before .before in
-    let start = at-loop .before .before .before .before in
-    (
-  joined-room (yearText (start .args .low .now) (start .args .high .now) (start .args .s)) (at-loop .loop .t) (start .args .n) (omega arith) (at-loop .loop .inv .1) (start .pre .0),
-  omega arith,
-  omega (arith, year-below (start .args .s) (start .args .n) (at-loop .loop .t) (omega arith)),
-  omega (arith, year-below (start .args .s) (start .args .n) (at-loop .loop .t) (omega arith)),
-)
+    let start = at-loop .before .before .before .before in (
+      joined-room (yearText (start .args .low .now) (start .args .high .now) (start .args .s)) (at-loop .loop .t) (start .args .n) (omega arith) (at-loop .loop .inv .1) (start .pre .0),
+      omega arith,
+      omega (arith, year-below (start .args .s) (start .args .n) (at-loop .loop .t) (omega arith)),
+      omega (arith, year-below (start .args .s) (start .args .n) (at-loop .loop .t) (omega arith)),
+    )
 
 add-t : tie.Need-add-t Inv-loop μ-loop
 add-t c = omega arith

@@ -1,0 +1,2 @@
+-- The rules by which a reader in a local is lent.
+pub mod Lending
