@@ -9,18 +9,18 @@ use Rattle.scheme.specs.declared.Scheme.{Scheme}
 use Rattle.scheme.specs.Accepted.{Accepted}
 use Rattle.scheme.specs.Rows.{chainOf}
 use Rattle.step.specs.Lists.{at}
-use Rattle.bounds.specs.Start.{Ready}
+use Rattle.bounds.specs.Start.{StartPre}
 use Rattle.bounds_spec.specs.Answers.{startOf}
 use Rattle.bounds_spec.specs.Table.{placeOf, tableSize}
 
 -- what a column of the start class's figures takes: a scheme that is ready, a place in a year's row, and a slice of the table's size
-pub record ColumnReady (s : Scheme) (gain payoff : List ℕ) (first : ℕ) (out : List ℕ) : Type 0 where
-  pub ready : Ready s gain payoff (s .horizon)
+pub record ColumnPre (s : Scheme) (gain payoff : List ℕ) (first : ℕ) (out : List ℕ) : Type 0 where
+  pub ready : StartPre s gain payoff (s .horizon)
   pub within : first ≤ s .classes
   pub size : length out ≡ tableSize s
 
 -- what a table takes: an accepted scheme, and a slice of its size
-pub record TableReady (s : Scheme) (out : List ℕ) : Type 0 where
+pub record WriteTablePre (s : Scheme) (out : List ℕ) : Type 0 where
   pub accepted : Accepted s
   pub size : length out ≡ tableSize s
 

@@ -1,7 +1,7 @@
 -- Read after crate `bounds_spec`, whose definitions the public contracts name, and crate `step`. These are of the private functions, in this order:
--- the entries of all rows, a walk along an order, a year, the start class's figures, columns of a table.
+-- the entries of all rows, the fill along an order, a year, the start class's figures, columns of a table.
 pub mod Entries
-pub mod Walk
+pub mod Fill
 pub mod Years
 pub mod Start
 pub mod Columns

@@ -12,19 +12,19 @@ use Rattle.bounds_spec.specs.declared.Bounds.{Bounds}
 use Rattle.bounds_spec.specs.declared.Bounds.the-variants.{Answered}
 use Rattle.step.specs.Lists.{at}
 use Rattle.setchain.specs.Laws.Agreeing.{Agree}
-use Rattle.bounds.specs.Entries.{listedRow, Held}
-use Rattle.bounds.specs.Years.{Roomy}
+use Rattle.bounds.specs.Entries.{listedRow, SoundTable}
+use Rattle.bounds.specs.Years.{Capacious}
 use Rattle.bounds_spec.specs.Answers.{startOf}
 
 -- the lists hold the interval rows of an accepted scheme
-pub record Entered (s : Scheme) (entries spare : List ℕ) : Type 0 where
-  pub held : Held (s .classes) entries spare
+pub record ListSchemePost (s : Scheme) (entries slack : List ℕ) : Type 0 where
+  pub held : SoundTable (s .classes) entries slack
   pub agrees : (i : ℕ) → i < s .classes → Agree (s .classes) (listedRow entries i) (chainOf s .row i)
 
--- an accepted scheme, with payoffs and gains that leave room for t years
-pub record Ready (s : Scheme) (gain payoff : List ℕ) (t : ℕ) : Type 0 where
+-- an accepted scheme, with payoffs and gains that fit for t years
+pub record StartPre (s : Scheme) (gain payoff : List ℕ) (t : ℕ) : Type 0 where
   pub accepted : Accepted s
-  pub roomy : Roomy (s .classes) gain payoff t
+  pub capacious : Capacious (s .classes) gain payoff t
 
 -- the start class's figure of t years
 abbrev pub startFigure : (high : Bool) → Scheme → List ℕ → List ℕ → ℕ → ℕ
@@ -35,10 +35,10 @@ abbrev pub startBounds : Scheme → List ℕ → List ℕ → ℕ → Bounds
 startBounds s gain payoff t = Answered (startFigure false s gain payoff t) (startFigure true s gain payoff t)
 
 -- the payoff of a class's share in an array of 32
-pub record ShareHeld (class : ℕ) (payoff : List ℕ) : Type 0 where
+pub record SharePayoffPost (class : ℕ) (payoff : List ℕ) : Type 0 where
   pub each : (i : ℕ) → i < 32 → at payoff i ≡ sharePayoff (class - 1) i
 
 -- what a sheet's numbers take: an accepted scheme, and a slice of s numbers
-pub record Sheeted (s : Scheme) (out : List ℕ) : Type 0 where
+pub record WriteSharesPre (s : Scheme) (out : List ℕ) : Type 0 where
   pub accepted : Accepted s
   pub size : length out ≡ s .classes

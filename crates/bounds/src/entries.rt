@@ -1,25 +1,25 @@
 // The entries of all interval rows, listed by the class that they lead to: a year then passes each of them once, along the order of the payoffs.
-// The list of state j stands from place j × 32 on, in one table: at e the state whose row has the entry of place e, at LOWS + e its lower end, at ROOMS + e the room from there to its upper end, and at COUNTS + j how many entries lead to state j.
-use rows::gather;
-use rows::spare;
+// The list of state j stands from place j × 32 on, in one table: at e the state whose row has the entry of place e, at LOWER_ENDS + e its lower end, at CAPACITIES + e the capacity from there to its upper end, and at COUNTS + j how many entries lead to state j.
+use rows::slack;
+use rows::sum_by_target;
 use scheme::Scheme;
 ghost use Rattle.scheme.specs.Accepted.{Accepted};
-ghost use Rattle.bounds.specs.Entries.{Addable, Added, Empty, Listable, Listed, RowListed, Storable};
-ghost use Rattle.bounds.specs.Start.{Entered};
+ghost use Rattle.bounds.specs.Entries.{AddRowPre, AddRowPost, Empty, ListRowPre, ListRowsPost, ListRowPost, ListRowsPre};
+ghost use Rattle.bounds.specs.Start.{ListSchemePost};
 
 // Where the lower ends begin.
-pub const LOWS: usize = 1024;
+pub const LOWER_ENDS: usize = 1024;
 
-// Where the rooms begin.
-pub const ROOMS: usize = 2048;
+// Where the capacities begin.
+pub const CAPACITIES: usize = 2048;
 
 // Where the counts begin.
 pub const COUNTS: usize = 3072;
 
 // Adds the entries of state i's row to the lists of the states that they lead to.
 fn add_row(lower: &[u64], upper: &[u64], i: usize, entries: &mut [u32; 3104])
-    requires { ⌜ Addable (now lower) (now upper) i (now entries) ⌝ }
-    ensures { λ _. ⌜ Added (now (lower .entry)) (now (upper .entry)) i (now (entries .entry)) (now (entries .exit)) ⌝ }
+    requires { ⌜ AddRowPre (now lower) (now upper) i (now entries) ⌝ }
+    ensures { λ _. ⌜ AddRowPost (now (lower .entry)) (now (upper .entry)) i (now (entries .entry)) (now (entries .exit)) ⌝ }
 {
     let mut j: usize = 0;
     while j < upper.len() {
@@ -29,8 +29,8 @@ fn add_row(lower: &[u64], upper: &[u64], i: usize, entries: &mut [u32; 3104])
             let count = entries[COUNTS + j];
             let place = j * 32 + count as usize;
             entries[place] = i as u32;
-            entries[LOWS + place] = low as u32;
-            entries[ROOMS + place] = (high - low) as u32;
+            entries[LOWER_ENDS + place] = low as u32;
+            entries[CAPACITIES + place] = (high - low) as u32;
             entries[COUNTS + j] = count + 1;
         }
         j += 1;
@@ -46,15 +46,15 @@ fn list_row(
     i: usize,
     entries: &mut [u32; 3104],
 ) -> u32
-    requires { ⌜ Listable (now rules) (now lowers) (now uppers) n i (now entries) ⌝ }
-    ensures { λ r. ⌜ RowListed (now (rules .entry)) (now (lowers .entry)) (now (uppers .entry)) n i (now (entries .entry)) (now (entries .exit)) r ⌝ }
+    requires { ⌜ ListRowPre (now rules) (now lowers) (now uppers) n i (now entries) ⌝ }
+    ensures { λ r. ⌜ ListRowPost (now (rules .entry)) (now (lowers .entry)) (now (uppers .entry)) n i (now (entries .entry)) (now (entries .exit)) r ⌝ }
 {
     let mut lower = [0u64; 32];
-    gather(rules, lowers, &mut lower[..n]);
+    sum_by_target(rules, lowers, &mut lower[..n]);
     let mut upper = [0u64; 32];
-    gather(rules, uppers, &mut upper[..n]);
+    sum_by_target(rules, uppers, &mut upper[..n]);
     add_row(&lower[..n], &upper[..n], i, entries);
-    spare(&lower[..n]) as u32
+    slack(&lower[..n]) as u32
 }
 
 // Lists the entries of all rows of n states, and writes the parts that each row's lowers leave.
@@ -64,30 +64,30 @@ fn list_rows(
     uppers: &[u32],
     n: usize,
     entries: &mut [u32; 3104],
-    spare: &mut [u32; 32],
+    slack: &mut [u32; 32],
 )
-    requires { ⌜ Storable n (now rules) (now lowers) (now uppers) (now entries) (now spare) ⌝ }
-    ensures { λ _. ⌜ Listed n (now (rules .entry)) (now (lowers .entry)) (now (uppers .entry)) (now (entries .exit)) (now (spare .exit)) ⌝ }
+    requires { ⌜ ListRowsPre n (now rules) (now lowers) (now uppers) (now entries) (now slack) ⌝ }
+    ensures { λ _. ⌜ ListRowsPost n (now (rules .entry)) (now (lowers .entry)) (now (uppers .entry)) (now (entries .exit)) (now (slack .exit)) ⌝ }
 {
     let m = lowers.len();
     let mut i: usize = 0;
     while i < n {
         let first = i * scheme::RULE_STRIDE;
         let end = first + m;
-        spare[i] = list_row(&rules[first..end], lowers, uppers, n, i, entries);
+        slack[i] = list_row(&rules[first..end], lowers, uppers, n, i, entries);
         i += 1;
     }
 }
 
 // Lists the entries of a scheme.
-pub fn list_scheme(scheme: Scheme, entries: &mut [u32; 3104], spare: &mut [u32; 32])
-    requires { ⌜ (Accepted scheme) × Empty (now entries) (now spare) ⌝ }
-    ensures { λ _. ⌜ Entered scheme (now (entries .exit)) (now (spare .exit)) ⌝ }
+pub fn list_scheme(scheme: Scheme, entries: &mut [u32; 3104], slack: &mut [u32; 32])
+    requires { ⌜ (Accepted scheme) × Empty (now entries) (now slack) ⌝ }
+    ensures { λ _. ⌜ ListSchemePost scheme (now (entries .exit)) (now (slack .exit)) ⌝ }
 {
     let rules = scheme.rules;
     let lowers = scheme.lowers;
     let uppers = scheme.uppers;
     let m = scheme.columns as usize;
     let n = scheme.classes as usize;
-    list_rows(&rules, &lowers[..m], &uppers[..m], n, entries, spare);
+    list_rows(&rules, &lowers[..m], &uppers[..m], n, entries, slack);
 }

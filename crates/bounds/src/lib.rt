@@ -62,7 +62,7 @@ pub fn total(scheme: Scheme, year: u64) -> Bounds
 // A year's share sheet: the low and the high share of each class, in parts. Returns the number of the cause, or 0.
 pub fn share_sheet(scheme: Scheme, year: u64, low: &mut [u64], high: &mut [u64]) -> u8
     ensures answer { λ r. ⌜ r ≡ sheetCause scheme year (now (low .entry)) (now (high .entry)) ⌝ }
-    ensures lows { λ r. ⌜ now (low .exit) ≡ sheetSlice r (lowShares scheme year) (now (low .entry)) ⌝ }
+    ensures lowerEnds { λ r. ⌜ now (low .exit) ≡ sheetSlice r (lowShares scheme year) (now (low .entry)) ⌝ }
     ensures highs { λ r. ⌜ now (high .exit) ≡ sheetSlice r (highShares scheme year) (now (high .entry)) ⌝ }
     ensures promise { λ r. ⌜ (SheetPromise scheme year r (now (low .exit)) (now (high .exit))) ⌝ }
 {
@@ -79,7 +79,7 @@ pub fn share_sheet(scheme: Scheme, year: u64, low: &mut [u64], high: &mut [u64])
 // Returns the number of the cause, or 0.
 pub fn figures(scheme: Scheme, low: &mut [u64], high: &mut [u64]) -> u8
     ensures answer { λ r. ⌜ r ≡ tableCause scheme (now (low .entry)) (now (high .entry)) ⌝ }
-    ensures lows { λ r. ⌜ now (low .exit) ≡ sheetSlice r (lowTable scheme) (now (low .entry)) ⌝ }
+    ensures lowerEnds { λ r. ⌜ now (low .exit) ≡ sheetSlice r (lowTable scheme) (now (low .entry)) ⌝ }
     ensures highs { λ r. ⌜ now (high .exit) ≡ sheetSlice r (highTable scheme) (now (high .entry)) ⌝ }
     ensures promise { λ r. ⌜ (FiguresPromise scheme r (now (low .exit)) (now (high .exit))) ⌝ }
 {

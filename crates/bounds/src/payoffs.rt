@@ -1,12 +1,12 @@
 // The payoffs of year 0 as figure vectors (document 01, "Years").
 ghost use mathlib.Core.Path.{_≡_};
 ghost use Prim.Native.Nat.{_≤_};
-ghost use Rattle.bounds.specs.Start.{ShareHeld};
+ghost use Rattle.bounds.specs.Start.{SharePayoffPost};
 
 // ONE at the class, 0 elsewhere.
 pub fn share_payoff(class: u64) -> [u64; 32]
     requires { ⌜ (1 ≤ class) × (class ≤ 32) ⌝ }
-    ensures { λ r. ⌜ ShareHeld class r ⌝ }
+    ensures { λ r. ⌜ SharePayoffPost class r ⌝ }
 {
     let mut payoff = [0u64; 32];
     let j = (class - 1) as usize;

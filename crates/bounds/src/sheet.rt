@@ -5,21 +5,21 @@ use crate::start::start_figure;
 use scheme::Scheme;
 ghost use mathlib.Core.Path.{_≡_};
 ghost use Rattle.bounds_spec.specs.Answers.{figureShares};
-ghost use Rattle.bounds.specs.Start.{Sheeted};
+ghost use Rattle.bounds.specs.Start.{WriteSharesPre};
 
 // Writes the low share of each class, or, where `high` is set, the high one.
 pub fn write_shares(scheme: Scheme, year: u64, high: bool, out: &mut [u64])
-    requires { ⌜ Sheeted scheme (now out) ⌝ }
+    requires { ⌜ WriteSharesPre scheme (now out) ⌝ }
     ensures { λ _. ⌜ now (out .exit) ≡ figureShares high scheme year ⌝ }
 {
     let mut entries = [0u32; 3104];
-    let mut spare = [0u32; 32];
-    list_scheme(scheme, &mut entries, &mut spare);
+    let mut slack = [0u32; 32];
+    list_scheme(scheme, &mut entries, &mut slack);
     let gain = [0u64; 32];
     let mut j: usize = 0;
     while j < out.len() {
         let payoff = share_payoff((j + 1) as u64);
-        out[j] = start_figure(scheme, &entries, &spare, gain, high, payoff, year);
+        out[j] = start_figure(scheme, &entries, &slack, gain, high, payoff, year);
         j += 1;
     }
 }

@@ -3,29 +3,29 @@ use crate::year::year;
 ghost use mathlib.Core.Path.{_≡_};
 ghost use Prim.Native.Nat.{_+_};
 ghost use lib.ListN.{length, set};
-ghost use Rattle.order.specs.Order.{Placed};
+ghost use Rattle.order.specs.Order.{Permutation};
 ghost use Rattle.bounds.specs.Entries.{chainListed};
-ghost use Rattle.bounds.specs.Years.{Formed, Ran, Runnable, Yearly};
+ghost use Rattle.bounds.specs.Years.{YearPost, YearsPost, YearsPre, YearPre};
 
 // One year more, in place.
 fn advance(
     entries: &[u32; 3104],
-    spare: &[u32; 32],
+    slack: &[u32; 32],
     gain: &[u64],
     high: bool,
     order: &mut [u8],
     figures: &mut [u64; 32],
 )
-    requires { ⌜ Yearly (now entries) (now spare) (now gain) (now order) (now figures) ⌝ }
-    ensures figures { λ _. ⌜ Formed (chainListed (length (now (gain .entry))) (now (entries .entry))) (now (gain .entry)) (now (figures .entry)) high (now (figures .exit)) ⌝ }
-    ensures order { λ _. ⌜ Placed (length (now (gain .entry))) (now (order .exit)) ⌝ }
+    requires { ⌜ YearPre (now entries) (now slack) (now gain) (now order) (now figures) ⌝ }
+    ensures figures { λ _. ⌜ YearPost (chainListed (length (now (gain .entry))) (now (entries .entry))) (now (gain .entry)) (now (figures .entry)) high (now (figures .exit)) ⌝ }
+    ensures order { λ _. ⌜ Permutation (length (now (gain .entry))) (now (order .exit)) ⌝ }
 {
     let before = *figures;
-    *figures = year(entries, spare, gain, high, order, before);
+    *figures = year(entries, slack, gain, high, order, before);
 }
 
 // Writes a figure at a place of the slice, where the slice has it.
-fn note(figure: u64, place: usize, out: &mut [u64])
+fn store_figure(figure: u64, place: usize, out: &mut [u64])
     ensures { λ _. ⌜ now (out .exit) ≡ set (now (out .entry)) place figure ⌝ }
 {
     if place < out.len() {
@@ -37,7 +37,7 @@ fn note(figure: u64, place: usize, out: &mut [u64])
 // Of each year u the state's figure is written at place u × stride, where the slice has it.
 pub fn years(
     entries: &[u32; 3104],
-    spare: &[u32; 32],
+    slack: &[u32; 32],
     gain: &[u64],
     high: bool,
     order: &mut [u8],
@@ -47,14 +47,14 @@ pub fn years(
     stride: usize,
     out: &mut [u64],
 )
-    requires { ⌜ Runnable (now entries) (now spare) (now gain) (now order) (now figures) t state stride ⌝ }
-    ensures { λ _. ⌜ Ran (now (entries .entry)) (now (gain .entry)) (now (figures .entry)) high t state stride (t + 1)
+    requires { ⌜ YearsPre (now entries) (now slack) (now gain) (now order) (now figures) t state stride ⌝ }
+    ensures { λ _. ⌜ YearsPost (now (entries .entry)) (now (gain .entry)) (now (figures .entry)) high t state stride (t + 1)
         (now (order .exit)) (now (figures .exit)) (now (out .entry)) (now (out .exit)) ⌝ }
 {
     if t != 0 {
         years(
             entries,
-            spare,
+            slack,
             gain,
             high,
             order,
@@ -66,10 +66,10 @@ pub fn years(
         );
         // Low figures feed the low step, high figures the high step. Two calls: with one alone the compiler lays a whole year into every frame.
         if high {
-            advance(entries, spare, gain, true, order, figures);
+            advance(entries, slack, gain, true, order, figures);
         } else {
-            advance(entries, spare, gain, false, order, figures);
+            advance(entries, slack, gain, false, order, figures);
         }
     }
-    note(figures[state], t * stride, out);
+    store_figure(figures[state], t * stride, out);
 }

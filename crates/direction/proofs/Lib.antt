@@ -1,2 +1,2 @@
 -- Laws of the flag, which the functions' proofs cite.
-pub mod Telling
+pub mod RoundingLaws

@@ -1,6 +1,6 @@
 -- Laws over plain lists, which the functions' proofs cite.
-pub mod Paying
-pub mod Shifting
-pub mod Comparing
-pub mod Ending
-pub mod Numbering
+pub mod PayoffLaws
+pub mod InsertLaws
+pub mod InOrderLaws
+pub mod SortLaws
+pub mod StateLaws

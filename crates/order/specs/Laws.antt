@@ -1,5 +1,5 @@
 -- The laws that proofs use in place of the definitions' text.
-pub mod Writing
+pub mod Written
 pub mod Numbers
-pub mod Sinking
-pub mod Arranging
+pub mod Insertion
+pub mod Permutations

@@ -1,6 +1,6 @@
 -- The laws that proofs use in place of the definitions' text.
 pub mod Clear
-pub mod Raising
+pub mod AddToTarget
 pub mod SumByTarget
 pub mod Entries
-pub mod Copying
+pub mod Copy

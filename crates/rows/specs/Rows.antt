@@ -7,11 +7,11 @@ use lib.ListN.{length, take, drop}
 use Rattle.setchain.specs.Sums.{onlyIf}
 use Rattle.scheme.specs.declared.RowAnswer.{RowAnswer}
 use Rattle.scheme.specs.Tables.{tab}
-use Rattle.scheme.specs.Gathered.{gathered}
+use Rattle.scheme.specs.SumByTarget.{sumByTarget}
 
 -- the entries of 32 classes that some rules make with their bands' ends: 0 beyond s
 unfoldable pub entriesOf : List ℕ → List ℕ → ℕ → List ℕ
-entriesOf rules ends classes = tab 32 (λ j. onlyIf (ltb j classes) (gathered rules ends j))
+entriesOf rules ends classes = tab 32 (λ j. onlyIf (ltb j classes) (sumByTarget rules ends j))
 
 -- the row of class i + 1 that the code makes of a scheme's parts
 abbrev pub rowFrom : List ℕ → List ℕ → List ℕ → ℕ → ℕ → ℕ → RowAnswer

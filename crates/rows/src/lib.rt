@@ -8,7 +8,7 @@ ghost use lib.ListN.{length, replicate};
 ghost use Rattle.setchain.specs.Rows.{ONE};
 ghost use Rattle.rows.specs.Rows.{copiedInto};
 ghost use Rattle.scheme.specs.Tables.{tab};
-ghost use Rattle.scheme.specs.Gathered.{gathered, raised, spareOf, Capped};
+ghost use Rattle.scheme.specs.SumByTarget.{sumByTarget, addedToTarget, slackOf, Capped};
 
 mod rows;
 
@@ -44,10 +44,10 @@ fn add_capped(a: u64, b: u32) -> u64
     }
 }
 
-// the entry of the class that a rule leads to, raised by the end of its band
-fn raise(out: &mut [u64], rule: u8, end: u32)
+// the entry of the class that a rule leads to, with the end of its band added
+fn add_to_target(out: &mut [u64], rule: u8, end: u32)
     requires { ⌜ Capped (now out) ⌝ }
-    ensures { λ r. ⌜ now (out .exit) ≡ raised (now (out .entry)) rule end ⌝ }
+    ensures { λ r. ⌜ now (out .exit) ≡ addedToTarget (now (out .entry)) rule end ⌝ }
 {
     let class = rule as usize;
     if class == 0 {
@@ -79,14 +79,14 @@ fn shorter(a: usize, b: usize) -> usize
 }
 
 // For each class, what the bands of the cells that lead to it come to, at most ONE.
-pub fn gather(rules: &[u8], band: &[u32], out: &mut [u64])
-    ensures { λ r. ⌜ now (out .exit) ≡ tab (length (now (out .entry))) (gathered (now (rules .entry)) (now (band .entry))) ⌝ }
+pub fn sum_by_target(rules: &[u8], band: &[u32], out: &mut [u64])
+    ensures { λ r. ⌜ now (out .exit) ≡ tab (length (now (out .entry))) (sumByTarget (now (rules .entry)) (now (band .entry))) ⌝ }
 {
     clear(out);
     let n = shorter(rules.len(), band.len());
     let mut k: usize = 0;
     while k < n {
-        raise(out, rules[k], band[k]);
+        add_to_target(out, rules[k], band[k]);
         k += 1;
     }
 }
@@ -99,8 +99,8 @@ fn less(a: u64, b: u64) -> u64
 }
 
 // The parts of ONE that the lower entries of a row leave; none where they come to more.
-pub fn spare(lower: &[u64]) -> u64
-    ensures { λ r. ⌜ r ≡ spareOf (now (lower .entry)) ⌝ }
+pub fn slack(lower: &[u64]) -> u64
+    ensures { λ r. ⌜ r ≡ slackOf (now (lower .entry)) ⌝ }
 {
     let mut left = setchain::ONE;
     let mut i: usize = 0;

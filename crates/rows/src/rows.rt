@@ -3,7 +3,7 @@ ghost use mathlib.Core.Path.{_≡_};
 ghost use Prim.Native.Nat.{_-_, _≤_};
 ghost use Rattle.scheme.specs.RowAnswer.{rowRefused};
 ghost use Rattle.rows.specs.Rows.{entriesOf, rowFrom};
-use crate::gather;
+use crate::sum_by_target;
 use scheme::RowAnswer;
 
 // The lower or the upper entries of one class from its rules and their bands' ends, with 0 beyond s.
@@ -13,7 +13,7 @@ pub fn entries(rules: &[u8], ends: &[u32], classes: u8) -> [u64; 32]
 {
     let n = classes as usize;
     let mut out = [0u64; 32];
-    gather(rules, ends, &mut out[..n]);
+    sum_by_target(rules, ends, &mut out[..n]);
     out
 }
 

@@ -8,12 +8,12 @@ pub mod Cause
 pub mod Stages
 pub mod Rows
 pub mod RowAnswer
-pub mod Gathered
+pub mod SumByTarget
 pub mod Stored
 pub mod Values
 pub mod Examples
 pub mod RowExamples
-pub mod GatheredExamples
+pub mod SumByTargetExamples
 pub mod BeyondExamples
 pub mod Laws
 pub mod Ignored

@@ -1,3 +1,3 @@
 -- Laws over plain lists, which the functions' proofs cite.
-pub mod Solving
-pub mod AnsweringStep
+pub mod SolveLaws
+pub mod AnswerLaws

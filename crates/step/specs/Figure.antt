@@ -12,12 +12,12 @@ abbrev pub LARGEST : ℕ
 LARGEST = 10000000000
 
 -- a row of parts and a payoff whose sum of part times payoff fits
-pub record Weighable (row payoff : List ℕ) : Type 0 where
+pub record WeighPre (row payoff : List ℕ) : Type 0 where
   pub size : length payoff ≡ length row
   pub sums : sumTo (length row) (at row) ≡ ONE
   pub small : (j : ℕ) → j < length row → at payoff j ≤ LARGEST
 
 -- the sum of part times payoff, and that it fits
-pub record Weighed (row payoff : List ℕ) (r : ℕ) : Type 0 where
+pub record WeighPost (row payoff : List ℕ) (r : ℕ) : Type 0 where
   pub is : r ≡ dot (length row) (at row) (at payoff)
   pub fits : r ≤ LARGEST * ONE

@@ -1,4 +1,4 @@
 -- The laws of rows, fills and figures, for the step's proofs and the years'.
-pub mod Summing
-pub mod Filling
-pub mod Reaching
+pub mod Sums
+pub mod Fill
+pub mod Extreme

@@ -7,28 +7,28 @@ use lib.ListN.{length, take, drop}
 use Rattle.setchain.specs.Rows.{IntervalRow, SoundRow}
 use Rattle.setchain.specs.Step.{Reaches}
 use Rattle.step_spec.specs.declared.StepAnswer.{StepAnswer}
-use Rattle.step.specs.Lists.{at, gatheredRow}
+use Rattle.step.specs.Lists.{at, rulesRow}
 use Rattle.step.specs.Figure.{LARGEST}
 
 -- the interval row of a class from a scheme's parts
 abbrev pub rowFromParts : List ℕ → List ℕ → List ℕ → ℕ → ℕ → IntervalRow
 rowFromParts rules lowers uppers columns class =
-    gatheredRow (take columns (drop ((class - 1) * 8) rules)) (take columns lowers) (take columns uppers)
+    rulesRow (take columns (drop ((class - 1) * 8) rules)) (take columns lowers) (take columns uppers)
 
--- at most 32 payoffs, none too large, a sound row, and room for the parts
-pub record Solvable (rules lowers uppers payoff row : List ℕ) : Type 0 where
+-- at most 32 payoffs, none too large, a sound row, and space for the parts
+pub record SolvePre (rules lowers uppers payoff row : List ℕ) : Type 0 where
   pub rows : length row ≡ length payoff
   pub few : length payoff ≤ 32
-  pub sound : SoundRow (length payoff) (gatheredRow rules lowers uppers)
+  pub sound : SoundRow (length payoff) (rulesRow rules lowers uppers)
   pub small : (j : ℕ) → j < length payoff → at payoff j ≤ LARGEST
 
 -- the figure r, and a row that reaches it
-pub record Solved (rules lowers uppers payoff : List ℕ) (high : Bool) (row : List ℕ) (r : ℕ) : Type 0 where
+pub record SolvePost (rules lowers uppers payoff : List ℕ) (high : Bool) (row : List ℕ) (r : ℕ) : Type 0 where
   pub size : length row ≡ length payoff
-  pub reaches : Reaches high (length payoff) (gatheredRow rules lowers uppers) (at payoff) (at row) r
+  pub reaches : Reaches high (length payoff) (rulesRow rules lowers uppers) (at payoff) (at row) r
 
 -- a class of a scheme that has no cause, by the scheme's parts
-pub record Answerable (rules lowers uppers payoff : List ℕ) (columns classes class : ℕ) : Type 0 where
+pub record AnsweredPre (rules lowers uppers payoff : List ℕ) (columns classes class : ℕ) : Type 0 where
   pub positive : 1 ≤ class
   pub within : class ≤ classes
   pub fewClasses : classes ≤ 32
@@ -37,7 +37,7 @@ pub record Answerable (rules lowers uppers payoff : List ℕ) (columns classes c
   pub small : (j : ℕ) → j < classes → at payoff j ≤ LARGEST
 
 -- the answer that is made of it
-pub record Made (rules lowers uppers payoff : List ℕ) (columns classes class : ℕ) (high : Bool) (r : StepAnswer) : Type 0 where
+pub record AnsweredPost (rules lowers uppers payoff : List ℕ) (columns classes class : ℕ) (high : Bool) (r : StepAnswer) : Type 0 where
   pub number : r .number ≡ 0
   pub size : length (r .row) ≡ 32
   pub beyond : (j : ℕ) → classes ≤ j → at (r .row) j ≡ 0

@@ -6,20 +6,20 @@ use mathlib.Core.List.{List}
 use lib.ListN.{length}
 use Rattle.setchain.specs.Rows.{SoundRow}
 use Rattle.setchain.specs.Step.{Reaches}
-use Rattle.order.specs.Order.{Arranged}
+use Rattle.order.specs.Order.{SortedPermutation}
 use Rattle.step.specs.Lists.{at, rowIn}
 use Rattle.step.specs.Figure.{LARGEST}
 
 -- lists of one length, a sound row, payoffs that are not too large, and an order of the classes by payoff
-pub record Steppable (lower upper payoff order : List ℕ) (high : Bool) (row : List ℕ) : Type 0 where
+pub record StepPre (lower upper payoff order : List ℕ) (high : Bool) (row : List ℕ) : Type 0 where
   pub uppers : length upper ≡ length lower
   pub payoffs : length payoff ≡ length lower
   pub rows : length row ≡ length lower
   pub sound : SoundRow (length lower) (rowIn lower upper)
   pub small : (j : ℕ) → j < length lower → at payoff j ≤ LARGEST
-  pub arranged : Arranged payoff high order
+  pub sorted : SortedPermutation payoff high order
 
 -- the row is one that reaches the figure r
-pub record Stepped (lower upper payoff : List ℕ) (high : Bool) (row : List ℕ) (r : ℕ) : Type 0 where
+pub record StepPost (lower upper payoff : List ℕ) (high : Bool) (row : List ℕ) (r : ℕ) : Type 0 where
   pub size : length row ≡ length lower
   pub reaches : Reaches high (length lower) (rowIn lower upper) (at payoff) (at row) r

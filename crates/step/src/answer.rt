@@ -1,18 +1,18 @@
 // The public one-year step's parts (document 01, "One year" and "When a call is declined").
 use crate::StepAnswer;
 use crate::step::step;
-use order::number;
+use order::identity_order;
 use order::sort;
-use rows::gather;
+use rows::sum_by_target;
 use scheme::Scheme;
 ghost use mathlib.Core.Path.{_≡_};
 ghost use Prim.Native.Nat.{_≤_};
 ghost use lib.Dec.{ltb};
 ghost use lib.ListN.{length};
-ghost use Rattle.order.specs.Order.{Arranged};
+ghost use Rattle.order.specs.Order.{SortedPermutation};
 ghost use Rattle.scheme.specs.Tables.{anyBelow};
 ghost use Rattle.step.specs.Lists.{at};
-ghost use Rattle.step.specs.Solve.{Answerable, Made, Solvable, Solved};
+ghost use Rattle.step.specs.Solve.{AnsweredPre, AnsweredPost, SolvePre, SolvePost};
 ghost use Rattle.step_spec.specs.StepAnswer.{StepAnswered, stepCause};
 
 // Whether some class's payoff is above 1,000,000,000.
@@ -49,11 +49,11 @@ fn cause(scheme: Scheme, payoff: [u64; 32], class: u64) -> u8
 }
 
 // Puts all classes in the order of their payoffs.
-fn arrange(payoff: &[u64], high: bool, order: &mut [u8])
+fn sort_classes(payoff: &[u64], high: bool, order: &mut [u8])
     requires { ⌜ (length (now order) ≡ length (now payoff)) × (length (now payoff) ≤ 128) ⌝ }
-    ensures { λ _. ⌜ Arranged (now (payoff .entry)) high (now (order .exit)) ⌝ }
+    ensures { λ _. ⌜ SortedPermutation (now (payoff .entry)) high (now (order .exit)) ⌝ }
 {
-    number(order);
+    identity_order(order);
     sort(payoff, high, order);
 }
 
@@ -66,16 +66,16 @@ fn solve(
     high: bool,
     row: &mut [u64],
 ) -> u64
-    requires { ⌜ Solvable (now rules) (now lowers) (now uppers) (now payoff) (now row) ⌝ }
-    ensures { λ r. ⌜ Solved (now (rules .entry)) (now (lowers .entry)) (now (uppers .entry)) (now (payoff .entry)) high (now (row .exit)) r ⌝ }
+    requires { ⌜ SolvePre (now rules) (now lowers) (now uppers) (now payoff) (now row) ⌝ }
+    ensures { λ r. ⌜ SolvePost (now (rules .entry)) (now (lowers .entry)) (now (uppers .entry)) (now (payoff .entry)) high (now (row .exit)) r ⌝ }
 {
     let n = payoff.len();
     let mut lower = [0u64; 32];
-    gather(rules, lowers, &mut lower[..n]);
+    sum_by_target(rules, lowers, &mut lower[..n]);
     let mut upper = [0u64; 32];
-    gather(rules, uppers, &mut upper[..n]);
+    sum_by_target(rules, uppers, &mut upper[..n]);
     let mut order = [0u8; 32];
-    arrange(payoff, high, &mut order[..n]);
+    sort_classes(payoff, high, &mut order[..n]);
     step(&lower[..n], &upper[..n], payoff, &order[..n], high, row)
 }
 
@@ -90,8 +90,8 @@ fn answered(
     class: u64,
     high: bool,
 ) -> StepAnswer
-    requires { ⌜ Answerable rules lowers uppers payoff columns classes class ⌝ }
-    ensures { λ r. ⌜ Made rules lowers uppers payoff columns classes class high r ⌝ }
+    requires { ⌜ AnsweredPre rules lowers uppers payoff columns classes class ⌝ }
+    ensures { λ r. ⌜ AnsweredPost rules lowers uppers payoff columns classes class high r ⌝ }
 {
     let m = columns as usize;
     let n = classes as usize;

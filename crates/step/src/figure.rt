@@ -5,12 +5,12 @@ ghost use lib.ListN.{length};
 ghost use Rattle.setchain.specs.Step.{rounded};
 ghost use Rattle.setchain.specs.Sums.{dot};
 ghost use Rattle.step.specs.Lists.{at};
-ghost use Rattle.step.specs.Figure.{Weighable, Weighed};
+ghost use Rattle.step.specs.Figure.{WeighPre, WeighPost};
 
 // The sum of part times payoff.
 fn weigh(row: &[u64], payoff: &[u64]) -> u64
-    requires { ⌜ Weighable (now row) (now payoff) ⌝ }
-    ensures { λ r. ⌜ Weighed (now (row .entry)) (now (payoff .entry)) r ⌝ }
+    requires { ⌜ WeighPre (now row) (now payoff) ⌝ }
+    ensures { λ r. ⌜ WeighPost (now (row .entry)) (now (payoff .entry)) r ⌝ }
 {
     let mut sum: u64 = 0;
     let mut j = 0;
@@ -23,7 +23,7 @@ fn weigh(row: &[u64], payoff: &[u64]) -> u64
 
 // The row's figure: rounded down for a low figure, up for a high one.
 pub fn figure(row: &[u64], payoff: &[u64], high: bool) -> u64
-    requires { ⌜ Weighable (now row) (now payoff) ⌝ }
+    requires { ⌜ WeighPre (now row) (now payoff) ⌝ }
     ensures { λ r. ⌜ r ≡ rounded high (dot (length (now (row .entry))) (at (now (row .entry))) (at (now (payoff .entry)))) ⌝ }
 {
     direction::round(weigh(row, payoff), high)

@@ -1,7 +1,7 @@
 // The one-year step of one state over slices (document 01, "One year").
 use crate::figure::figure;
 use crate::fill::fill;
-ghost use Rattle.step.specs.Step.{Steppable, Stepped};
+ghost use Rattle.step.specs.Step.{StepPre, StepPost};
 
 // The low figure, or, where `high` is set, the high one, and in `row` a row inside the interval that reaches it.
 pub fn step(
@@ -12,8 +12,8 @@ pub fn step(
     high: bool,
     row: &mut [u64],
 ) -> u64
-    requires { ⌜ Steppable (now lower) (now upper) (now payoff) (now order) high (now row) ⌝ }
-    ensures { λ r. ⌜ Stepped (now (lower .entry)) (now (upper .entry)) (now (payoff .entry)) high (now (row .exit)) r ⌝ }
+    requires { ⌜ StepPre (now lower) (now upper) (now payoff) (now order) high (now row) ⌝ }
+    ensures { λ r. ⌜ StepPost (now (lower .entry)) (now (upper .entry)) (now (payoff .entry)) high (now (row .exit)) r ⌝ }
 {
     fill(lower, upper, order, row);
     figure(row, payoff, high)

@@ -1,6 +1,6 @@
 -- `figures` answers by the definition, and leaves the slices alone where it declines.
 -- Assumes nothing.
-use Rattle.bounds.proofs.Figuring.{table-cause, tables-ready, figures-declined, figures-written}
+use Rattle.bounds.proofs.FiguresLaws.{table-cause, tables-ready, figures-declined, figures-written}
 use borrow.Author.Needs.{needs}
 use Rattle.bounds.proofs.figures.Statement.{statement}
 use Rattle.bounds.proofs.figures.Tie as tie

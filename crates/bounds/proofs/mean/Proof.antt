@@ -2,8 +2,8 @@
 -- Assumes nothing.
 use mathlib.Core.Path.{ap, sym, _∙_}
 use Rattle.bounds.specs.Start.{startBounds}
-use Rattle.bounds.proofs.Forming.{zeros}
-use Rattle.bounds.proofs.Answering.{money-accepted, mean-ready, mean-declined, mean-answered, mean-both}
+use Rattle.bounds.proofs.FrontLaws.{zeros}
+use Rattle.bounds.proofs.CallLaws.{money-accepted, mean-ready, mean-declined, mean-answered, mean-both}
 use borrow.Author.Needs.{needs}
 use Rattle.bounds.proofs.mean.Statement.{statement}
 use Rattle.bounds.proofs.mean.Tie as tie

@@ -1,7 +1,7 @@
 -- `share` answers by the definition, which keeps its promise.
 -- Assumes nothing.
 use mathlib.Core.Path.{sym, _∙_}
-use Rattle.bounds.proofs.Answering.{share-accepted, share-class, share-ready, share-declined, share-answered, share-both}
+use Rattle.bounds.proofs.CallLaws.{share-accepted, share-class, share-ready, share-declined, share-answered, share-both}
 use borrow.Author.Needs.{needs}
 use Rattle.bounds.proofs.share.Statement.{statement}
 use Rattle.bounds.proofs.share.Tie as tie

@@ -1,7 +1,7 @@
 -- `share_sheet` answers by the definition, and leaves the slices alone where it declines.
 -- Assumes nothing.
 use mathlib.Core.Path.{sym, _∙_}
-use Rattle.bounds.proofs.Sheeting.{sheeted, sheet-cause, sheet-declined, sheet-written}
+use Rattle.bounds.proofs.SheetLaws.{sheeted, sheet-cause, sheet-declined, sheet-written}
 use borrow.Author.Needs.{needs}
 use Rattle.bounds.proofs.share_sheet.Statement.{statement}
 use Rattle.bounds.proofs.share_sheet.Tie as tie

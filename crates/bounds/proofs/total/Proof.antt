@@ -2,8 +2,8 @@
 -- Assumes nothing.
 use mathlib.Core.Path.{ap, sym, _∙_}
 use Rattle.bounds.specs.Start.{startBounds}
-use Rattle.bounds.proofs.Forming.{zeros}
-use Rattle.bounds.proofs.Answering.{money-accepted, money-within, total-ready, total-declined, total-answered, total-both}
+use Rattle.bounds.proofs.FrontLaws.{zeros}
+use Rattle.bounds.proofs.CallLaws.{money-accepted, money-within, total-ready, total-declined, total-answered, total-both}
 use borrow.Author.Needs.{needs}
 use Rattle.bounds.proofs.total.Statement.{statement}
 use Rattle.bounds.proofs.total.Tie as tie

@@ -1,5 +1,5 @@
 -- `reader` is safe and ends: a walk of its MIR, by hand. All that the proof knows of the callees is that each meets its contract.
--- The reader that `open` answers is put into a local. Each turn of the loop lends it to `next` and takes it back (`Lending` of `bands`); the
+-- The reader that `open` answers is put into a local. Each turn of the loop lends it to `next` and takes it back (`Lending` of `record_parts`); the
 -- band that `next` answered goes to `shown_band`.
 use mathlib.Core.Path.{_≡_, refl, ap}
 use Prim.Native.Nat.{ℕ, _+_, _-_, _≤_, _<_, _^_, zero-le}

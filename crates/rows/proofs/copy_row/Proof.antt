@@ -5,7 +5,7 @@ use mathlib.Core.Path.{refl, sym, _∙_}
 use native.Mathlib.Omega.{arith}
 use lib.ListN.{length, getD}
 use Rattle.scheme.specs.Laws.Filled.{Filled, fill-more}
-use Rattle.rows.specs.Laws.Copying.{copy-none, copy-all, row-copied, row-left}
+use Rattle.rows.specs.Laws.Copy.{copy-none, copy-all, row-copied, row-left}
 use Rattle.rows.proofs.copy_row.Statement.{statement}
 use Rattle.rows.proofs.copy_row.Tie as tie
 

@@ -1,4 +1,4 @@
--- The arrays of 32 entries: s of them gathered, 0 beyond; and for an accepted scheme they are its interval rows.
+-- The arrays of 32 entries: s of them summed by target, 0 beyond; and for an accepted scheme they are its interval rows.
 use Prim.Native.Nat.{ℕ, _+_, _-_, _*_, _≤_, _<_}
 use mathlib.Core.Path.{_≡_, ap, sym, _∙_}
 use mathlib.Core.Bool.{true, false}
@@ -18,19 +18,19 @@ use Rattle.scheme.specs.Accepted.{Accepted}
 use Rattle.scheme.specs.Cause.{outside, causeOf, orElse, classCause}
 use Rattle.scheme.specs.Laws.Cause.{outside-false, first-cause, second-cause, declined, answered, cond-true, cond-false}
 use Rattle.scheme.specs.Laws.Judged.{accepted-cause}
-use Rattle.scheme.specs.Gathered.{gathered}
+use Rattle.scheme.specs.SumByTarget.{sumByTarget}
 use Rattle.rows.specs.Laws.SumByTarget.{lower-is, upper-is}
 use Rattle.scheme.specs.RowAnswer.{rowCause, rowRefused, rowAt, rowAnswer}
 use Rattle.rows.specs.Rows.{entriesOf, rowFrom}
 use Rattle.scheme.specs.Laws.Tab.{length-tab, getD-tab, as-tab, tab-eq}
 
--- gathered entries followed by what stood beyond them
+-- summed entries followed by what stood beyond them
 pub entries-joined : (rules ends : List ℕ) (classes : ℕ) (g : List ℕ) → classes ≤ 32
-    → g ≡ tab (length (take classes (replicate {A = ℕ} 32 0))) (gathered rules ends)
+    → g ≡ tab (length (take classes (replicate {A = ℕ} 32 0))) (sumByTarget rules ends)
     → g ++ drop classes (replicate 32 0) ≡ entriesOf rules ends classes
 unfolding entriesOf
 entries-joined rules ends classes g h e =
-    as-tab 0 (g ++ zeros) 32 (λ j. onlyIf (ltb j classes) (gathered rules ends j))
+    as-tab 0 (g ++ zeros) 32 (λ j. onlyIf (ltb j classes) (sumByTarget rules ends j))
     (length-append g zeros ∙ omega (arith, size, length-drop {A = ℕ} classes (replicate 32 0), length-replicate {A = ℕ} 32 0))
     (λ j l. at j l (decLt j classes))
   where
@@ -40,11 +40,11 @@ entries-joined rules ends classes g h e =
     count : length (take classes (replicate {A = ℕ} 32 0)) ≡ classes
     count = length-take-le {A = ℕ} classes (replicate 32 0) (omega (arith, length-replicate {A = ℕ} 32 0))
 
-    is : g ≡ tab classes (gathered rules ends)
-    is = e ∙ ap (λ n. tab n (gathered rules ends)) count
+    is : g ≡ tab classes (sumByTarget rules ends)
+    is = e ∙ ap (λ n. tab n (sumByTarget rules ends)) count
 
     size : length g ≡ classes
-    size = ap length is ∙ length-tab classes (gathered rules ends)
+    size = ap length is ∙ length-tab classes (sumByTarget rules ends)
 
     beyond : (j : ℕ) → j < 32 → classes ≤ j → getD (g ++ zeros) j 0 ≡ 0
     beyond j l k =
@@ -53,13 +53,13 @@ entries-joined rules ends classes g h e =
         ∙ getD-drop classes (replicate 32 0) (j - classes) 0
         ∙ getD-replicate 32 (classes + (j - classes)) 0 0 (omega arith)
 
-    at : (j : ℕ) → j < 32 → Dec (j < classes) → getD (g ++ zeros) j 0 ≡ onlyIf (ltb j classes) (gathered rules ends j)
+    at : (j : ℕ) → j < 32 → Dec (j < classes) → getD (g ++ zeros) j 0 ≡ onlyIf (ltb j classes) (sumByTarget rules ends j)
     at j l (yes k) =
         List·getD-append g zeros 0 j (omega (arith, size))
         ∙ ap (λ x. getD x j 0) is
-        ∙ getD-tab classes (gathered rules ends) j 0 k
-        ∙ sym (onlyIf-true (ltb j classes) (gathered rules ends j) (lt-ltb j classes k))
-    at j l (no k) = beyond j l (omega arith) ∙ sym (onlyIf-false (ltb j classes) (gathered rules ends j) (le-ltb j classes (omega arith)))
+        ∙ getD-tab classes (sumByTarget rules ends) j 0 k
+        ∙ sym (onlyIf-true (ltb j classes) (sumByTarget rules ends j) (lt-ltb j classes k))
+    at j l (no k) = beyond j l (omega arith) ∙ sym (onlyIf-false (ltb j classes) (sumByTarget rules ends j) (le-ltb j classes (omega arith)))
 
 -- for an accepted scheme they are those of its interval row
 module _ (s : Scheme) (ok : Accepted s) (i : ℕ) (l : i < s .classes) where

@@ -19,7 +19,7 @@ use Rattle.scheme.specs.Access.{ruleAt, lowerAt, upperAt}
 use Rattle.scheme.specs.Accepted.{Accepted}
 use Rattle.scheme.specs.Rows.{cellsOf, chainOf}
 use Rattle.scheme.specs.Laws.Sound.{accepted-cells}
-use Rattle.scheme.specs.Gathered.{gathered}
+use Rattle.scheme.specs.SumByTarget.{sumByTarget}
 
 -- a rule is class j + 1 exactly where its target is state j
 same-test : (rule j : ℕ) → 1 ≤ rule → eqb rule (suc j) ≡ eqb (rule - 1) j
@@ -30,10 +30,10 @@ same-test rule j h = by (ℕ-discrete rule (suc j))
     by (no d) = ne-eqb rule (suc j) d ∙ sym (ne-eqb (rule - 1) j (λ e. d (omega arith)))
 
 -- a part of the rules and of the bands' ends, read where they stand
-gathered-part : (rules ends : List ℕ) (columns from j : ℕ)
-    → gathered (take columns (drop from rules)) (take columns ends) j
+summed-part : (rules ends : List ℕ) (columns from j : ℕ)
+    → sumByTarget (take columns (drop from rules)) (take columns ends) j
     ≡ min ONE (sumTo columns (λ k. onlyIf (eqb (getD rules (from + k) 0) (suc j)) (getD ends k 0)))
-gathered-part rules ends columns from j =
+summed-part rules ends columns from j =
     ap (min ONE) (same ∙ sym longer)
   where
     part : List ℕ
@@ -79,11 +79,11 @@ module _ (s : Scheme) (ok : Accepted s) (i : ℕ) (l : i < s .classes) where
       sumTo-eq (s .columns) (λ k. onlyIf (eqb (ruleAt s i k) (suc j)) (band k)) (λ k. onlyIf (eqb (ruleAt s i k - 1) j) (band k))
       (λ k g. ap (λ b. onlyIf b (band k)) (same-test (ruleAt s i k) j (ok .rules .positive i k l g)))
 
-  pub lower-is : (j : ℕ) → gathered (take (s .columns) (drop (i * 8) (s .rules))) (take (s .columns) (s .lowers)) j ≡ chainOf s .row i .lower j
+  pub lower-is : (j : ℕ) → sumByTarget (take (s .columns) (drop (i * 8) (s .rules))) (take (s .columns) (s .lowers)) j ≡ chainOf s .row i .lower j
   lower-is j =
-      gathered-part (s .rules) (s .lowers) (s .columns) (i * 8) j
+      summed-part (s .rules) (s .lowers) (s .columns) (i * 8) j
       ∙ ap (min ONE) (into (lowerAt s i) j)
       ∙ omega (arith, into-all (s .classes) (cellsOf s i) (accepted-cells s ok i l) j, ok .sums .lowers i l)
 
-  pub upper-is : (j : ℕ) → gathered (take (s .columns) (drop (i * 8) (s .rules))) (take (s .columns) (s .uppers)) j ≡ chainOf s .row i .upper j
-  upper-is j = gathered-part (s .rules) (s .uppers) (s .columns) (i * 8) j ∙ ap (min ONE) (into (upperAt s i) j)
+  pub upper-is : (j : ℕ) → sumByTarget (take (s .columns) (drop (i * 8) (s .rules))) (take (s .columns) (s .uppers)) j ≡ chainOf s .row i .upper j
+  upper-is j = summed-part (s .rules) (s .uppers) (s .columns) (i * 8) j ∙ ap (min ONE) (into (upperAt s i) j)

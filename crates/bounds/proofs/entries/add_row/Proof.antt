@@ -7,7 +7,7 @@ use lib.ListN.{length}
 use Rattle.setchain.specs.Rows.{ONE}
 use Rattle.step.specs.Lists.{at}
 use Rattle.bounds.specs.Entries.{counts}
-use Rattle.bounds.proofs.Entering.{Adding, adding-none, adding-here, adding-skip, adding-more, adding-as, adding-all}
+use Rattle.bounds.proofs.AddRowLaws.{Adding, adding-none, adding-here, adding-skip, adding-more, adding-as, adding-all}
 use Rattle.bounds.proofs.entries.add_row.Statement.{statement}
 use Rattle.bounds.proofs.entries.add_row.Tie as tie
 

@@ -3,16 +3,16 @@
 use Prim.Native.Nat.{_-_}
 use native.Mathlib.Omega.{arith}
 use borrow.Author.Needs.{needs}
-use Rattle.bounds.proofs.Listing.{Listing, listing-none, listing-takes, listing-more, listing-all}
+use Rattle.bounds.proofs.ListRowsLaws.{Listing, listing-none, listing-takes, listing-more, listing-all}
 use Rattle.bounds.proofs.entries.list_rows.Statement.{statement}
 use Rattle.bounds.proofs.entries.list_rows.Tie as tie
 
 abbrev Inv-loop : tie.InvT-loop
-Inv-loop rules lowers uppers n entries₀ spare₀ m i₀ entries spare i =
-    Listing n rules lowers uppers entries spare i
+Inv-loop rules lowers uppers n entries₀ spare₀ m i₀ entries slack i =
+    Listing n rules lowers uppers entries slack i
 
 abbrev μ-loop : tie.MeasureT-loop
-μ-loop rules lowers uppers n entries₀ spare₀ m i₀ entries spare i =
+μ-loop rules lowers uppers n entries₀ spare₀ m i₀ entries slack i =
     n - i
 
 loop-holds : tie.Need-loop-holds Inv-loop μ-loop
@@ -39,11 +39,11 @@ list-row-requires c κs =
     let start = at-loop .before .before .before .before in
     listing-takes (start .pre) (at-loop .loop .i) (at-loop .loop .inv) (omega arith)
 
-mul-spare : tie.Need-mul-spare Inv-loop μ-loop
-mul-spare c = omega arith
+mul-slack : tie.Need-mul-slack Inv-loop μ-loop
+mul-slack c = omega arith
 
-element-write-spare : tie.Need-element-write-spare Inv-loop μ-loop
-element-write-spare c = omega arith
+element-write-slack : tie.Need-element-write-slack Inv-loop μ-loop
+element-write-slack c = omega arith
 
 add-i : tie.Need-add-i Inv-loop μ-loop
 add-i c = omega arith
@@ -75,8 +75,8 @@ list-rows-spec =
     part-list-row-start
     part-list-row-end
     list-row-requires
-    mul-spare
-    element-write-spare
+    mul-slack
+    element-write-slack
     add-i
     loop-less
     loop-again

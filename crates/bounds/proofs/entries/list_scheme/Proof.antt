@@ -4,7 +4,7 @@ use mathlib.Core.Path.{_≡_, sym, _∙_}
 use native.Mathlib.Omega.{arith}
 use lib.ListN.{length, length-map}
 use lib.Seq.{length-take-le}
-use Rattle.bounds.proofs.Storing.{scheme-lists, scheme-entered}
+use Rattle.bounds.proofs.ListSchemeLaws.{scheme-lists, scheme-listed}
 use borrow.Author.Needs.{needs}
 use Rattle.bounds.proofs.entries.list_scheme.Statement.{statement}
 use Rattle.bounds.proofs.entries.list_scheme.Tie as tie
@@ -56,7 +56,7 @@ list-rows-requires c κs =
 returns : tie.Need-returns
 returns c =
     let s = c .before .before .before .before .before .before .before .before .before .before .before in
-    scheme-entered (s .args .scheme) (s .pre .0) (rules-stored s) (lowers-stored s) (c .list-rows .ensures)
+    scheme-listed (s .args .scheme) (s .pre .0) (rules-stored s) (lowers-stored s) (c .list-rows .ensures)
 
 pub list-scheme-spec : {M : Type 1} → statement M
 list-scheme-spec =

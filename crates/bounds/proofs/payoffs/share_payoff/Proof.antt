@@ -1,6 +1,6 @@
 -- `share_payoff` writes ONE at the class.
 -- Assumes nothing.
-use Rattle.bounds.proofs.Starting.{share-held}
+use Rattle.bounds.proofs.StartLaws.{share-held}
 use borrow.Author.Needs.{needs}
 use Rattle.bounds.proofs.payoffs.share_payoff.Statement.{statement}
 use Rattle.bounds.proofs.payoffs.share_payoff.Tie as tie

@@ -2,18 +2,18 @@
 -- Assumes nothing.
 use Prim.Native.Nat.{_-_}
 use native.Mathlib.Omega.{arith}
-use Rattle.order.specs.Laws.Writing.{Written, written-none}
-use Rattle.bounds.proofs.Storing.{empty-listed}
-use Rattle.bounds.proofs.Answering.{share-ready}
-use Rattle.bounds.proofs.Sheeting.{shareOf, sheeting-more, sheeting-all}
+use Rattle.order.specs.Laws.Written.{Written, written-none}
+use Rattle.bounds.proofs.ListSchemeLaws.{empty-listed}
+use Rattle.bounds.proofs.CallLaws.{share-ready}
+use Rattle.bounds.proofs.SheetLaws.{shareOf, shares-more, shares-all}
 use Rattle.bounds.proofs.sheet.write_shares.Statement.{statement}
 use Rattle.bounds.proofs.sheet.write_shares.Tie as tie
 
 abbrev Inv-loop : tie.InvT-loop
-Inv-loop scheme year high out₀ entries spare gain j₀ out j = Written (scheme .classes) (shareOf high scheme year) out j
+Inv-loop scheme year high out₀ entries slack gain j₀ out j = Written (scheme .classes) (shareOf high scheme year) out j
 
 abbrev μ-loop : tie.MeasureT-loop
-μ-loop scheme year high out₀ entries spare gain j₀ out j = scheme .classes - j
+μ-loop scheme year high out₀ entries slack gain j₀ out j = scheme .classes - j
 
 list-scheme-requires : tie.Need-list-scheme-requires Inv-loop μ-loop
 list-scheme-requires c κs = (c .before .before .before .pre .accepted, empty-listed)
@@ -54,7 +54,7 @@ loop-again c =
     let at-loop = c .before .before .before .before .before in
     let s = c .before .before .before .before .before .before .before .before .before .before in
     let l = at-loop .loop in
-    sheeting-more (s .args .scheme) (s .args .high) (s .args .year) (l .out) (l .j) (s .pre .accepted) (omega arith) (at-share-payoff .share-payoff .ensures) (c .start-figure .ensures) (l .inv)
+    shares-more (s .args .scheme) (s .args .high) (s .args .year) (l .out) (l .j) (s .pre .accepted) (omega arith) (at-share-payoff .share-payoff .ensures) (c .start-figure .ensures) (l .inv)
 
 same-length : tie.Need-same-length Inv-loop μ-loop
 same-length c = omega arith
@@ -62,7 +62,7 @@ same-length c = omega arith
 returns : tie.Need-returns Inv-loop μ-loop
 returns c =
     let s = c .before .before .before .before .before .before in
-    sheeting-all (s .args .scheme) (s .args .high) (s .args .year) (c .before .loop .out) (omega arith) (c .before .loop .inv)
+    shares-all (s .args .scheme) (s .args .high) (s .args .year) (c .before .loop .out) (omega arith) (c .before .loop .inv)
 
 pub write-shares-spec : {M : Type 1} → statement M
 write-shares-spec =

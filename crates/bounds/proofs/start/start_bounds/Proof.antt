@@ -1,6 +1,6 @@
 -- `start_bounds` lists the scheme's entries and takes the low and the high figure.
 -- Assumes nothing.
-use Rattle.bounds.proofs.Storing.{empty-listed}
+use Rattle.bounds.proofs.ListSchemeLaws.{empty-listed}
 use borrow.Author.Needs.{needs}
 use Rattle.bounds.proofs.start.start_bounds.Statement.{statement}
 use Rattle.bounds.proofs.start.start_bounds.Tie as tie

@@ -4,9 +4,9 @@ use Prim.Native.Nat.{_≤_}
 use mathlib.Core.Path.{sym, _∙_}
 use lib.ListN.{length, drop}
 use lib.Seq.{length-take-le}
-use Rattle.bounds.proofs.Forming.{zeros}
-use Rattle.bounds.proofs.Starting.{order-fits, order-size}
-use Rattle.bounds.proofs.Tabling.{column-runs, column-noted}
+use Rattle.bounds.proofs.FrontLaws.{zeros}
+use Rattle.bounds.proofs.StartLaws.{order-fits, order-size}
+use Rattle.bounds.proofs.TableLaws.{column-runs, column-stored}
 use borrow.Author.Needs.{needs}
 use Rattle.order.specs.Laws.Numbers.{state-of}
 use Rattle.bounds.proofs.table.column.Statement.{statement}
@@ -22,34 +22,34 @@ cast-n c = search needs
 array-borrow-prefix-order : tie.Need-array-borrow-prefix-order
 array-borrow-prefix-order c = search needs
 
-slice-aggregate-number : tie.Need-slice-aggregate-number
-slice-aggregate-number c =
+slice-aggregate-identity-order : tie.Need-slice-aggregate-identity-order
+slice-aggregate-identity-order c =
     let enter = c .before .before .before in
     sym (length-take-le (enter .args .scheme .classes) zeros (enter .pre .1 .held .few))
 
-number-requires : tie.Need-number-requires
-number-requires c κs = tt
+identity-order-requires : tie.Need-identity-order-requires
+identity-order-requires c κs = tt
 
 array-share-prefix-gain : tie.Need-array-share-prefix-gain
 array-share-prefix-gain c = search needs
 
 slice-aggregate-years : tie.Need-slice-aggregate-years
 slice-aggregate-years c =
-    let at-number = c .before .before in
-    let enter = at-number .before .before .before .before in
+    let at-identity-order = c .before .before in
+    let enter = at-identity-order .before .before .before .before in
     sym (length-take-le (enter .args .scheme .classes) (enter .args .t4) (search needs))
 
 array-borrow-prefix-order-2 : tie.Need-array-borrow-prefix-order-2
 array-borrow-prefix-order-2 c =
-    let at-number = c .before .before in
-    let enter = at-number .before .before .before .before in
-    order-fits (enter .args .scheme) (enter .pre .0 .ready) (enter .pre .1) (stored enter) (at-number .number .last .0) (drop (enter .args .scheme .classes) zeros) (at-number .number .ensures)
+    let at-identity-order = c .before .before in
+    let enter = at-identity-order .before .before .before .before in
+    order-fits (enter .args .scheme) (enter .pre .0 .ready) (enter .pre .1) (stored enter) (at-identity-order .identity-order .last .0) (drop (enter .args .scheme .classes) zeros) (at-identity-order .identity-order .ensures)
 
 slice-aggregate-years-2 : tie.Need-slice-aggregate-years-2
 slice-aggregate-years-2 c =
-    let at-number = c .before .before .before in
-    let enter = at-number .before .before .before .before in
-    order-size (enter .args .scheme) (enter .pre .0 .ready) (enter .pre .1) (stored enter) (at-number .number .last .0) (drop (enter .args .scheme .classes) zeros) (at-number .number .ensures)
+    let at-identity-order = c .before .before .before in
+    let enter = at-identity-order .before .before .before .before in
+    order-size (enter .args .scheme) (enter .pre .0 .ready) (enter .pre .1) (stored enter) (at-identity-order .identity-order .last .0) (drop (enter .args .scheme .classes) zeros) (at-identity-order .identity-order .ensures)
 
 cast-years : tie.Need-cast-years
 cast-years c = search needs
@@ -76,11 +76,11 @@ years-requires : tie.Need-years-requires
 years-requires c κs =
     let at-state = c .before in
     let at-figures = at-state .before .before in
-    let at-number = at-figures .before .before .before .before in
-    let enter = at-number .before .before .before .before in
+    let at-identity-order = at-figures .before .before .before .before in
+    let enter = at-identity-order .before .before .before .before in
     column-runs (enter .args .scheme) (enter .pre .0) (enter .pre .1) (stored enter)
     (at-state .state .result) (at-state .state .ensures ∙ state-of _ (enter .pre .0 .ready .accepted .start .positive))
-    (at-number .number .last .0) (drop (enter .args .scheme .classes) zeros) (at-number .number .ensures)
+    (at-identity-order .identity-order .last .0) (drop (enter .args .scheme .classes) zeros) (at-identity-order .identity-order .ensures)
 
 same-length : tie.Need-same-length
 same-length c = search needs
@@ -90,9 +90,9 @@ returns c =
     let at-years = c .before .before .before in
     let at-state = at-years .before .before in
     let at-figures = at-state .before .before in
-    let at-number = at-figures .before .before .before .before in
-    let enter = at-number .before .before .before .before in
-    column-noted (enter .args .scheme) (enter .pre .0) (enter .pre .1) (stored enter)
+    let at-identity-order = at-figures .before .before .before .before in
+    let enter = at-identity-order .before .before .before .before in
+    column-stored (enter .args .scheme) (enter .pre .0) (enter .pre .1) (stored enter)
     (at-state .state .result) (at-state .state .ensures ∙ state-of _ (enter .pre .0 .ready .accepted .start .positive))
     (at-years .years .ensures)
 
@@ -102,8 +102,8 @@ column-spec =
     (tie.spec
     cast-n
     array-borrow-prefix-order
-    slice-aggregate-number
-    number-requires
+    slice-aggregate-identity-order
+    identity-order-requires
     array-share-prefix-gain
     slice-aggregate-years
     array-borrow-prefix-order-2

@@ -4,15 +4,15 @@ use mathlib.Core.Path.{sym, _∙_}
 use Prim.Native.Nat.{_-_}
 use native.Mathlib.Omega.{arith}
 use Rattle.bounds.specs.Columns.{SharesIn}
-use Rattle.bounds.proofs.Tabling.{sharing-none, sharing-column, sharing-more, sharing-all}
+use Rattle.bounds.proofs.TableLaws.{sharing-none, sharing-column, sharing-more, sharing-all}
 use Rattle.bounds.proofs.table.share_columns.Statement.{statement}
 use Rattle.bounds.proofs.table.share_columns.Tie as tie
 
 abbrev Inv-loop : tie.InvT-loop
-Inv-loop scheme entries spare high out₀ gain classes j₀ out j = SharesIn high scheme out j
+Inv-loop scheme entries slack high out₀ gain classes j₀ out j = SharesIn high scheme out j
 
 abbrev μ-loop : tie.MeasureT-loop
-μ-loop scheme entries spare high out₀ gain classes j₀ out j = classes - j
+μ-loop scheme entries slack high out₀ gain classes j₀ out j = classes - j
 
 cast-classes : tie.Need-cast-classes Inv-loop μ-loop
 cast-classes c = omega arith

@@ -1,8 +1,8 @@
 -- `write_table` lists the scheme's entries and writes the shares, then the mean's column, then the total at the last place.
 -- Assumes nothing.
 use mathlib.Core.Path.{sym, _∙_}
-use Rattle.bounds.proofs.Storing.{empty-listed}
-use Rattle.bounds.proofs.Tabling.{total-starts, mean-column, last-fits, last-length, table-made}
+use Rattle.bounds.proofs.ListSchemeLaws.{empty-listed}
+use Rattle.bounds.proofs.TableLaws.{total-starts, mean-column, last-fits, last-length, table-made}
 use borrow.Author.Needs.{needs}
 use Rattle.bounds.proofs.table.write_table.Statement.{statement}
 use Rattle.bounds.proofs.table.write_table.Tie as tie

@@ -1,11 +1,11 @@
--- `year` sorts the order by the figures before, walks along it, and makes the sums figures.
+-- `year` sorts the order by the figures before, fills the states along it, and rounds the sums.
 -- Assumes nothing.
 use Prim.Native.Nat.{_≤_}
 use mathlib.Core.Path.{sym}
 use lib.ListN.{length, drop}
 use lib.Seq.{length-take-le}
-use Rattle.bounds.proofs.Forming.{zeros}
-use Rattle.bounds.proofs.Passing.{spare-count, year-placed, year-walks, sums-fit, sums-size, year-settles, year-formed}
+use Rattle.bounds.proofs.FrontLaws.{zeros}
+use Rattle.bounds.proofs.YearLaws.{slack-count, year-permutation, year-fills-states, sums-fit, sums-size, year-rounds, year-figures}
 use borrow.Author.Needs.{needs}
 use Rattle.bounds.proofs.year.year.Statement.{statement}
 use Rattle.bounds.proofs.year.year.Tie as tie
@@ -28,8 +28,8 @@ sort-requires c κs = tt
 array-share-prefix-before-2 : tie.Need-array-share-prefix-before-2
 array-share-prefix-before-2 c = search needs
 
-slice-aggregate-walk : tie.Need-slice-aggregate-walk
-slice-aggregate-walk c =
+slice-aggregate-fill-states : tie.Need-slice-aggregate-fill-states
+slice-aggregate-fill-states c =
     let start = c .before .before .before .before .before .before .before .before .before in
     sym (length-take-le (length (start .args .gain .now)) (start .args .t6) (fits start))
 
@@ -38,57 +38,57 @@ array-borrow-prefix-left c =
     let start = c .before .before .before .before .before .before .before .before .before .before in
     start .pre .held .stored
 
-slice-aggregate-walk-2 : tie.Need-slice-aggregate-walk-2
-slice-aggregate-walk-2 c =
+slice-aggregate-fill-states-2 : tie.Need-slice-aggregate-fill-states-2
+slice-aggregate-fill-states-2 c =
     let start = c .before .before .before .before .before .before .before .before .before .before .before in
-    sym (spare-count (start .pre) (fits start))
+    sym (slack-count (start .pre) (fits start))
 
 array-borrow-prefix-sums : tie.Need-array-borrow-prefix-sums
 array-borrow-prefix-sums c = search needs
 
-slice-aggregate-walk-3 : tie.Need-slice-aggregate-walk-3
-slice-aggregate-walk-3 c =
+slice-aggregate-fill-states-3 : tie.Need-slice-aggregate-fill-states-3
+slice-aggregate-fill-states-3 c =
     let start = c .before .before .before .before .before .before .before .before .before .before .before .before in
     sym (length-take-le (length (start .args .gain .now)) zeros (search needs))
 
-walk-requires : tie.Need-walk-requires
-walk-requires c κs =
+fill-states-requires : tie.Need-fill-states-requires
+fill-states-requires c κs =
     let at-sort = c .before .before .before .before .before .before .before in
     let start = at-sort .before .before .before .before .before in
-    year-walks (start .pre) (fits start) (start .args .high) (at-sort .sort .ensures)
+    year-fills-states (start .pre) (fits start) (start .args .high) (at-sort .sort .ensures)
 
 array-borrow-prefix-sums-2 : tie.Need-array-borrow-prefix-sums-2
 array-borrow-prefix-sums-2 c =
-    let at-walk = c .before .before in
-    let at-sort = at-walk .before .before .before .before .before .before .before .before in
+    let at-fill-states = c .before .before in
+    let at-sort = at-fill-states .before .before .before .before .before .before .before .before in
     let start = at-sort .before .before .before .before .before in
-    sums-fit (start .pre) (fits start) (start .args .high) (at-sort .sort .ensures) (at-walk .walk .ensures) (drop (length (start .args .gain .now)) zeros)
+    sums-fit (start .pre) (fits start) (start .args .high) (at-sort .sort .ensures) (at-fill-states .fill-states .ensures) (drop (length (start .args .gain .now)) zeros)
 
-slice-aggregate-settle : tie.Need-slice-aggregate-settle
-slice-aggregate-settle c =
-    let at-walk = c .before .before .before in
-    let at-sort = at-walk .before .before .before .before .before .before .before .before in
+slice-aggregate-round-sums : tie.Need-slice-aggregate-round-sums
+slice-aggregate-round-sums c =
+    let at-fill-states = c .before .before .before in
+    let at-sort = at-fill-states .before .before .before .before .before .before .before .before in
     let start = at-sort .before .before .before .before .before in
-    sums-size (start .pre) (fits start) (start .args .high) (at-sort .sort .ensures) (at-walk .walk .ensures) (drop (length (start .args .gain .now)) zeros)
+    sums-size (start .pre) (fits start) (start .args .high) (at-sort .sort .ensures) (at-fill-states .fill-states .ensures) (drop (length (start .args .gain .now)) zeros)
 
-settle-requires : tie.Need-settle-requires
-settle-requires c κs =
-    let at-walk = c .before .before .before in
-    let at-sort = at-walk .before .before .before .before .before .before .before .before in
+round-sums-requires : tie.Need-round-sums-requires
+round-sums-requires c κs =
+    let at-fill-states = c .before .before .before in
+    let at-sort = at-fill-states .before .before .before .before .before .before .before .before in
     let start = at-sort .before .before .before .before .before in
-    year-settles (start .pre) (fits start) (start .args .high) (at-sort .sort .ensures) (at-walk .walk .ensures) (drop (length (start .args .gain .now)) zeros)
+    year-rounds (start .pre) (fits start) (start .args .high) (at-sort .sort .ensures) (at-fill-states .fill-states .ensures) (drop (length (start .args .gain .now)) zeros)
 
 same-length : tie.Need-same-length
 same-length c = search needs
 
 returns : tie.Need-returns
 returns c =
-    let at-walk = c .before .before .before .before .before in
-    let at-sort = at-walk .before .before .before .before .before .before .before .before in
+    let at-fill-states = c .before .before .before .before .before in
+    let at-sort = at-fill-states .before .before .before .before .before .before .before .before in
     let start = at-sort .before .before .before .before .before in (
-      year-formed (start .pre) (fits start) (start .args .high) (at-sort .sort .ensures) (at-walk .walk .ensures)
-          (drop (length (start .args .gain .now)) zeros) _ (c .before .settle .ensures),
-      year-placed (start .pre) (fits start) (start .args .high) (at-sort .sort .ensures),
+      year-figures (start .pre) (fits start) (start .args .high) (at-sort .sort .ensures) (at-fill-states .fill-states .ensures)
+          (drop (length (start .args .gain .now)) zeros) _ (c .before .round-sums .ensures),
+      year-permutation (start .pre) (fits start) (start .args .high) (at-sort .sort .ensures),
     )
 
 pub year-spec : {M : Type 1} → statement M
@@ -99,14 +99,14 @@ year-spec =
     slice-aggregate-sort
     sort-requires
     array-share-prefix-before-2
-    slice-aggregate-walk
+    slice-aggregate-fill-states
     array-borrow-prefix-left
-    slice-aggregate-walk-2
+    slice-aggregate-fill-states-2
     array-borrow-prefix-sums
-    slice-aggregate-walk-3
-    walk-requires
+    slice-aggregate-fill-states-3
+    fill-states-requires
     array-borrow-prefix-sums-2
-    slice-aggregate-settle
-    settle-requires
+    slice-aggregate-round-sums
+    round-sums-requires
     same-length
     returns)

@@ -3,8 +3,8 @@
 use mathlib.Core.Path.{sym, _∙_}
 use mathlib.Core.Logic.{⊎-elim}
 use native.Mathlib.Omega.{arith}
-use Rattle.bounds.specs.Years.{Ran}
-use Rattle.bounds.proofs.Running.{run-none, run-more, run-noted, run-less, run-year}
+use Rattle.bounds.specs.Years.{YearsPost}
+use Rattle.bounds.proofs.YearsLaws.{run-none, run-more, run-stored, run-less, run-year}
 use Prim.Native.Nat.{ℕ, _<_}
 use borrow.Fn.Kinds.{In}
 use borrow.Fn.PlainCycle.{Measures, is, falls, and}
@@ -12,7 +12,7 @@ use Rattle.bounds.proofs.years.years.Reads as years
 use Rattle.bounds.proofs.years.years.Kinds as years-kinds
 use Rattle.bounds.proofs.years.+years.Lts-years as years-lts
 use Rattle.bounds.proofs.years.advance.Reads as advance-reads
-use Rattle.bounds.proofs.years.note.Reads as note-reads
+use Rattle.bounds.proofs.years.store_figure.Reads as note-reads
 use Rattle.bounds.proofs.years.+years.{statement}
 use Rattle.bounds.proofs.years.+years.Tie.{close}
 
@@ -58,7 +58,7 @@ years-advance-requires-2 t c κs =
 -- (a way by a step: 4 the call of `years`, 9 the test of the flag, 12 the step, 15 to 17 what order, figures and slice then are)
 met : (t : ℕ) → (c : years-lts.Joined1 (claims t) (years-at t) years.Post)
     → let a = c .before .before .before .before .args in
-    Ran (a .entries .now) (a .gain .now) (a .figures .now) (a .high) (a .t) (a .state) (a .stride) (a .t) (c .if1 .order) (c .if1 .figures) (a .out .now) (c .if1 .out)
+    YearsPost (a .entries .now) (a .gain .now) (a .figures .now) (a .high) (a .t) (a .state) (a .stride) (a .t) (c .if1 .order) (c .if1 .figures) (a .out .now) (c .if1 .out)
 met t c =
     let start = c .before .before .before .before in
     let pre = start .pre .1 in
@@ -69,41 +69,41 @@ met t c =
     (λ w. rw (w .1, w .2, w .3) (run-none pre (w .0 .left))))
     (c .if1 .came)
 
-years-mul-note : (t : ℕ) → years-lts.Need-mul-note (claims t) (years-at t) years.Post
-years-mul-note t c =
+years-mul-store-figure : (t : ℕ) → years-lts.Need-mul-store-figure (claims t) (years-at t) years.Post
+years-mul-store-figure t c =
     let enter = c .before .before .before .before in
     omega (arith, enter .pre .1 .within, enter .pre .1 .held .few)
 
-years-element-copy-out-note : (t : ℕ) → years-lts.Need-element-copy-out-note (claims t) (years-at t) years.Post
-years-element-copy-out-note t c =
+years-element-copy-out-store-figure : (t : ℕ) → years-lts.Need-element-copy-out-store-figure (claims t) (years-at t) years.Post
+years-element-copy-out-store-figure t c =
     let enter = c .before .before .before .before in
     omega (arith, enter .pre .1 .within, enter .pre .1 .held .few)
 
-years-mul-note-2 : (t : ℕ) → years-lts.Need-mul-note-2 (claims t) (years-at t) years.Post
-years-mul-note-2 t c =
+years-mul-store-figure-2 : (t : ℕ) → years-lts.Need-mul-store-figure-2 (claims t) (years-at t) years.Post
+years-mul-store-figure-2 t c =
     let join = c .before in
     let enter = join .before .before .before .before in
     enter .pre .1 .counted
 
-years-note-requires : (t : ℕ) → years-lts.Need-note-requires (claims t) (years-at t) years.Post
-years-note-requires t c κs = tt
+years-store-figure-requires : (t : ℕ) → years-lts.Need-store-figure-requires (claims t) (years-at t) years.Post
+years-store-figure-requires t c κs = tt
 
 years-returns : (t : ℕ) → years-lts.Need-returns (claims t) (years-at t) years.Post
 years-returns t c =
-    let at-note = c .before .before in
-    let join = at-note .before .before .before in
+    let at-store-figure = c .before .before in
+    let join = at-store-figure .before .before .before in
     let enter = join .before .before .before .before in
-    rw (at-note .note .ensures) (run-noted (enter .pre .1) (met t join))
+    rw (at-store-figure .store-figure .ensures) (run-stored (enter .pre .1) (met t join))
 
 years-same-length : (t : ℕ) → years-lts.Need-same-length (claims t) (years-at t) years.Post
 years-same-length t c =
-    let at-note = c .before .before in
-    let join = at-note .before .before .before in
+    let at-store-figure = c .before .before in
+    let join = at-store-figure .before .before .before in
     let enter = join .before .before .before .before in
-    years-returns t c .placed .size ∙ sym (enter .pre .1 .placed .size)
+    years-returns t c .permutation .size ∙ sym (enter .pre .1 .permutation .size)
 
 years-same-length-2 : (t : ℕ) → years-lts.Need-same-length-2 (claims t) (years-at t) years.Post
-years-same-length-2 t c = years-returns t c .noted .size
+years-same-length-2 t c = years-returns t c .stored-series .size
 
 pub +years-spec : {M : Type 1} → statement M
 +years-spec = close μ-years λ t. years-lts.spec (claims t)
@@ -113,10 +113,10 @@ pub +years-spec : {M : Type 1} → statement M
     (years-years-requires t)
     (years-advance-requires t)
     (years-advance-requires-2 t)
-    (years-mul-note t)
-    (years-element-copy-out-note t)
-    (years-mul-note-2 t)
-    (years-note-requires t)
+    (years-mul-store-figure t)
+    (years-element-copy-out-store-figure t)
+    (years-mul-store-figure-2 t)
+    (years-store-figure-requires t)
     (years-same-length t)
     (years-same-length-2 t)
     (years-returns t)

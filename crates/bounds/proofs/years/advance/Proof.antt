@@ -13,7 +13,7 @@ same-length : tie.Need-same-length
 same-length c =
     let at-year = c .before .before in
     let start = at-year .before .before .before .before .before in
-    at-year .year .ensures .1 .size ∙ sym (start .pre .placed .size)
+    at-year .year .ensures .1 .size ∙ sym (start .pre .permutation .size)
 
 returns : tie.Need-returns
 returns c = c .before .before .year .ensures

@@ -5,7 +5,7 @@ use Prim.Native.Nat.{_-_}
 use native.Mathlib.Omega.{arith}
 use lib.ListN.{getD, length}
 use Rattle.scheme.specs.Laws.Filled.{Filled, fill-more, fill-all}
-use Rattle.rows.specs.Laws.Copying.{copy-none}
+use Rattle.rows.specs.Laws.Copy.{copy-none}
 use Rattle.joguyvi_rows.proofs.copies.copy_ends.Statement.{statement}
 use Rattle.joguyvi_rows.proofs.copies.copy_ends.Tie as tie
 

@@ -6,7 +6,7 @@ use Rattle.scheme.specs.Laws.Cause.{second-none}
 use Rattle.scheme.specs.Cause.{orElse}
 use Rattle.joguyvi_spec.specs.Buffers.{buffersCause}
 use Rattle.joguyvi_spec.specs.Rows.{putRowNumber}
-use Rattle.rows.specs.Laws.Copying.{row-copied}
+use Rattle.rows.specs.Laws.Copy.{row-copied}
 use Rattle.joguyvi_spec.specs.Laws.Pairs.{pair-sizes, pair-left, pair-filled}
 use borrow.Author.Needs.{needs}
 use Rattle.joguyvi_rows.proofs.row_buffers.put_row.Statement.{statement}

@@ -8,7 +8,7 @@ use Rattle.scheme.specs.Laws.Cause.{second-none}
 use Rattle.scheme.specs.Cause.{orElse}
 use Rattle.joguyvi_spec.specs.Laws.Sizes.{one}
 use Rattle.joguyvi_spec.specs.Laws.Pairs.{pair-left, pair-filled}
-use Rattle.rows.specs.Laws.Copying.{row-copied}
+use Rattle.rows.specs.Laws.Copy.{row-copied}
 use Rattle.joguyvi_spec.specs.Steps.{stepBuffers}
 use Rattle.joguyvi_steps.proofs.Stepping.{step-sizes}
 use borrow.Author.Needs.{needs}

@@ -1,6 +1,6 @@
 -- `answer` declines with the first cause, and otherwise answers from the scheme's parts.
 -- Assumes nothing.
-use Rattle.step.proofs.AnsweringStep.{step-declined, step-answerable, step-answered}
+use Rattle.step.proofs.AnswerLaws.{step-declined, step-answerable, step-answered}
 use borrow.Author.Needs.{needs}
 use Rattle.step.proofs.answer.answer.Statement.{statement}
 use Rattle.step.proofs.answer.answer.Tie as tie

@@ -2,7 +2,7 @@
 -- Assumes nothing.
 use mathlib.Core.Path.{sym}
 use lib.Seq.{length-take-le}
-use Rattle.step.proofs.Solving.{lent-size, answer-solves, answer-made}
+use Rattle.step.proofs.SolveLaws.{lent-size, answer-solves, answer-made}
 use borrow.Author.Needs.{needs}
 use Rattle.step.proofs.answer.answered.Statement.{statement}
 use Rattle.step.proofs.answer.answered.Tie as tie

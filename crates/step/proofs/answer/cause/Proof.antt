@@ -3,7 +3,7 @@
 use mathlib.Core.Path.{sym, _∙_}
 use Rattle.scheme.specs.Laws.Judged.{accepted-cause}
 use Rattle.step_spec.specs.StepAnswer.{payoffOut}
-use Rattle.step.proofs.AnsweringStep.{cause-scheme, cause-payoff, cause-class, cause-none}
+use Rattle.step.proofs.AnswerLaws.{cause-scheme, cause-payoff, cause-class, cause-none}
 use borrow.Author.Needs.{needs}
 use Rattle.step.proofs.answer.cause.Statement.{statement}
 use Rattle.step.proofs.answer.cause.Tie as tie

@@ -9,7 +9,7 @@ use Rattle.setchain.specs.Rows.{ONE}
 use Rattle.setchain.specs.Laws.Sums.{total-start}
 use Rattle.step.specs.Lists.{at}
 use Rattle.step.specs.Figure.{LARGEST}
-use Rattle.step.specs.Laws.Summing.{weighed-more, weighed-all}
+use Rattle.step.specs.Laws.Sums.{weighed-more, weighed-all}
 use Rattle.step.proofs.figure.weigh.Statement.{statement}
 use Rattle.step.proofs.figure.weigh.Tie as tie
 

@@ -4,7 +4,7 @@ use Prim.Native.Nat.{_-_}
 use mathlib.Core.Path.{refl}
 use native.Mathlib.Omega.{arith}
 use lib.ListN.{length}
-use Rattle.order.specs.Laws.Writing.{Written, written-none, written-more, written-copy}
+use Rattle.order.specs.Laws.Written.{Written, written-none, written-more, written-copy}
 use Rattle.step.specs.Lists.{at}
 use Rattle.step.proofs.fill.copy.Statement.{statement}
 use Rattle.step.proofs.fill.copy.Tie as tie

@@ -1,7 +1,7 @@
 -- `step` fills the row along the order, which makes it extreme, and takes its figure.
 -- Assumes nothing.
 use borrow.Author.Needs.{needs}
-use Rattle.step.specs.Laws.Reaching.{step-fills, step-weighs, stepped}
+use Rattle.step.specs.Laws.Extreme.{step-fills, step-weighs, stepped}
 use Rattle.step.proofs.step.step.Statement.{statement}
 use Rattle.step.proofs.step.step.Tie as tie
 

@@ -1,0 +1,320 @@
+-- The states filled along an order: what a row's sum comes to is the step's figure, unrounded, and it fits.
+-- Assumes nothing.
+use Prim.Native.Nat.{ℕ, zero, suc, min, _+_, _-_, _*_, _≤_, _<_}
+use mathlib.Core.Path.{_≡_, refl, ap, sym, _∙_, subst}
+use mathlib.Core.Logic.{_⊎_, inl, inr, ⊎-elim}
+use mathlib.Core.Bool.{Bool, true, false}
+use mathlib.Core.List.{List}
+use native.Mathlib.Decide.{ℕ-discrete, decLe}
+use native.Mathlib.Nat.{le-refl, mul-le-mul-left, mul-le-mul-right}
+use native.Mathlib.Omega.{arith}
+use lib.Dec.{eqb}
+use lib.ListN.{length, set, length-set}
+use borrow.Author.Tests.{eq-eqb}
+use lib.Seq.{getD-set-same, getD-set-other, ext-getD}
+use Rattle.setchain.specs.Sums.{sumTo, onlyIf, dot}
+use Rattle.setchain.specs.Rows.{ONE, IntervalRow, SoundRow}
+use Rattle.setchain.specs.Step.{rounded, capacity, stepFigure}
+use Rattle.setchain.specs.Laws.Sums.{onlyIf-true, sumTo-eq, sumTo-add, sumTo-scale, sumTo-swap, sumTo-point, term-le, eqb-flip, sumTo-front, sumTo-change}
+use Rattle.scheme.specs.Tables.{tab}
+use Rattle.scheme.specs.Laws.Tab.{length-tab, getD-tab}
+use Rattle.order.specs.Order.{Occurs, Permutation, SortedPermutation}
+use Rattle.order.specs.Laws.Permutations.{sorted-permutation}
+use Rattle.step.specs.Lists.{at, rowIn}
+use Rattle.setchain.specs.Laws.Agreeing.{Agree, sound-agrees, step-agrees}
+use Rattle.step.specs.Fill.{FillPost, FillSlackPre}
+use Rattle.step.specs.Step.{StepPre}
+use Rattle.step.specs.Figure.{LARGEST}
+use Rattle.bounds.specs.Fill.{leftAt, sumAt}
+use Rattle.step.specs.Laws.Fill.{Filling, filling-none, filling-more, filling-last}
+use Rattle.step.specs.Laws.Extreme.{step-reached}
+
+-- as many ones as are summed
+count : (k : ℕ) → sumTo k (λ i. 1) ≡ k
+unfolding sumTo
+count zero = refl
+count (suc k) = omega (arith, count k)
+
+-- numbers from 1 on whose sum is their count are all 1
+ones : (n : ℕ) (c : ℕ → ℕ) → ((j : ℕ) → j < n → 1 ≤ c j) → sumTo n c ≡ n → (j : ℕ) → j < n → c j ≡ 1
+ones n c h e j l =
+    let s : sumTo n (λ i. c i - 1) + sumTo n (λ i. 1) ≡ sumTo n c =
+    sym (sumTo-add n (λ i. c i - 1) (λ i. 1)) ∙ sumTo-eq n (λ i. c i - 1 + 1) c (λ i m. omega (arith, h i m)) in
+    let z : c j - 1 ≤ sumTo n (λ i. c i - 1) = term-le n (λ i. c i - 1) j l in
+    omega (arith, s, z, h j l, count n)
+
+-- a sum along an order is the sum over the states
+module _ (n : ℕ) (order : List ℕ) (p : Permutation n order) where
+  -- how often state j occurs in the order
+  times : ℕ → ℕ
+  times j = sumTo n (λ q. onlyIf (eqb (at order q - 1) j) 1)
+
+  along : (g : ℕ → ℕ) → sumTo n (λ q. g (at order q - 1)) ≡ sumTo n (λ j. sumTo n (λ q. onlyIf (eqb (at order q - 1) j) (g j)))
+  along g =
+      sumTo-eq n (λ q. g (at order q - 1)) (λ q. sumTo n (λ j. onlyIf (eqb (at order q - 1) j) (g j))) point
+      ∙ sumTo-swap n n (λ q j. onlyIf (eqb (at order q - 1) j) (g j))
+    where
+      point : (q : ℕ) → q < n → g (at order q - 1) ≡ sumTo n (λ j. onlyIf (eqb (at order q - 1) j) (g j))
+      point q l =
+          sym
+          (sumTo-eq n (λ j. onlyIf (eqb (at order q - 1) j) (g j)) (λ j. onlyIf (eqb j (at order q - 1)) (g j))
+          (λ j m. ap (λ b. onlyIf b (g j)) (eqb-flip (at order q - 1) j))
+          ∙ sumTo-point n g (at order q - 1) (omega (arith, p .within q l)))
+
+  scaled : (j x : ℕ) → sumTo n (λ q. onlyIf (eqb (at order q - 1) j) x) ≡ times j * x
+  unfolding times onlyIf
+  scaled j x =
+      sumTo-eq n (λ q. onlyIf (eqb (at order q - 1) j) x) (λ q. onlyIf (eqb (at order q - 1) j) 1 * x) (λ q l. by (eqb (at order q - 1) j))
+      ∙ sumTo-scale n (λ q. onlyIf (eqb (at order q - 1) j) 1) x
+    where
+      by : (b : Bool) → onlyIf b x ≡ onlyIf b 1 * x
+      by true = omega arith
+      by false = omega arith
+
+  once : (j : ℕ) → j < n → times j ≡ 1
+  unfolding times
+  once = ones n times occurs whole
+    where
+      occurs : (j : ℕ) → j < n → 1 ≤ times j
+      occurs j l =
+          let s : Occurs order n j = p .onto j l in
+          omega (
+            arith,
+            term-le n (λ q. onlyIf (eqb (at order q - 1) j) 1) (s .place) (s .early),
+            onlyIf-true (eqb (at order (s .place) - 1) j) 1 (eq-eqb (at order (s .place) - 1) j (omega (arith, s .held))),
+          )
+
+      whole : sumTo n times ≡ n
+      whole = sym (along (λ j. 1)) ∙ count n
+
+  pub sum-along : (g : ℕ → ℕ) → sumTo n (λ q. g (at order q - 1)) ≡ sumTo n g
+  sum-along g =
+      along g
+      ∙ sumTo-eq n (λ j. sumTo n (λ q. onlyIf (eqb (at order q - 1) j) (g j))) g
+      (λ j l. scaled j (g j) ∙ ap (λ t. t * g j) (once j l) ∙ one (g j))
+    where
+      one : (x : ℕ) → 1 * x ≡ x
+      one x = omega arith
+
+  -- no state occurs at two places
+  pub places-apart : (a b : ℕ) → a < b → b < n → at order a ≡ at order b → ⊥
+  unfolding times sumTo
+  places-apart a b l m e =
+      let j : ℕ = at order b - 1 in
+      let f : ℕ → ℕ = λ q. onlyIf (eqb (at order q - 1) j) 1 in
+      omega (
+        arith,
+        once j (omega (arith, p .within b m)),
+        sumTo-front f n (suc b) m,
+        term-le b f a l,
+        onlyIf-true (eqb (at order a - 1) j) 1 (eq-eqb (at order a - 1) j (omega arith)),
+        onlyIf-true (eqb (at order b - 1) j) 1 (eq-eqb (at order b - 1) j refl),
+      )
+
+-- the sum stays within the largest payoff
+module _ (n : ℕ) (r : IntervalRow) (f : ℕ → ℕ) (order : List ℕ) (slack : ℕ) (p : Permutation n order)
+    (whole : sumTo n (r .lower) + slack ≡ ONE) (small : (j : ℕ) → j < n → f j ≤ LARGEST) where
+  left-le : (k : ℕ) → leftAt r order slack k ≤ slack
+  unfolding leftAt
+  left-le zero = le-refl slack
+  left-le (suc k) = omega (arith, left-le k)
+
+  sum-parts : (k : ℕ) → k ≤ n
+      → sumAt r f order slack k ≤ (sumTo k (λ q. r .lower (at order q - 1)) + (slack - leftAt r order slack k)) * LARGEST
+  unfolding leftAt sumAt sumTo
+  sum-parts zero h = omega arith
+  sum-parts (suc k) h =
+      omega (
+        arith,
+        sum-parts k (omega arith),
+        left-le k,
+        mul-le-mul-left (r .lower (at order k - 1) + min (leftAt r order slack k) (capacity r (at order k - 1))) (small (at order k - 1) (omega (arith, p .within k h))),
+      )
+
+  pub sum-fits : (k : ℕ) → k ≤ n → sumAt r f order slack k ≤ LARGEST * ONE
+  sum-fits k h =
+      omega (
+        arith,
+        sum-parts k h,
+        sumTo-front (λ q. r .lower (at order q - 1)) n k h,
+        sum-along n order p (r .lower),
+        mul-le-mul-right LARGEST all,
+      )
+    where
+      all : sumTo k (λ q. r .lower (at order q - 1)) + (slack - leftAt r order slack k) ≤ ONE
+      all =
+          omega (
+            arith,
+            sumTo-front (λ q. r .lower (at order q - 1)) n k h,
+            sum-along n order p (r .lower),
+            whole,
+          )
+
+-- storing what stands there changes nothing
+same-set : (l : List ℕ) (j : ℕ) → j < length l → set l j (at l j) ≡ l
+same-set l j h = ext-getD 0 (set l j (at l j)) l (length-set l j (at l j)) (λ k m. by k (ℕ-discrete k j))
+  where
+    by : (k : ℕ) → Dec (k ≡ j) → at (set l j (at l j)) k ≡ at l k
+    by k (yes e) = rw e (getD-set-same l j (at l j) 0 h)
+    by k (no ne) = getD-set-other l j k (at l j) 0 ne
+
+-- a product of part and payoff after a change at one place
+dot-set : (n : ℕ) (row : List ℕ) (f : ℕ → ℕ) (j given : ℕ) → j < n → length row ≡ n
+    → dot n (at (set row j (at row j + given))) f ≡ dot n (at row) f + given * f j
+dot-set n row f j given l e =
+    let v : ℕ = at row j + given in
+    let same : at (set row j v) j ≡ v = getD-set-same row j v 0 (omega arith) in
+    omega (
+      arith,
+      sumTo-change n (λ i. at row i * f i) (λ i. at (set row j v) i * f i) j l (λ i m ne. ap (λ x. x * f i) (getD-set-other row j i v 0 ne)),
+      ap (λ x. x * f j) same,
+    )
+
+-- the figure: each row is filled as by the step
+module _ (high : Bool) (r : IntervalRow) (payoff order : List ℕ) (slack : ℕ) (sound : SoundRow (length payoff) r) (sorted : SortedPermutation payoff high order)
+    (small : (j : ℕ) → j < length payoff → at payoff j ≤ LARGEST) (whole : sumTo (length payoff) (r .lower) + slack ≡ ONE) where
+  abbrev n : ℕ
+  n = length payoff
+
+  abbrev lower : List ℕ
+  lower = tab n (r .lower)
+
+  abbrev upper : List ℕ
+  upper = tab n (r .upper)
+
+  permutation : Permutation n order
+  permutation = sorted-permutation sorted
+
+  lower-size : length lower ≡ n
+  lower-size = length-tab n (r .lower)
+
+  low-at : (j : ℕ) → j < n → at lower j ≡ r .lower j
+  low-at j l = getD-tab n (r .lower) j 0 l
+
+  up-at : (j : ℕ) → j < n → at upper j ≡ r .upper j
+  up-at j l = getD-tab n (r .upper) j 0 l
+
+  agree : Agree n r (rowIn lower upper)
+  agree = record { lower = λ j l. sym (low-at j l); upper = λ j l. sym (up-at j l) }
+
+  steppable : StepPre lower upper payoff order high lower
+  steppable =
+      record {
+        uppers = length-tab n (r .upper) ∙ sym lower-size;
+        payoffs = sym lower-size;
+        rows = refl;
+        sound = subst (λ k. SoundRow k (rowIn lower upper)) (sym lower-size) (sound-agrees agree sound);
+        small = λ j l. small j (omega (arith, lower-size));
+        sorted = sorted;
+      }
+
+  fillable : FillSlackPre lower upper order slack
+  fillable =
+      record {
+        uppers = steppable .uppers;
+        permutation = subst (λ k. Permutation k order) (sym lower-size) permutation;
+        sound = steppable .sound;
+        whole = omega (arith, whole, sumTo-eq n (at lower) (r .lower) low-at, ap (λ k. sumTo k (at lower)) lower-size);
+      }
+
+  -- the lower parts times payoff of the states at the first k places
+  bare : ℕ → ℕ
+  bare k = sumTo k (λ q. r .lower (at order q - 1) * at payoff (at order q - 1))
+
+  -- all slack is given
+  record Done (row : List ℕ) (left : ℕ) : Type 0 where
+    stop : ℕ
+    filled : FillPost lower upper order row stop
+    none : left ≡ 0
+
+  -- the row as the fill has it at place k, or when it is done
+  record FillingSlack (k : ℕ) : Type 0 where
+    row : List ℕ
+    sums : sumAt r (at payoff) order slack k + dot n (r .lower) (at payoff) ≡ bare k + dot n (at row) (at payoff)
+    state : Filling lower upper order row (leftAt r order slack k) k ⊎ Done row (leftAt r order slack k)
+
+  pouring-none : FillingSlack 0
+  unfolding leftAt sumAt bare sumTo
+  pouring-none =
+      record {
+        row = lower;
+        sums = omega (arith, sumTo-eq n (λ j. r .lower j * at payoff j) (λ j. at lower j * at payoff j) (λ j l. ap (λ x. x * at payoff j) (sym (low-at j l))));
+        state = inl (filling-none fillable);
+      }
+
+  module _ {k : ℕ} (more : k < n) where
+    abbrev j : ℕ
+    j = at order k - 1
+
+    here : j < n
+    here = omega (arith, permutation .within k more)
+
+    -- a state that the fill has not passed is bare
+    still : {row : List ℕ} {left : ℕ} → Filling lower upper order row left k → at row j ≡ r .lower j
+    still w = ⊎-elim (λ b. b ∙ low-at j here) (λ s. absurd (places-apart n order permutation (s .place) k (s .early) more (s .held ∙ held))) (w .rest j (omega (arith, here, lower-size)))
+      where
+        held : suc j ≡ at order k
+        held = omega (arith, permutation .within k more)
+
+    -- the sums when state j gets `given`
+    sums-more : (row : List ℕ) (given : ℕ) → length row ≡ n → given ≡ min (leftAt r order slack k) (capacity r j)
+        → sumAt r (at payoff) order slack k + dot n (r .lower) (at payoff) ≡ bare k + dot n (at row) (at payoff)
+        → sumAt r (at payoff) order slack (suc k) + dot n (r .lower) (at payoff) ≡ bare (suc k) + dot n (at (set row j (at row j + given))) (at payoff)
+    unfolding sumAt bare sumTo
+    sums-more row given e g h =
+        omega (arith, h, dot-set n row (at payoff) j given here e, ap (λ x. (r .lower j + x) * at payoff j) g)
+
+    pouring-more : FillingSlack k → FillingSlack (suc k)
+    unfolding leftAt
+    pouring-more w = ⊎-elim (λ s. by s (decLe left (at upper j - at (w .row) j))) done (w .state)
+      where
+        left : ℕ
+        left = leftAt r order slack k
+
+        by : Filling lower upper order (w .row) left k → Dec (left ≤ at upper j - at (w .row) j) → FillingSlack (suc k)
+        by s (yes h) =
+            record {
+              row = set (w .row) j (at (w .row) j + left);
+              sums = sums-more (w .row) left (s .size ∙ lower-size) (omega (arith, still s, up-at j here)) (w .sums);
+              state = inr (record { stop = k; filled = filling-last fillable s refl h; none = omega (arith, still s, up-at j here) });
+            }
+        by s (no h) =
+            let more′ : at upper j - at (w .row) j < left = omega arith in
+            let e : left - (at upper j - at (w .row) j) ≡ left - capacity r j = omega (arith, still s, up-at j here) in
+            let o : k + 1 ≡ suc k = omega arith in
+            record {
+              row = set (w .row) j (at (w .row) j + (at upper j - at (w .row) j));
+              sums = sums-more (w .row) (at upper j - at (w .row) j) (s .size ∙ lower-size) (omega (arith, still s, up-at j here)) (w .sums);
+              state = inl (rw (e, o) at (filling-more fillable s refl more′));
+            }
+
+        done : Done (w .row) left → FillingSlack (suc k)
+        done s =
+            let e : at (w .row) j + 0 ≡ at (w .row) j = omega arith in
+            record {
+              row = set (w .row) j (at (w .row) j + 0);
+              sums = sums-more (w .row) 0 (s .filled .size ∙ lower-size) (omega (arith, s .none)) (w .sums);
+              state = inr (record { stop = s .stop; filled = rw (e, same-set (w .row) j (omega (arith, here, lower-size, s .filled .size))) (s .filled); none = omega (arith, s .none) });
+            }
+
+  filled : (k : ℕ) → k ≤ n → FillingSlack k
+  filled zero h = pouring-none
+  filled (suc k) h = pouring-more h (filled k (omega arith))
+
+  -- the sum at the end is the filled row's
+  pub fill-states-figure : rounded high (sumAt r (at payoff) order slack n) ≡ stepFigure high n r (at payoff)
+  unfolding bare
+  fill-states-figure = ⊎-elim (λ s. absurd (omega (arith, s .inside, lower-size))) by (w .state)
+    where
+      w : FillingSlack n
+      w = filled n (le-refl n)
+
+      sums-are : sumAt r (at payoff) order slack n ≡ dot n (at (w .row)) (at payoff)
+      sums-are = omega (arith, w .sums, sum-along n order permutation (λ j. r .lower j * at payoff j))
+
+      by : Done (w .row) (leftAt r order slack n) → rounded high (sumAt r (at payoff) order slack n) ≡ stepFigure high n r (at payoff)
+      by s =
+          ap (rounded high) (sums-are ∙ ap (λ k. dot k (at (w .row)) (at payoff)) (sym lower-size))
+          ∙ step-reached steppable (s .filled)
+          ∙ ap (λ k. stepFigure high k (rowIn lower upper) (at payoff)) lower-size
+          ∙ sym (step-agrees agree (λ j l. refl) high)

@@ -1,0 +1,224 @@
+-- The states of a year filled, and the figures that are made of its sums.
+-- Assumes nothing.
+use Prim.Native.Nat.{ℕ, suc, min, _+_, _-_, _*_, _≤_, _<_}
+use mathlib.Core.Path.{_≡_, refl, ap, sym, _∙_, subst}
+use mathlib.Core.Bool.{Bool}
+use mathlib.Core.List.{List, _++_}
+use native.Mathlib.Omega.{arith}
+use native.Mathlib.Numerals.{add-one}
+use lib.ListN.{length, take, length-append, List·getD-append, getD-replicate}
+use lib.Seq.{length-take-le, getD-take, take-at}
+use mir.Syntax.{w64}
+use mir.Val.{Fits}
+use Rattle.setchain.specs.Rows.{ONE, IntervalRow, SoundRow}
+use Rattle.setchain.specs.Step.{rounded, capacity, stepFigure}
+use Rattle.order.specs.Order.{Permutation, SortedPermutation, sorted}
+use Rattle.order.specs.Laws.Written.{Rewritten}
+use Rattle.order.specs.Laws.Permutations.{sorted-permutation, sorted-holds}
+use Rattle.step.specs.Lists.{at}
+use Rattle.step.specs.Figure.{LARGEST}
+use Rattle.bounds.specs.Entries.{lowerEnds, capacities, counts, sumOf, listedRow, chainListed, SoundTable}
+use Rattle.bounds.specs.Fill.{leftAt, sumAt, taken, FillStatePre, FillStatePost, FillStatesPre, FillStatesPost, RoundSumsPre, RoundSumsPost}
+use Rattle.bounds.specs.Years.{YearPre, YearPost}
+use Rattle.setchain.specs.Laws.Agreeing.{agree-refl, step-agrees}
+use Rattle.setchain.specs.Laws.Step.{rounded-at-most}
+use Rattle.bounds.proofs.FillStateLaws.{entry-in}
+use Rattle.bounds.proofs.FillStatesLaws.{sum-fits, fill-states-figure}
+use Rattle.bounds.proofs.FrontLaws.{zeros}
+
+-- what a figure is made of: the gain, and the sum rounded
+abbrev pub settled : (gain : List ℕ) → (high : Bool) → ℕ → ℕ → ℕ
+settled gain high k sum = at gain k + rounded high sum
+
+module _ {gain : List ℕ} (high : Bool) {sums figures : List ℕ} {i : ℕ} (able : RoundSumsPre gain sums)
+    (w : Rewritten (length gain) (settled gain high) sums figures i) where
+  pub rounding-fits : {r : ℕ} → i < length gain → r ≡ rounded high (at figures i) → Fits w64 (at gain i + r)
+  rounding-fits more is =
+      let sum : at figures i ≤ LARGEST * ONE = omega (arith, w .rest i (omega arith), able .fits i more) in
+      omega (arith, is, able .small i more, rounded-at-most high (at figures i) LARGEST sum)
+
+  pub rounding-all : length gain ≤ i → RoundSumsPost gain high sums figures
+  rounding-all h = record { size = w .size; each = λ k l. w .done k (omega arith) }
+
+-- the entries to the states at the places below k are given
+pub record Passing (entries payoff order left left′ sums : List ℕ) (k : ℕ) : Type 0 where
+  pub inside : k ≤ length payoff
+  pub lefts : length left′ ≡ length payoff
+  pub size : length sums ≡ length payoff
+  pub rest : (i : ℕ) → i < length payoff → at left′ i ≡ leftAt (listedRow entries i) order (at left i) k
+  pub sum : (i : ℕ) → i < length payoff → at sums i ≡ sumAt (listedRow entries i) (at payoff) order (at left i) k
+
+module _ {entries payoff order left sums₀ : List ℕ} (able : FillStatesPre entries payoff order left sums₀) where
+  pub filling-states-none : Passing entries payoff order left left sums₀ 0
+  unfolding leftAt sumAt
+  filling-states-none = record { inside = omega arith; lefts = able .lefts; size = able .size; rest = λ i l. refl; sum = able .none }
+
+  fits : (i : ℕ) → i < length payoff → (k : ℕ) → k ≤ length payoff → sumAt (listedRow entries i) (at payoff) order (at left i) k ≤ LARGEST * ONE
+  fits i l k h = sum-fits (length payoff) (listedRow entries i) (at payoff) order (at left i) (able .permutation) (able .held .whole i l) (able .small) k h
+
+  module _ {left′ sums : List ℕ} {k : ℕ} (w : Passing entries payoff order left left′ sums k) (more : k < length payoff)
+      {j : ℕ} (here : j ≡ at order k - 1) where
+    pub state-inside : j < length payoff
+    state-inside = omega (arith, able .permutation .within k more)
+
+    pub list-short : at entries (counts + j) ≤ 32
+    list-short = able .held .short j state-inside
+
+    count-is : j * 32 + at entries (counts + j) - j * 32 ≡ at entries (counts + j)
+    count-is = omega arith
+
+    -- what row i takes is what its sum has
+    one-more : (i : ℕ) → i < length payoff
+        → sumAt (listedRow entries i) (at payoff) order (at left i) (suc k) ≡ at sums i + taken entries (j * 32) (j * 32 + at entries (counts + j)) left′ i * at payoff j
+    unfolding sumAt
+    one-more i l =
+        rw (count-is, here)
+        (let r : IntervalRow = listedRow entries i in
+        let m : capacity r (at order k - 1) ≡ sumOf entries capacities ((at order k - 1) * 32) (at entries (counts + (at order k - 1))) i = omega arith in
+        omega (
+          arith,
+          w .sum i l,
+          ap (λ x. (r .lower (at order k - 1) + min x (capacity r (at order k - 1))) * at payoff (at order k - 1)) (w .rest i l),
+          ap (λ x. (r .lower (at order k - 1) + min (at left′ i) x) * at payoff (at order k - 1)) m,
+        ))
+
+    left-more : (i : ℕ) → i < length payoff
+        → leftAt (listedRow entries i) order (at left i) (suc k) ≡ at left′ i - sumOf entries capacities (j * 32) (j * 32 + at entries (counts + j) - j * 32) i
+    unfolding leftAt
+    left-more i l = rw (count-is, here) (omega (arith, w .rest i l))
+
+    entry-small : (e : ℕ) → j * 32 ≤ e → e < j * 32 + at entries (counts + j) → at entries (lowerEnds + e) + at entries (capacities + e) ≤ ONE
+    entry-small e a b =
+        let i : at entries e < length payoff = able .held .within e (omega (arith, state-inside, list-short, able .held .few)) in
+        omega (
+          arith,
+          entry-in entries lowerEnds (j * 32) (at entries (counts + j)) e a b,
+          entry-in entries capacities (j * 32) (at entries (counts + j)) e a b,
+          able .held .sound (at entries e) i .capped j state-inside,
+        )
+
+    pub fill-states-fills : FillStatePre entries (j * 32) (j * 32 + at entries (counts + j)) (at payoff j) left′ sums
+    fill-states-fills =
+        record {
+          size = w .size ∙ sym (w .lefts);
+          within = λ e l. omega (arith, able .held .within e l, w .lefts);
+          rises = omega arith;
+          ends = omega (arith, state-inside, list-short, able .held .few);
+          small = entry-small;
+          fits = λ i l. omega (arith, one-more i (omega (arith, w .lefts)), fits i (omega (arith, w .lefts)) (suc k) more);
+        }
+
+    pub filling-states-more : {left″ sums″ : List ℕ} → FillStatePost entries (j * 32) (j * 32 + at entries (counts + j)) (at payoff j) left′ sums left″ sums″
+        → Passing entries payoff order left left″ sums″ (k + 1)
+    filling-states-more {left″} {sums″} g =
+        record {
+          inside = omega arith;
+          lefts = g .lefts ∙ w .lefts;
+          size = g .size ∙ w .lefts;
+          rest = λ i l. rw add-one (g .rest i (omega (arith, w .lefts)) ∙ sym (left-more i l));
+          sum = λ i l. rw add-one (g .more i (omega (arith, w .lefts)) ∙ sym (one-more i l));
+        }
+
+  pub filling-states-all : {left′ sums : List ℕ} {k : ℕ} → length payoff ≤ k → Passing entries payoff order left left′ sums k
+      → FillStatesPost entries payoff order left sums
+  filling-states-all {k = k} h w =
+      let e : k ≡ length payoff = omega (arith, w .inside) in
+      let s = rw e at (w .sum) in
+      record {
+        size = w .size;
+        each = s;
+        fits = λ i l. omega (arith, s i l, fits i l (length payoff) (omega arith));
+      }
+
+-- a year of n states, where figures, slack and sums stand at the fronts of arrays
+module _ {entries slack gain order before : List ℕ} (w : YearPre entries slack gain order before)
+    (fits : length gain ≤ length before) where
+  front-count : length (take (length gain) before) ≡ length gain
+  front-count = length-take-le (length gain) before fits
+
+  pub slack-count : length (take (length gain) slack) ≡ length gain
+  slack-count = length-take-le (length gain) slack (w .held .stored)
+
+  zero-count : length (take (length gain) zeros) ≡ length gain
+  zero-count = length-take-le (length gain) zeros (w .held .few)
+
+  slack-at : (i : ℕ) → i < length gain → at (take (length gain) slack) i ≡ at slack i
+  slack-at i l = getD-take (length gain) slack i 0 l
+
+  module _ (high : Bool) {order′ : List ℕ} (is : order′ ≡ sorted (take (length gain) before) high order) where
+    -- the order has the classes by the figures before
+    by-payoff : SortedPermutation (take (length gain) before) high order′
+    by-payoff =
+        subst (SortedPermutation (take (length gain) before) high) (sym is)
+        (sorted-holds (take (length gain) before) high order (subst (λ n. Permutation n order) (sym front-count) (w .permutation)) (omega (arith, front-count, w .held .few)))
+
+    small : (j : ℕ) → j < length gain → at (take (length gain) before) j ≤ LARGEST
+    small j l = subst (λ x. x ≤ LARGEST) (sym (getD-take (length gain) before j 0 l)) (w .small j l)
+
+    pub year-permutation : Permutation (length gain) order′
+    year-permutation = subst (λ n. Permutation n order′) front-count (sorted-permutation by-payoff)
+
+    pub year-fills-states : FillStatesPre entries (take (length gain) before) order′ (take (length gain) slack) (take (length gain) zeros)
+    year-fills-states =
+        record {
+          held =
+              subst (λ n. SoundTable n entries (take (length gain) slack)) (sym front-count)
+              (record {
+                few = w .held .few;
+                within = w .held .within;
+                short = w .held .short;
+                stored = omega (arith, slack-count);
+                sound = w .held .sound;
+                whole = λ i l. omega (arith, w .held .whole i l, slack-at i l);
+              });
+          permutation = sorted-permutation by-payoff;
+          small = λ j l. small j (omega (arith, front-count));
+          lefts = slack-count ∙ sym front-count;
+          size = zero-count ∙ sym front-count;
+          none = λ i l. getD-take (length gain) zeros i 0 (omega (arith, front-count)) ∙ getD-replicate 32 i 0 0 (omega (arith, front-count, w .held .few));
+        }
+
+    module _ {sums : List ℕ} (k : FillStatesPost entries (take (length gain) before) order′ (take (length gain) slack) sums) (rest : List ℕ) where
+      sums-count : length sums ≡ length gain
+      sums-count = k .size ∙ front-count
+
+      pub sums-fit : length gain ≤ length (sums ++ rest)
+      sums-fit = omega (arith, sums-count, length-append sums rest)
+
+      lent : take (length gain) (sums ++ rest) ≡ sums
+      lent = take-at sums rest (length gain) sums-count
+
+      pub sums-size : length gain ≡ length (take (length gain) (sums ++ rest))
+      sums-size = sym (length-take-le (length gain) (sums ++ rest) sums-fit)
+
+      pub year-rounds : RoundSumsPre gain (take (length gain) (sums ++ rest))
+      year-rounds =
+          rw lent
+          (record {
+            size = sums-count;
+            small = w .rises;
+            fits = λ i l. k .fits i (omega (arith, front-count));
+          })
+
+      pub year-figures : {figures : List ℕ} (rest′ : List ℕ) → RoundSumsPost gain high (take (length gain) (sums ++ rest)) figures
+          → YearPost (chainListed (length gain) entries) gain before high (figures ++ rest′)
+      year-figures {figures} rest′ s =
+          record {
+            each = λ i l.
+                List·getD-append figures rest′ 0 i (omega (arith, s .size))
+                ∙ s .each i l
+                ∙ ap (λ x. at gain i + rounded high (at x i)) lent
+                ∙ ap (λ x. at gain i + rounded high x) (k .each i (omega (arith, front-count)))
+                ∙ ap (λ x. at gain i + x) (figure i l);
+          }
+        where
+          figure : (i : ℕ) → i < length gain
+              → rounded high (sumAt (listedRow entries i) (at (take (length gain) before)) order′ (at (take (length gain) slack) i) (length (take (length gain) before)))
+              ≡ stepFigure high (length gain) (listedRow entries i) (at before)
+          figure i l =
+              fill-states-figure high (listedRow entries i) (take (length gain) before) order′ (at (take (length gain) slack) i)
+              (subst (λ n. SoundRow n (listedRow entries i)) (sym front-count) (w .held .sound i l)) by-payoff
+              (λ j m. small j (omega (arith, front-count)))
+              (year-fills-states .held .whole i (omega (arith, front-count)))
+              ∙ ap (λ n. stepFigure high n (listedRow entries i) (at (take (length gain) before))) front-count
+              ∙ step-agrees (agree-refl (length gain) (listedRow entries i)) (λ j m. getD-take (length gain) before j 0 m) high

@@ -1,0 +1,139 @@
+-- `fill_states` gives the entries to the states along the order.
+-- Assumes nothing.
+use Prim.Native.Nat.{_+_, _-_, _≤_, _<_}
+use mathlib.Core.Path.{_≡_, _∙_}
+use native.Mathlib.Omega.{arith}
+use lib.ListN.{length}
+use Rattle.step.specs.Lists.{at}
+use Rattle.bounds.specs.Entries.{counts}
+use Rattle.bounds.proofs.YearLaws.{Passing, filling-states-none, state-inside, list-short, fill-states-fills, filling-states-more, filling-states-all}
+use Rattle.order.specs.Laws.Numbers.{state-of}
+use Rattle.bounds.proofs.year.fill_states.Statement.{statement}
+use Rattle.bounds.proofs.year.fill_states.Tie as tie
+
+abbrev Inv-loop : tie.InvT-loop
+Inv-loop entries payoff order left₀ sums₀ k₀ left sums k = Passing entries payoff order left₀ left sums k
+
+abbrev μ-loop : tie.MeasureT-loop
+μ-loop entries payoff order left₀ sums₀ k₀ left sums k = length payoff - k
+
+-- the class at place k has a state
+named : (c : tie.After-state Inv-loop μ-loop) → let at-loop = c .before .before .before in
+    let start = at-loop .before .before .before .before .before in
+    c .state .result ≡ at (start .args .order .now) (at-loop .loop .k) - 1
+named c =
+    let at-loop = c .before .before .before in
+    let start = at-loop .before .before .before .before .before in
+    let able = start .pre in
+    c .state .ensures ∙ state-of _ (able .permutation .within (at-loop .loop .k) (omega (arith, able .permutation .size)) .0)
+
+-- and how long its list is
+here : (c : tie.After-state Inv-loop μ-loop)
+    → let start = c .before .before .before .before .before .before .before .before in
+    let a = start .args in
+    (c .state .result < 32) × (c .state .result < length (a .payoff .now)) × (at (a .entries .now) (counts + c .state .result) ≤ 32)
+here c =
+    let at-loop = c .before .before .before in
+    let start = at-loop .before .before .before .before .before in
+    let able = start .pre in
+    let w = at-loop .loop .inv in
+    let more : at-loop .loop .k < length (start .args .payoff .now) = omega (arith, able .permutation .size) in
+    omega (arith, able .held .few, state-inside able w more (named c), list-short able w more (named c))
+
+loop-holds : tie.Need-loop-holds Inv-loop μ-loop
+loop-holds c =
+    let start = c .before .before .before .before in
+    filling-states-none (start .pre)
+
+shared-slice-read-state : tie.Need-shared-slice-read-state Inv-loop μ-loop
+shared-slice-read-state c = omega arith
+
+state-requires : tie.Need-state-requires Inv-loop μ-loop
+state-requires c κs = tt
+
+mul-first : tie.Need-mul-first Inv-loop μ-loop
+mul-first c = omega (arith, here c)
+
+add-fill-state : tie.Need-add-fill-state Inv-loop μ-loop
+add-fill-state c = omega (arith, here c)
+
+mul-fill-state : tie.Need-mul-fill-state Inv-loop μ-loop
+mul-fill-state c = omega (arith, here c)
+
+element-copy-out-fill-state : tie.Need-element-copy-out-fill-state Inv-loop μ-loop
+element-copy-out-fill-state c = omega (arith, here c)
+
+cast-fill-state : tie.Need-cast-fill-state Inv-loop μ-loop
+cast-fill-state c = omega (arith, here (c .before))
+
+add-fill-state-2 : tie.Need-add-fill-state-2 Inv-loop μ-loop
+add-fill-state-2 c = omega (arith, here (c .before))
+
+mul-fill-state-2 : tie.Need-mul-fill-state-2 Inv-loop μ-loop
+mul-fill-state-2 c = omega (arith, here (c .before))
+
+shared-slice-read-fill-state : tie.Need-shared-slice-read-fill-state Inv-loop μ-loop
+shared-slice-read-fill-state c = omega (arith, here (c .before .before))
+
+fill-state-requires : tie.Need-fill-state-requires Inv-loop μ-loop
+fill-state-requires c κs =
+    let at-state = c .before .before .before .before in
+    let at-loop = at-state .before .before .before in
+    let start = at-loop .before .before .before .before .before in
+    fill-states-fills (start .pre) (at-loop .loop .inv) (omega (arith, start .pre .permutation .size)) (named at-state)
+
+add-k : tie.Need-add-k Inv-loop μ-loop
+add-k c = omega arith
+
+loop-less : tie.Need-loop-less Inv-loop μ-loop
+loop-less c =
+    let start = c .before .before .before .before .before .before .before .before .before .before .before .before .before .before .before .before .before in
+    omega (arith, start .pre .permutation .size)
+
+loop-again : tie.Need-loop-again Inv-loop μ-loop
+loop-again c =
+    let at-fill-state = c .before .before .before .before in
+    let at-state = at-fill-state .before .before .before .before .before in
+    let at-loop = at-state .before .before .before in
+    let start = at-loop .before .before .before .before .before in
+    filling-states-more (start .pre) (at-loop .loop .inv) (omega (arith, start .pre .permutation .size)) (named at-state) (at-fill-state .fill-state .ensures)
+
+same-length : tie.Need-same-length Inv-loop μ-loop
+same-length c =
+    let start = c .before .before .before .before .before .before in
+    omega (arith, c .before .loop .inv .lefts, start .pre .lefts)
+
+same-length-2 : tie.Need-same-length-2 Inv-loop μ-loop
+same-length-2 c =
+    let start = c .before .before .before .before .before .before in
+    omega (arith, c .before .loop .inv .size, start .pre .size)
+
+returns : tie.Need-returns Inv-loop μ-loop
+returns c =
+    let start = c .before .before .before .before .before .before in
+    filling-states-all (start .pre) (omega (arith, start .pre .permutation .size)) (c .before .loop .inv)
+
+pub fill-states-spec : {M : Type 1} → statement M
+fill-states-spec =
+    tie.close
+    (tie.spec
+    Inv-loop
+    μ-loop
+    loop-holds
+    shared-slice-read-state
+    state-requires
+    mul-first
+    add-fill-state
+    mul-fill-state
+    element-copy-out-fill-state
+    cast-fill-state
+    add-fill-state-2
+    mul-fill-state-2
+    shared-slice-read-fill-state
+    fill-state-requires
+    add-k
+    loop-less
+    loop-again
+    same-length
+    same-length-2
+    returns)

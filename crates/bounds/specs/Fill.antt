@@ -1,0 +1,69 @@
+-- The fill of a year: along an order of the states, each row gets its lower parts and, as far as it has slack left, parts of it.
+use Prim.Native.Nat.{ℕ, zero, suc, min, _+_, _-_, _*_, _≤_, _<_}
+use mathlib.Core.Path.{_≡_}
+use mathlib.Core.Bool.{Bool}
+use mathlib.Core.List.{List}
+use lib.ListN.{length}
+use Rattle.setchain.specs.Rows.{ONE, IntervalRow}
+use Rattle.setchain.specs.Step.{rounded, capacity}
+use Rattle.order.specs.Order.{Permutation}
+use Rattle.step.specs.Lists.{at}
+use Rattle.step.specs.Figure.{LARGEST}
+use Rattle.bounds.specs.Entries.{lowerEnds, capacities, sumOf, listedRow, SoundTable}
+
+-- the slack that a row has left when the states at the first k places of the order had theirs
+unfoldable pub leftAt : IntervalRow → List ℕ → ℕ → ℕ → ℕ
+leftAt r order slack zero = slack
+leftAt r order slack (suc k) = leftAt r order slack k - capacity r (at order k - 1)
+
+-- the sum of part times payoff over those states
+unfoldable pub sumAt : IntervalRow → (ℕ → ℕ) → List ℕ → ℕ → ℕ → ℕ
+sumAt r f order slack zero = 0
+sumAt r f order slack (suc k) =
+    sumAt r f order slack k + (r .lower (at order k - 1) + min (leftAt r order slack k) (capacity r (at order k - 1))) * f (at order k - 1)
+
+-- the parts that row i takes of the entries to one state
+abbrev pub taken : (entries : List ℕ) → (first end : ℕ) → List ℕ → ℕ → ℕ
+taken entries first end left i = sumOf entries lowerEnds first (end - first) i + min (at left i) (sumOf entries capacities first (end - first) i)
+
+-- what it takes to give the entries to one state: rows that all have a place, entries of at most ONE, and sums that fit
+pub record FillStatePre (entries : List ℕ) (first end value : ℕ) (left sums : List ℕ) : Type 0 where
+  pub size : length sums ≡ length left
+  pub within : (e : ℕ) → e < 1024 → at entries e < length left
+  pub rises : first ≤ end
+  pub ends : end ≤ 1024
+  pub small : (e : ℕ) → first ≤ e → e < end → at entries (lowerEnds + e) + at entries (capacities + e) ≤ ONE
+  pub fits : (i : ℕ) → i < length left → at sums i + taken entries first end left i * value ≤ LARGEST * ONE
+
+-- what it leaves
+pub record FillStatePost (entries : List ℕ) (first end value : ℕ) (left sums left′ sums′ : List ℕ) : Type 0 where
+  pub lefts : length left′ ≡ length left
+  pub size : length sums′ ≡ length left
+  pub rest : (i : ℕ) → i < length left → at left′ i ≡ at left i - sumOf entries capacities first (end - first) i
+  pub more : (i : ℕ) → i < length left → at sums′ i ≡ at sums i + taken entries first end left i * value
+
+-- what the fill takes: lists that hold sound rows, an order, payoffs that are not too large, the rows' slack, and sums of 0
+pub record FillStatesPre (entries payoff order left sums : List ℕ) : Type 0 where
+  pub held : SoundTable (length payoff) entries left
+  pub permutation : Permutation (length payoff) order
+  pub small : (j : ℕ) → j < length payoff → at payoff j ≤ LARGEST
+  pub lefts : length left ≡ length payoff
+  pub size : length sums ≡ length payoff
+  pub none : (i : ℕ) → i < length payoff → at sums i ≡ 0
+
+-- what it leaves: each row's sum, which fits
+pub record FillStatesPost (entries payoff order left sums : List ℕ) : Type 0 where
+  pub size : length sums ≡ length payoff
+  pub each : (i : ℕ) → i < length payoff → at sums i ≡ sumAt (listedRow entries i) (at payoff) order (at left i) (length payoff)
+  pub fits : (i : ℕ) → i < length payoff → at sums i ≤ LARGEST * ONE
+
+-- sums and gains that make figures
+pub record RoundSumsPre (gain sums : List ℕ) : Type 0 where
+  pub size : length sums ≡ length gain
+  pub small : (i : ℕ) → i < length gain → at gain i ≤ LARGEST
+  pub fits : (i : ℕ) → i < length gain → at sums i ≤ LARGEST * ONE
+
+-- the figures that they make
+pub record RoundSumsPost (gain : List ℕ) (high : Bool) (sums figures : List ℕ) : Type 0 where
+  pub size : length figures ≡ length gain
+  pub each : (i : ℕ) → i < length gain → at figures i ≡ at gain i + rounded high (at sums i)
