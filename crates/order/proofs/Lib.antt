@@ -4,3 +4,4 @@ pub mod InsertLaws
 pub mod InOrderLaws
 pub mod SortLaws
 pub mod StateLaws
+pub mod AheadLaws

@@ -26,5 +26,5 @@ pub fn figure(row: &[u64], payoff: &[u64], high: bool) -> u64
     requires { ⌜ WeighPre (now row) (now payoff) ⌝ }
     ensures { λ r. ⌜ r ≡ rounded high (dot (length (now (row .entry))) (at (now (row .entry))) (at (now (payoff .entry)))) ⌝ }
 {
-    direction::round(weigh(row, payoff), high)
+    rounding::round(weigh(row, payoff), high)
 }

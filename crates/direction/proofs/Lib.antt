@@ -1,2 +1,0 @@
--- Laws of the flag, which the functions' proofs cite.
-pub mod RoundingLaws

@@ -1,0 +1,2 @@
+-- Laws over plain numbers, which the function's proof cites.
+pub mod RoundLaws
