@@ -6,16 +6,14 @@ use mathlib.Core.List.{List}
 use lib.ListN.{length}
 use Rattle.scheme.specs.declared.Scheme.{Scheme}
 use Rattle.scheme.specs.Accepted.{Accepted}
-use Rattle.scheme.specs.Cause.{causeOf, orElse}
-use Rattle.scheme.specs.Laws.Cause.{declined, first-none, second-none}
+use Rattle.scheme.specs.Cause.{causeOf, orElse, slicesCause}
+use Rattle.scheme.specs.Laws.Cause.{declined, first-none, second-none, slices-fit}
 use Rattle.scheme.specs.Laws.Judged.{accepted-cause}
-use Rattle.bounds_spec.specs.Causes.{slicesCause}
 use Rattle.bounds_spec.specs.Answers.{sheetSlice}
 use Rattle.bounds_spec.specs.Table.{tableSize, lowTable, highTable, tableCause}
 use Rattle.bounds.specs.Columns.{WriteTablePre}
 use Rattle.bounds_spec.specs.Promises.{FiguresPromise}
 use Rattle.bounds_spec.specs.Laws.Kept.{figures-kept}
-use Rattle.bounds.proofs.SheetLaws.{slices-fit}
 
 -- the code's cause is the definition's
 pub table-cause : (s : Scheme) (low high : List ℕ) {n : ℕ}

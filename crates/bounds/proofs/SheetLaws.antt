@@ -2,24 +2,20 @@
 -- Assumes nothing.
 use Prim.Native.Nat.{ℕ, _+_, _-_, _≤_, _<_}
 use mathlib.Core.Path.{_≡_, refl, ap, sym, _∙_, subst, subst₂}
-use mathlib.Core.Bool.{Bool, true, false, not, _||_, true≢false}
+use mathlib.Core.Bool.{Bool, true, false}
 use mathlib.Core.List.{List}
 use native.Mathlib.Omega.{arith}
-use lib.Dec.{eqb}
 use lib.ListN.{length, set}
-use borrow.Author.Tests.{eqb-true}
 use Rattle.setchain.specs.Years.{shareFigure}
 use Rattle.scheme.specs.declared.Scheme.{Scheme}
 use Rattle.scheme.specs.Accepted.{Accepted}
-use Rattle.scheme.specs.Cause.{orElse}
+use Rattle.scheme.specs.Cause.{orElse, slicesCause}
 use Rattle.scheme.specs.Rows.{chainOf}
-use Rattle.scheme.specs.Laws.Cause.{declined, first-none, second-none, test-none}
+use Rattle.scheme.specs.Laws.Cause.{declined, first-none, second-none, slices-fit}
 use Rattle.scheme.specs.Laws.Tab.{as-tab}
-use Rattle.scheme.specs.Laws.Tables.{or-false-left, or-false-right}
 use Rattle.order.specs.Laws.Written.{Written, written-more}
 use Rattle.bounds.specs.Start.{startFigure, SharePayoffPost, WriteSharesPre}
-use Rattle.bounds_spec.specs.Causes.{slicesCause}
-use Rattle.bounds_spec.specs.Answers.{startOf, moneyCause, sliceCause, sheetCause, sheetSlice, figureShares, lowShares, highShares}
+use Rattle.bounds_spec.specs.Answers.{startOf, moneyCause, sheetCause, sheetSlice, figureShares, lowShares, highShares}
 use Rattle.bounds_spec.specs.Promises.{SheetPromise}
 use Rattle.bounds_spec.specs.Laws.Kept.{sheet-kept}
 use Rattle.bounds.proofs.FrontLaws.{zeros}
@@ -49,28 +45,16 @@ pub shares-all : (s : Scheme) (high : Bool) (year : ℕ) (out : List ℕ) {j : �
 unfolding figureShares
 shares-all s high year out h w = as-tab 0 out (s .classes) (shareOf high s year) (w .size) (λ i l. w .done i (omega arith))
 
--- two slices without a cause are of the wanted size
-test-not : (b : Bool) → not b ≡ false → b ≡ true
-test-not true e = refl
-test-not false e = absurd (true≢false e)
-
-pub slices-fit : (size low high : ℕ) → slicesCause size low high ≡ 0 → (low ≡ size) × (high ≡ size)
-slices-fit size low high z =
-    let fits : (not (eqb low size) || not (eqb high size)) ≡ false = test-none (not (eqb low size) || not (eqb high size)) 13 (omega arith) z in (
-      eqb-true low size (test-not (eqb low size) (or-false-left (not (eqb low size)) (not (eqb high size)) fits)),
-      eqb-true high size (test-not (eqb high size) (or-false-right (not (eqb low size)) (not (eqb high size)) fits)),
-    )
-
 -- what a cause of 0 tells of a share sheet's slices
 pub sheeted : (s : Scheme) (year : ℕ) (low high : List ℕ) → sheetCause s year low high ≡ 0 → WriteSharesPre s low × WriteSharesPre s high
 unfolding sheetCause
 sheeted s year low high z =
-    let accepted : Accepted s = money-accepted s year (first-none (moneyCause s year) (sliceCause s low high) z) in
-    let sizes = slices-fit (s .classes) (length low) (length high) (second-none (moneyCause s year) (sliceCause s low high) z) in
+    let accepted : Accepted s = money-accepted s year (first-none (moneyCause s year) (slicesCause (s .classes) (length low) (length high)) z) in
+    let sizes = slices-fit (s .classes) (length low) (length high) (second-none (moneyCause s year) (slicesCause (s .classes) (length low) (length high)) z) in
     (record { accepted = accepted; size = sizes .0 }, record { accepted = accepted; size = sizes .1 })
 
 -- the code's cause is the definition's
-pub sheet-cause : (s : Scheme) (year : ℕ) (low high : List ℕ) (n : ℕ) → n ≡ orElse (moneyCause s year) (sliceCause s low high) → n ≡ sheetCause s year low high
+pub sheet-cause : (s : Scheme) (year : ℕ) (low high : List ℕ) (n : ℕ) → n ≡ orElse (moneyCause s year) (slicesCause (s .classes) (length low) (length high)) → n ≡ sheetCause s year low high
 unfolding sheetCause
 sheet-cause s year low high n e = e
 

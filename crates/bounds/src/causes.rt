@@ -1,12 +1,13 @@
 // The causes for which a query of a scheme is declined, tests in number order (document 01, "When a call is declined").
 use scheme::Scheme;
 use scheme::or_else;
+use scheme::slices_cause;
 ghost use mathlib.Core.Path.{_≡_};
 ghost use Prim.Native.Nat.{_+_, _*_};
 ghost use mathlib.Core.Bool.{cond};
 ghost use lib.Dec.{ltb};
 ghost use Rattle.scheme.specs.Cause.{outside};
-ghost use Rattle.bounds_spec.specs.Causes.{moneyCause, shareCause, sheetLengthsCause, slicesCause, tableLengthsCause};
+ghost use Rattle.bounds_spec.specs.Causes.{moneyCause, shareCause, sheetLengthsCause, tableLengthsCause};
 
 // Cause 11: a class that is not one of 1 to s.
 fn class_cause(classes: u8, class: u64) -> u8
@@ -24,19 +25,6 @@ fn year_cause(horizon: u8, year: u64) -> u8
 {
     if (horizon as u64) < year {
         return scheme::YEAR_OUT;
-    }
-    0
-}
-
-// Cause 13: one of two slices is not of as many numbers as are wanted.
-fn slice_cause(size: usize, low: usize, high: usize) -> u8
-    ensures { λ r. ⌜ r ≡ slicesCause size low high ⌝ }
-{
-    if low != size {
-        return scheme::SLICE_OUT;
-    }
-    if high != size {
-        return scheme::SLICE_OUT;
     }
     0
 }
@@ -66,7 +54,7 @@ pub fn sheet_cause(scheme: Scheme, year: u64, low: usize, high: usize) -> u8
     ensures { λ r. ⌜ r ≡ sheetLengthsCause scheme year low high ⌝ }
 {
     let money = money_cause(scheme, year);
-    let slices = slice_cause(scheme.classes as usize, low, high);
+    let slices = slices_cause(scheme.classes as usize, low, high);
     or_else(money, slices)
 }
 
@@ -85,6 +73,6 @@ pub fn table_cause(scheme: Scheme, low: usize, high: usize) -> u8
 {
     let own = acceptance::cause(scheme);
     let size = table_size(scheme.classes, scheme.horizon);
-    let slices = slice_cause(size, low, high);
+    let slices = slices_cause(size, low, high);
     or_else(own, slices)
 }

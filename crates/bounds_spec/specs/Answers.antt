@@ -9,7 +9,7 @@ use Rattle.scheme.specs.declared.Scheme.{Scheme}
 use Rattle.scheme.specs.Tables.{tab}
 use Rattle.scheme.specs.Access.{premiumAt}
 use Rattle.scheme.specs.Rows.{chainOf}
-use Rattle.bounds_spec.specs.Causes.{slicesCause, sheetLengthsCause}
+use Rattle.bounds_spec.specs.Causes.{sheetLengthsCause}
 pub use Rattle.bounds_spec.specs.Causes.{shareCause, moneyCause}
 use Rattle.bounds_spec.specs.declared.Bounds.{Bounds}
 use Rattle.bounds_spec.specs.declared.Bounds.the-variants.{Answered, Refused}
@@ -57,10 +57,6 @@ totalAnswer s year =
     answerBy (moneyCause s year)
     (lowTotal (chainOf s) (premiumAt s) year (startOf s))
     (highTotal (chainOf s) (premiumAt s) year (startOf s))
-
--- cause 13: a sheet slice not of s numbers
-abbrev pub sliceCause : Scheme → List ℕ → List ℕ → ℕ
-sliceCause s low high = slicesCause (s .classes) (length low) (length high)
 
 -- the cause of a share sheet into two slices: 3, 5 to 10, 12, then 13
 unfoldable pub sheetCause : Scheme → ℕ → List ℕ → List ℕ → ℕ

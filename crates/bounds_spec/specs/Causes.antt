@@ -1,9 +1,7 @@
 -- The first cause for which a query of a scheme is declined (document 01, "When a call is declined").
 use Prim.Native.Nat.{ℕ, suc, _+_, _*_}
-use mathlib.Core.Bool.{cond, not, _||_}
-use lib.Dec.{eqb}
 use Rattle.scheme.specs.declared.Scheme.{Scheme}
-use Rattle.scheme.specs.Cause.{causeOf, orElse, classCause, yearCause}
+use Rattle.scheme.specs.Cause.{causeOf, orElse, classCause, yearCause, slicesCause}
 
 -- of the share of a class: causes 3, 5 to 10, 11, then 12
 abbrev pub shareCause : Scheme → ℕ → ℕ → ℕ
@@ -12,10 +10,6 @@ shareCause s class year = orElse (causeOf s) (orElse (classCause s class) (yearC
 -- of money: causes 3, 5 to 10, then 12
 abbrev pub moneyCause : Scheme → ℕ → ℕ
 moneyCause s year = orElse (causeOf s) (yearCause s year)
-
--- cause 13: one of two slices is not of as many numbers as are wanted
-abbrev pub slicesCause : (size low high : ℕ) → ℕ
-slicesCause size low high = cond (not (eqb low size) || not (eqb high size)) 13 0
 
 -- of a share sheet into slices of two lengths: causes 3, 5 to 10, 12, then 13
 abbrev pub sheetLengthsCause : Scheme → (year low high : ℕ) → ℕ

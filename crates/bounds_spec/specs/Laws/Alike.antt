@@ -9,13 +9,13 @@ use Rattle.setchain.specs.Laws.Agreeing.{Agree, years-agree}
 use Rattle.scheme.specs.declared.Scheme.{Scheme}
 use Rattle.scheme.specs.Tables.{tab}
 use Rattle.scheme.specs.Access.{premiumAt}
-use Rattle.scheme.specs.Cause.{premiumOut, causeOf, orElse, classCause, yearCause}
+use Rattle.scheme.specs.Cause.{premiumOut, causeOf, orElse, classCause, yearCause, slicesCause}
 use Rattle.scheme.specs.Rows.{chainOf}
 use Rattle.scheme.specs.Values.{SameValues}
 use Rattle.scheme.specs.Laws.Cause.{first-none, by-cause}
 use Rattle.scheme.specs.Laws.Judged.{accepted-cause}
 use Rattle.scheme.specs.Laws.Values.{Alike, alike-values, alike-next, class-same, year-same, lower-same, upper-same}
-use Rattle.bounds_spec.specs.Causes.{shareCause, moneyCause, slicesCause, sheetLengthsCause, tableSize, tableLengthsCause}
+use Rattle.bounds_spec.specs.Causes.{shareCause, moneyCause, sheetLengthsCause, tableSize, tableLengthsCause}
 use Rattle.bounds_spec.specs.Answers.{startOf, figureShares}
 use Rattle.bounds_spec.specs.Table.{tableEntry, figureTable}
 

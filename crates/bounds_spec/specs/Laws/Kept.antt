@@ -2,8 +2,7 @@
 use Prim.Native.Nat.{ℕ, _-_, _<_}
 use mathlib.Core.Path.{_≡_, ap, sym, _∙_, subst, subst₂}
 use mathlib.Core.List.{List}
-use mathlib.Core.Bool.{Bool, true, false, cond, not, _||_}
-use lib.Dec.{eqb}
+use mathlib.Core.Bool.{Bool, true, false}
 use lib.ListN.{getD, length}
 use native.Mathlib.Decide.{ℕ-discrete}
 use native.Mathlib.Omega.{arith}
@@ -15,14 +14,15 @@ use Rattle.setchain.specs.Theorems.{share-promise, mean-promise, total-promise,
 use Rattle.scheme.specs.declared.Scheme.{Scheme}
 use Rattle.scheme.specs.Access.{premiumAt}
 use Rattle.scheme.specs.Accepted.{Accepted}
-use Rattle.scheme.specs.Cause.{causeOf, orElse, classCause, yearCause}
+use Rattle.scheme.specs.Cause.{causeOf, orElse, classCause, yearCause, slicesCause}
 use Rattle.scheme.specs.Rows.{chainOf}
 use Rattle.scheme.specs.Laws.Cause.{declined, answered, first-none}
 use Rattle.scheme.specs.Laws.Judged.{accepted-cause}
 use Rattle.scheme.specs.Laws.Sound.{accepted-sound}
 use Rattle.scheme.specs.Laws.Tab.{getD-tab}
 use Rattle.bounds_spec.specs.declared.Bounds.the-variants.{Answered, Refused}
-use Rattle.bounds_spec.specs.Answers.{numberOf, lowOf, highOf, answerBy, startOf, shareCause, shareAnswer, moneyCause, meanAnswer, totalAnswer, sheetCause, sliceCause, sheetSlice, figureShares, lowShares, highShares}
+use Rattle.bounds_spec.specs.Answers.{numberOf, lowOf, highOf, answerBy, startOf, shareCause, shareAnswer, moneyCause, meanAnswer, totalAnswer}
+use Rattle.bounds_spec.specs.Answers.{sheetCause, sheetSlice, figureShares, lowShares, highShares}
 use Rattle.bounds_spec.specs.Promises.{Kept, startShare, startMean, startTotal, SharePromise, MeanPromise, TotalPromise, SheetPromise, TableKept, FiguresPromise}
 use Rattle.bounds_spec.specs.Table.{tableSize, lowTable, highTable, tableCause}
 use Rattle.bounds_spec.specs.Laws.Table.{share-at, mean-at, total-at}
@@ -100,7 +100,7 @@ sheet-kept s year low high z j l = subst₂ (Kept s year (startShare s j)) (sym 
     number = sheetCause s year low high
 
     ok : Accepted s
-    ok = accepted-cause s (first-none (causeOf s) (yearCause s year) (first-none (moneyCause s year) (sliceCause s low high) z))
+    ok = accepted-cause s (first-none (causeOf s) (yearCause s year) (first-none (moneyCause s year) (slicesCause (s .classes) (length low) (length high)) z))
 
     written : (side : Bool) (before : List ℕ) → getD (sheetSlice number (figureShares side s year) before) j 0 ≡ shareFigure side (chainOf s) j year (startOf s)
     written side before =
@@ -129,4 +129,4 @@ figures-kept s low high z =
     subst₂ (λ a b. TableKept s a b)
     (sym (answered (tableCause s low high) (lowTable s) low z))
     (sym (answered (tableCause s low high) (highTable s) high z))
-    (table-kept s (accepted-cause s (first-none (causeOf s) (cond (not (eqb (length low) (tableSize s)) || not (eqb (length high) (tableSize s))) 13 0) z)))
+    (table-kept s (accepted-cause s (first-none (causeOf s) (slicesCause (tableSize s) (length low) (length high)) z)))

@@ -1,14 +1,14 @@
 -- Laws of the first cause: what each test tells, and how the stages of the code make the whole.
 use Prim.Native.Nat.{ℕ, _≤_, _<_}
 use mathlib.Core.Path.{_≡_, refl, ap, ap₂, sym, _∙_}
-use mathlib.Core.Bool.{Bool, true, false, cond}
+use mathlib.Core.Bool.{Bool, true, false, cond, not, true≢false}
 use lib.Dec.{eqb, ltb}
 use native.Mathlib.Decide.{ℕ-discrete}
 use native.Mathlib.Omega.{arith}
 use borrow.Author.Tests.{ltb-false, eqb-false, eq-eqb, ne-eqb, le-ltb}
 use Rattle.scheme.specs.declared.Scheme.{Scheme}
 use Rattle.scheme.specs.Access.{cellCount, lowerAt, upperAt}
-use Rattle.scheme.specs.Cause.{outside, sizesOut, sizesCause, sizeOut, startOut, horizonOut, ruleOut, bandOut, sumOut, causeWhere, orElse}
+use Rattle.scheme.specs.Cause.{outside, sizesOut, sizesCause, sizeOut, startOut, horizonOut, ruleOut, bandOut, sumOut, causeWhere, orElse, sliceCause, slicesCause}
 use Rattle.scheme.specs.Accepted.{SizeFits}
 use Rattle.scheme.specs.Stages.{formCause, bandCause}
 use Rattle.scheme.specs.Laws.Tables.{or-false-left, or-false-right, any-same}
@@ -49,6 +49,20 @@ second-none a b e = sym (second-cause a b (first-none a b e)) ∙ e
 pub test-none : (b : Bool) (n : ℕ) → 0 < n → cond b n 0 ≡ 0 → b ≡ false
 test-none true n h e = absurd (omega arith)
 test-none false n h e = refl
+
+-- a slice without cause 13 is of the size asked for, and so are two
+pub slice-fits : (size given : ℕ) → sliceCause size given ≡ 0 → given ≡ size
+slice-fits size given e = by (ℕ-discrete given size)
+  where
+    by : Dec (given ≡ size) → given ≡ size
+    by (yes z) = z
+    by (no h) = absurd (true≢false (sym (ap not (ne-eqb given size h)) ∙ test-none (not (eqb given size)) 13 (omega arith) e))
+
+pub slices-fit : (size one other : ℕ) → slicesCause size one other ≡ 0 → (one ≡ size) × (other ≡ size)
+slices-fit size one other e = (
+  slice-fits size one (first-none (sliceCause size one) (sliceCause size other) e),
+  slice-fits size other (second-none (sliceCause size one) (sliceCause size other) e),
+)
 
 -- no cause in the sizes
 pub sizes-clear : (s m : ℕ) → sizesCause s m ≡ 0 → ((1 ≤ s) × (s ≤ 32)) × ((1 ≤ m) × (m ≤ 8))

@@ -8,19 +8,19 @@ use Rattle.bounds.proofs.causes.sheet_cause.Tie as tie
 money-cause-requires : tie.Need-money-cause-requires
 money-cause-requires c κs = search needs
 
-cast-slice-cause : tie.Need-cast-slice-cause
-cast-slice-cause c = search needs
+cast-slices-cause : tie.Need-cast-slices-cause
+cast-slices-cause c = search needs
 
-slice-cause-requires : tie.Need-slice-cause-requires
-slice-cause-requires c κs = search needs
+slices-cause-requires : tie.Need-slices-cause-requires
+slices-cause-requires c κs = search needs
 
 or-else-requires : tie.Need-or-else-requires
 or-else-requires c κs = search needs
 
 returns : tie.Need-returns
-returns c = c .or-else .ensures ∙ ap₂ (λ a b. orElse a b) (c .before .before .before .money-cause .ensures) (c .before .slice-cause .ensures)
+returns c = c .or-else .ensures ∙ ap₂ (λ a b. orElse a b) (c .before .before .before .money-cause .ensures) (c .before .slices-cause .ensures)
 
 pub sheet-cause-spec : {M : Type 1} → statement M
 sheet-cause-spec =
     tie.close
-    (tie.spec money-cause-requires cast-slice-cause slice-cause-requires or-else-requires returns)
+    (tie.spec money-cause-requires cast-slices-cause slices-cause-requires or-else-requires returns)

@@ -3,8 +3,8 @@ use Prim.Native.Nat.{_+_, _*_}
 use mathlib.Core.Path.{_≡_, ap, ap₂, _∙_}
 use native.Mathlib.Omega.{arith}
 use Rattle.scheme.specs.declared.Scheme.{Scheme}
-use Rattle.scheme.specs.Cause.{orElse}
-use Rattle.bounds_spec.specs.Causes.{slicesCause, tableSize}
+use Rattle.scheme.specs.Cause.{orElse, slicesCause}
+use Rattle.bounds_spec.specs.Causes.{tableSize}
 use borrow.Author.Needs.{needs}
 use Rattle.bounds.proofs.causes.table_cause.Statement.{statement}
 use Rattle.bounds.proofs.causes.table_cause.Tie as tie
@@ -19,8 +19,8 @@ cause-requires c κs = search needs
 table-size-requires : tie.Need-table-size-requires
 table-size-requires c κs = search needs
 
-slice-cause-requires : tie.Need-slice-cause-requires
-slice-cause-requires c κs = search needs
+slices-cause-requires : tie.Need-slices-cause-requires
+slices-cause-requires c κs = search needs
 
 or-else-requires : tie.Need-or-else-requires
 or-else-requires c κs = search needs
@@ -32,10 +32,10 @@ returns c =
     let start = at-cause .before in
     c .or-else .ensures
     ∙ ap₂ (λ a b. orElse a b) (at-cause .cause .ensures)
-    (c .before .slice-cause .ensures
+    (c .before .slices-cause .ensures
     ∙ ap (λ n. slicesCause n (start .args .low) (start .args .high)) (at-table-size .table-size .ensures ∙ sized (start .args .scheme)))
 
 pub table-cause-spec : {M : Type 1} → statement M
 table-cause-spec =
     tie.close
-    (tie.spec cause-requires table-size-requires slice-cause-requires or-else-requires returns)
+    (tie.spec cause-requires table-size-requires slices-cause-requires or-else-requires returns)
