@@ -10,6 +10,7 @@ ghost use Rattle.ready_spec.specs.Answer.{numberCause, baseCause, readyCause, r
 pub use ready_spec::ReadyAnswer;
 use scheme::Scheme;
 use scheme::or_else;
+use scheme::wide;
 
 // The whole of a share, in parts.
 const ONE: u32 = 1000000000;
@@ -33,7 +34,7 @@ const NOT_READY: u8 = 14;
 const BASE_ABOVE: u8 = 15;
 
 // The tenths of a percent of each class of ready scheme 1.
-const SCALE_1: [u64; 18] = [
+const SCALE_1: [u32; 18] = [
     792,
     822,
     855,
@@ -55,7 +56,7 @@ const SCALE_1: [u64; 18] = [
 ];
 
 // The same of ready scheme 2.
-const SCALE_2: [u64; 18] = [
+const SCALE_2: [u32; 18] = [
     701,
     731,
     764,
@@ -77,7 +78,7 @@ const SCALE_2: [u64; 18] = [
 ];
 
 // The same of ready scheme 3.
-const SCALE_3: [u64; 24] = [
+const SCALE_3: [u32; 24] = [
     541,
     570,
     604,
@@ -192,12 +193,12 @@ fn tenths(number: u64, i: usize) -> u64
     ensures { λ r. ⌜ r ≡ tenthsOf number i ⌝ }
 {
     if number == 1 {
-        return SCALE_1[i];
+        return wide(SCALE_1[i]);
     }
     if number == 2 {
-        return SCALE_2[i];
+        return wide(SCALE_2[i]);
     }
-    SCALE_3[i]
+    wide(SCALE_3[i])
 }
 
 // A thousandth, rounded down.

@@ -83,7 +83,7 @@ pub fn no_scheme() -> Scheme
     }
 }
 
-// A band's end or a premium in 64 bits.
+// A 32-bit number in 64 bits.
 pub fn wide(x: u32) -> u64
     ensures { λ r. ⌜ (r ≡ x) × (r ≤ 4294967295) ⌝ }
 {
