@@ -30,7 +30,8 @@ pub record Closeness (c : SetChain) (t : ℕ) (bound : ℕ → ℕ) (exact : Lis
   pub made : PicksFor c t picks
   pub near : (i : ℕ) → i < c .states → Near t (bound i) (exact picks i)
 
--- demand 3 for one figure: "For all picks for t years, low ≤ exact … ≤ high", and "For each such low, and for each such high, some picks for t years bring the exact figure, in the same unit, no further than t from it"
+-- demand 3 for one figure: "For all picks for t years, low ≤ exact … ≤ high", and
+-- "For each such low, and for each such high, some picks for t years bring the exact figure, in the same unit, no further than t from it"
 pub record Promise (c : SetChain) (t : ℕ) (low high : ℕ → ℕ) (exact : List Matrix → ℕ → Fraction) : Type 0 where
   pub contains : Containment c t low high exact
   pub lowClose : Closeness c t low exact

@@ -44,7 +44,13 @@ pub reaches-a : Reaches false 2 (classRow schemeA 2) (at thirtyTen) (at fourFift
 unfolding sumTo onlyIf
 reaches-a =
     record {
-      inside = record { positive = omega arith; sums = refl; above = below-two (λ j. classRow schemeA 2 .lower j * ONE ≤ at fourFifths j * ONE) (omega arith) (omega arith); below = below-two (λ j. at fourFifths j * ONE ≤ classRow schemeA 2 .upper j * ONE) (omega arith) (omega arith) };
+      inside =
+          record {
+            positive = omega arith;
+            sums = refl;
+            above = below-two (λ j. classRow schemeA 2 .lower j * ONE ≤ at fourFifths j * ONE) (omega arith) (omega arith);
+            below = below-two (λ j. at fourFifths j * ONE ≤ classRow schemeA 2 .upper j * ONE) (omega arith) (omega arith);
+          };
       extreme = λ p inside. omega (arith, inside .sums, inside .above 0 (omega arith));
       rounded = refl;
     }
@@ -63,7 +69,8 @@ beyond-a (suc (suc j)) h = by (decLt j 30)
 abbrev answerA : (number figure : ℕ) → List ℕ → StepAnswer
 answerA number figure row = record { number = number; figure = figure; row = row }
 
--- what the low step may answer for class 2, and what not: a part beyond s, another figure, another length; what the high step may not, the low figure; and for class 3, which there is not, the number 11 with no figure and no part
+-- what the low step may answer for class 2, and what not: a part beyond s, another figure, another length; what the high step may not,
+-- the low figure; and for class 3, which there is not, the number 11 with no figure and no part
 pub record StepAnswers : Type 0 where
   pub answered : StepAnswered false schemeA thirtyTen 2 (answerA 0 26 fourFifths)
   pub partBeyond : StepAnswered false schemeA thirtyTen 2 (answerA 0 26 (800000000 ∷ 200000000 ∷ 1 ∷ replicate 29 0)) → ⊥

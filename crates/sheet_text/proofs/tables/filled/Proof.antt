@@ -12,8 +12,14 @@ whole-requires : tie.Need-whole-requires
 whole-requires c κs =
     let at-figures = c .before .before .before .before .before .before .before in
     let start = c .before .before .before .before .before .before .before .before .before .before .before .before .before in
-    let none : at-figures .figures .result ≡ 0 = at-figures .figures .ensures .0 ∙ table-clear (start .args .scheme) (start .args .low .now) (start .args .high .now) (start .pre .1) (start .pre .2) (start .pre .3) in
-    (start .pre .0, start .pre .1 .size, slice-written (start .args .low .now) none (at-figures .figures .ensures .1 .0), slice-written (start .args .high .now) none (at-figures .figures .ensures .1 .1 .0))
+    let none : at-figures .figures .result ≡ 0 =
+    at-figures .figures .ensures .0
+    ∙ table-clear (start .args .scheme) (start .args .low .now) (start .args .high .now) (start .pre .1) (start .pre .2) (start .pre .3) in (
+      start .pre .0,
+      start .pre .1 .size,
+      slice-written (start .args .low .now) none (at-figures .figures .ensures .1 .0),
+      slice-written (start .args .high .now) none (at-figures .figures .ensures .1 .1 .0),
+    )
 
 same-length : tie.Need-same-length
 same-length c = search needs

@@ -46,8 +46,12 @@ slice-aggregate-filled-2 c =
 
 filled-requires : tie.Need-filled-requires
 filled-requires c κs =
-    let start = c .before .before .before .before .before .before in
-    (start .pre .0, start .pre .1, zeros-part 3334 _ (table-at-most (start .args .scheme) (start .pre .1)) ∙ omega arith, zeros-part 3334 _ (table-at-most (start .args .scheme) (start .pre .1)) ∙ omega arith)
+    let start = c .before .before .before .before .before .before in (
+      start .pre .0,
+      start .pre .1,
+      zeros-part 3334 _ (table-at-most (start .args .scheme) (start .pre .1)) ∙ omega arith,
+      zeros-part 3334 _ (table-at-most (start .args .scheme) (start .pre .1)) ∙ omega arith,
+    )
 
 same-length : tie.Need-same-length
 same-length c = search needs

@@ -38,8 +38,11 @@ shared-slice-read-class-line-2 c = omega arith
 class-line-requires : tie.Need-class-line-requires Inv-loop μ-loop
 class-line-requires c κs =
     let at-loop = c .before .before .before .before in
-    let start = at-loop .before .before .before .before in
-    (joined-room (classText (start .args .low .now) (start .args .high .now) (start .args .year) (start .args .base)) (at-loop .loop .j) (start .args .s) (omega arith) (at-loop .loop .inv .1) (start .pre .0), omega arith)
+    let start = at-loop .before .before .before .before in (
+      joined-room (classText (start .args .low .now) (start .args .high .now) (start .args .year) (start .args .base))
+          (at-loop .loop .j) (start .args .s) (omega arith) (at-loop .loop .inv .1) (start .pre .0),
+      omega arith,
+    )
 
 add-j : tie.Need-add-j Inv-loop μ-loop
 add-j c = omega arith
@@ -51,8 +54,11 @@ loop-again : tie.Need-loop-again Inv-loop μ-loop
 loop-again c =
     let at-class-line = c .before .before in
     let at-loop = at-class-line .before .before .before .before .before in
-    let start = at-loop .before .before .before .before in
-    (omega arith, joined-more (classText (start .args .low .now) (start .args .high .now) (start .args .year) (start .args .base)) (at-loop .loop .j) (at-loop .loop .inv .1) (at-class-line .class-line .ensures))
+    let start = at-loop .before .before .before .before in (
+      omega arith,
+      joined-more (classText (start .args .low .now) (start .args .high .now) (start .args .year) (start .args .base))
+          (at-loop .loop .j) (at-loop .loop .inv .1) (at-class-line .class-line .ensures),
+    )
 
 same-length : tie.Need-same-length Inv-loop μ-loop
 same-length c = put-kept (c .before .loop .inv .1)
