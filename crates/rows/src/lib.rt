@@ -118,9 +118,9 @@ pub fn copy_row(row: &[u64], out: &mut [u64])
     if out.len() != row.len() {
         return;
     }
-    let mut k: usize = 0;
-    while k < row.len() {
-        out[k] = row[k];
-        k += 1;
+    let mut j: usize = 0;
+    while j < row.len() {
+        out[j] = row[j];
+        j += 1;
     }
 }

@@ -10,10 +10,10 @@ use Rattle.rows.proofs.copy_row.Statement.{statement}
 use Rattle.rows.proofs.copy_row.Tie as tie
 
 abbrev Inv-loop : tie.InvT-loop
-Inv-loop row out₀ k₀ out k = Filled (length row) (λ j. getD row j 0) k out
+Inv-loop row out₀ j₀ out j = Filled (length row) (λ k. getD row k 0) j out
 
 abbrev μ-loop : tie.MeasureT-loop
-μ-loop row out₀ k₀ out k = length row - k
+μ-loop row out₀ j₀ out j = length row - j
 
 returns : tie.Need-returns Inv-loop μ-loop
 returns c =
@@ -35,8 +35,8 @@ mul-out-2 c = omega arith
 slice-write-out : tie.Need-slice-write-out Inv-loop μ-loop
 slice-write-out c = omega (arith, c .before .before .loop .inv .long)
 
-add-k : tie.Need-add-k Inv-loop μ-loop
-add-k c = omega arith
+add-j : tie.Need-add-j Inv-loop μ-loop
+add-j c = omega arith
 
 loop-less : tie.Need-loop-less Inv-loop μ-loop
 loop-less c = omega arith
@@ -66,7 +66,7 @@ copy-row-spec =
     shared-slice-read-out
     mul-out-2
     slice-write-out
-    add-k
+    add-j
     loop-less
     loop-again
     same-length
