@@ -1,2 +1,3 @@
 -- Laws over plain lists, which the functions' proofs cite.
-pub mod RecordTexts
+pub mod RecordsLaws
+pub mod LibLaws

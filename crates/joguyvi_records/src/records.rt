@@ -2,16 +2,12 @@
 use scheme::Scheme;
 ghost use mathlib.Core.Path.{_≡_};
 ghost use Rattle.scheme.specs.Cause.{causeOf};
-ghost use Rattle.record_spec.specs.Write.{writeLeaves};
-ghost use Rattle.joguyvi_spec.specs.Buffers.{filledWhere};
-ghost use Rattle.joguyvi_spec.specs.Records.{recordLength, recordNumber};
+ghost use Rattle.joguyvi_spec.specs.Records.{RecordPost};
 
 // Puts an accepted scheme's record into `out`, and its length into a buffer of 1 number; answers the cause, or 0.
 pub fn put_record(scheme: Scheme, out: &mut [u8], length: &mut [u64]) -> u8
     requires { ⌜ causeOf scheme ≡ 0 ⌝ }
-    ensures answer { λ r. ⌜ r ≡ recordNumber scheme (now (out .entry)) (now (length .entry)) ⌝ }
-    ensures leaves { λ r. ⌜ now (out .exit) ≡ filledWhere r (writeLeaves scheme (now (out .entry))) (now (out .entry)) ⌝ }
-    ensures size { λ r. ⌜ now (length .exit) ≡ filledWhere r (recordLength scheme (now (out .entry))) (now (length .entry)) ⌝ }
+    ensures { λ r. ⌜ RecordPost scheme (now (out .entry)) (now (length .entry)) r (now (out .exit)) (now (length .exit)) ⌝ }
 {
     if length.len() != 1 {
         return scheme::SLICE_OUT;

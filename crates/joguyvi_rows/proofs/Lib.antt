@@ -1,3 +1,3 @@
 -- Laws over plain lists, which the functions' proofs cite.
-pub mod Same
-pub mod Parts
+pub mod RowBuffersLaws
+pub mod LibLaws

@@ -3,16 +3,12 @@ use crate::copies;
 use scheme::RowAnswer;
 use scheme::Scheme;
 use scheme::or_else;
-ghost use mathlib.Core.Path.{_≡_};
 ghost use Prim.Native.Nat.{_≤_};
-ghost use Rattle.joguyvi_spec.specs.Buffers.{buffersCause, filledWhere};
-ghost use Rattle.joguyvi_spec.specs.Rows.{lowerBands, partNumber, putRowNumber, upperBands};
+ghost use Rattle.joguyvi_spec.specs.Rows.{BandsPost, PartPost, RowPost};
 
 // Puts an interval row into two buffers of 32 numbers, and answers the cause, or 0.
 pub fn put_row(answer: RowAnswer, lower: &mut [u64], upper: &mut [u64]) -> u8
-    ensures answer { λ r. ⌜ r ≡ putRowNumber answer (now (lower .entry)) (now (upper .entry)) ⌝ }
-    ensures lowers { λ r. ⌜ now (lower .exit) ≡ filledWhere r (answer .lower) (now (lower .entry)) ⌝ }
-    ensures uppers { λ r. ⌜ now (upper .exit) ≡ filledWhere r (answer .upper) (now (upper .entry)) ⌝ }
+    ensures { λ r. ⌜ RowPost answer (now (lower .entry)) (now (upper .entry)) r (now (lower .exit)) (now (upper .exit)) ⌝ }
 {
     let sizes = scheme::slices_cause(32, lower.len(), upper.len());
     let number = or_else(answer.number, sizes);
@@ -28,8 +24,7 @@ pub fn put_row(answer: RowAnswer, lower: &mut [u64], upper: &mut [u64]) -> u8
 
 // Puts a part of a record that is shown into a buffer of as many bytes, and answers the cause, or 0; an empty part is cause 11.
 pub fn put_part(part: &[u8], out: &mut [u8]) -> u8
-    ensures answer { λ r. ⌜ r ≡ partNumber (now (part .entry)) (now (out .entry)) ⌝ }
-    ensures leaves { λ r. ⌜ now (out .exit) ≡ filledWhere r (now (part .entry)) (now (out .entry)) ⌝ }
+    ensures { λ r. ⌜ PartPost (now (part .entry)) (now (out .entry)) r (now (out .exit)) ⌝ }
 {
     if part.len() == 0 {
         return scheme::CLASS_OUT;
@@ -44,9 +39,7 @@ pub fn put_part(part: &[u8], out: &mut [u8]) -> u8
 // Puts the bands of all columns into two buffers, and answers cause 13, or 0.
 pub fn put_bands(scheme: Scheme, lower: &mut [u32], upper: &mut [u32]) -> u8
     requires { ⌜ scheme .columns ≤ 8 ⌝ }
-    ensures answer { λ r. ⌜ r ≡ buffersCause (scheme .columns) (now (lower .entry)) (now (upper .entry)) ⌝ }
-    ensures lowers { λ r. ⌜ now (lower .exit) ≡ filledWhere r (lowerBands scheme) (now (lower .entry)) ⌝ }
-    ensures uppers { λ r. ⌜ now (upper .exit) ≡ filledWhere r (upperBands scheme) (now (upper .entry)) ⌝ }
+    ensures { λ r. ⌜ BandsPost scheme (now (lower .entry)) (now (upper .entry)) r (now (lower .exit)) (now (upper .exit)) ⌝ }
 {
     let columns = scheme.columns as usize;
     let number = scheme::slices_cause(columns, lower.len(), upper.len());

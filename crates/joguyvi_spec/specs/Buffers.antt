@@ -1,5 +1,6 @@
--- Lent buffers: cause 13 by their length, filled where the number is 0, and left as they were otherwise.
+-- Lent buffers: cause 13 by their length, filled where the number is 0, and left as they were otherwise; ′ marks a buffer after a call.
 use Prim.Native.Nat.{ℕ}
+use mathlib.Core.Path.{_≡_}
 use mathlib.Core.Bool.{cond}
 use mathlib.Core.List.{List}
 use lib.Dec.{eqb}
@@ -17,3 +18,14 @@ buffersCause size one other = slicesCause size (length one) (length other)
 -- a buffer after a call that answers `number`: filled where it is 0, and left as it was otherwise
 abbrev pub filledWhere : (number : ℕ) (full before : List ℕ) → List ℕ
 filledWhere number full before = cond (eqb number 0) full before
+
+-- what a call answers and leaves that fills one buffer
+pub record BufferPost (cause : ℕ) (full before : List ℕ) (number : ℕ) (before′ : List ℕ) : Type 0 where
+  pub answer : number ≡ cause
+  pub filled : before′ ≡ filledWhere number full before
+
+-- what a call answers and leaves that fills two buffers
+pub record BuffersPost (cause : ℕ) (full otherFull one other : List ℕ) (number : ℕ) (one′ other′ : List ℕ) : Type 0 where
+  pub answer : number ≡ cause
+  pub filled : one′ ≡ filledWhere number full one
+  pub otherFilled : other′ ≡ filledWhere number otherFull other

@@ -1,10 +1,9 @@
 -- Example A's record (document 01, "Sheet program and examples"), other bytes, and lent buffers of several lengths, computed.
 use Prim.Native.Nat.{ℕ}
-use mathlib.Core.Path.{_≡_, refl, ap}
+use mathlib.Core.Path.{_≡_, refl}
 use mathlib.Core.Bool.{true, false}
-use mathlib.Core.List.{List, [], _∷_, _++_}
-use lib.ListN.{length, getD, replicate}
-use native.Mathlib.Omega.{arith}
+use mathlib.Core.List.{List, [], _∷_}
+use lib.ListN.{length, replicate}
 use Rattle.setchain.specs.Sums.{sumTo, onlyIf}
 use Rattle.setchain.specs.Step.{capacityBefore, fillRow, stepFigure}
 use Rattle.scheme.specs.declared.Scheme.{Scheme}
@@ -12,17 +11,15 @@ use Rattle.scheme.specs.Tables.{tab, anyBelow}
 use Rattle.scheme.specs.Cause.{sizeOut, startOut, horizonOut, ruleOut, bandOut, sumOut, premiumOut, causeWhere, orElse}
 use Rattle.scheme.specs.Stored.{upTo, schemeOf}
 use Rattle.scheme.specs.Examples.{padded}
-use Rattle.scheme.specs.Laws.Cause.{answered, second-cause}
-use Rattle.big_endian_spec.specs.Numbers.{beAt, beBytes}
-use Rattle.record_spec.specs.Joined.{joined}
+use Rattle.scheme.specs.Laws.Cause.{second-cause}
+use Rattle.big_endian_spec.specs.Numbers.{beAt}
 use Rattle.record_spec.specs.Layout.{version1, schemeIn}
 use Rattle.record_spec.specs.Read.{frameCause, readCause}
 use Rattle.record_spec.specs.Examples.{exampleA, read-a}
 use Rattle.scheme.specs.declared.RowAnswer.{RowAnswer}
 use Rattle.scheme.specs.RowAnswer.{rowAt}
 use Rattle.scheme.specs.RowExamples.{answerOf}
-use Rattle.record_spec.specs.Bytes.{headerBytes, bytesOf}
-use Rattle.record_spec.specs.Write.{writeAnswer, writeLeaves}
+use Rattle.record_spec.specs.Write.{writeAnswer}
 use Rattle.ready_spec.specs.Scales.{scale1}
 use Rattle.ready_spec.specs.Ready.{readyScheme}
 use Rattle.ready_spec.specs.Answer.{readyAnswer}
@@ -34,31 +31,31 @@ use Rattle.bounds_spec.specs.Answers.{sheetCause}
 use Rattle.sheet_spec.specs.Text.{digitsWithin}
 use Rattle.sheet_spec.specs.Sheet.{refusedLine, sheetText}
 use Rattle.sheet_spec.specs.Answer.{roomFor, sheetAnswer}
-use Rattle.joguyvi_spec.specs.Figures.{putNumber, putLeaves, boundsNumber, boundsLeaves}
+use Rattle.joguyvi_spec.specs.Figures.{putNumber, lowAndHigh, boundsNumber}
 use Rattle.joguyvi_spec.specs.Shares.{sharesNumber}
 use Rattle.joguyvi_spec.specs.Texts.{sheetNumber, sheetLength}
-use Rattle.joguyvi_spec.specs.Rows.{putRowNumber, rowIn, rowNumber, partNumber, ruleRowNumber, bandsNumber, lowerBands, upperBands}
-use Rattle.joguyvi_spec.specs.Records.{checkNumber, recordLength, rewriteNumber, SameBytes, readyNumber}
-use Rattle.joguyvi_spec.specs.Steps.{payoffOf, stepBuffers, stepNumber, figureOf}
+use Rattle.joguyvi_spec.specs.Rows.{putRowNumber, rowOfRecord, rowNumber, partNumber, ruleRowNumber, bandsNumber, lowerBands, upperBands}
+use Rattle.joguyvi_spec.specs.Records.{checkNumber, lengthAlone, rewriteNumber, readyNumber}
+use Rattle.joguyvi_spec.specs.Steps.{payoffRead, stepBuffers, stepNumber, figureOf}
 
 -- buffers of one, two, three, 32 and 33 numbers
-abbrev one : List ℕ
+abbrev pub one : List ℕ
 one = 7 ∷ []
 
-abbrev two : List ℕ
+abbrev pub two : List ℕ
 two = 7 ∷ 7 ∷ []
 
-abbrev three : List ℕ
+abbrev pub three : List ℕ
 three = 7 ∷ 7 ∷ 7 ∷ []
 
-abbrev long : List ℕ
+abbrev pub long : List ℕ
 long = replicate 32 7
 
-abbrev longer : List ℕ
+abbrev pub longer : List ℕ
 longer = replicate 33 7
 
 -- the scheme in Example A's record
-abbrev inA : Scheme
+abbrev pub inA : Scheme
 inA = schemeIn version1 exampleA
 
 -- the record of one class and one column that starts in class 2, with 0 after its header
@@ -71,26 +68,22 @@ unfolding frameCause beAt schemeOf upTo tab causeWhere sizeOut startOut horizonO
 checks = (read-a, refl, refl)
 
 -- class 1's share in year 2 of Example A
-abbrev shareA : Bounds
+abbrev pub shareA : Bounds
 shareA = Answered 920000000 990000000
 
--- low and high fill a buffer of two numbers; one of three is cause 13 and left as it was, after the cause of the query
-pub low-and-high :
-    (putNumber shareA two ≡ 0) × (putLeaves shareA two ≡ 920000000 ∷ 990000000 ∷ []) × (putNumber shareA three ≡ 13) × (putLeaves shareA three ≡ three)
-    × (putNumber (Refused 11) three ≡ 11) × (putLeaves (Refused 11) two ≡ two)
-unfolding putNumber putLeaves
-low-and-high = (refl, refl, refl, refl, refl, refl)
+-- low, then high; a buffer of two numbers fits, and one of three is cause 13, after the cause of the query
+pub low-and-high : (lowAndHigh shareA ≡ 920000000 ∷ 990000000 ∷ []) × (putNumber shareA two ≡ 0) × (putNumber shareA three ≡ 13) × (putNumber (Refused 11) three ≡ 11)
+unfolding putNumber
+low-and-high = (refl, refl, refl, refl)
 
 -- Example A's record is read, so what comes after the cause of reading counts
-after-a : (n : ℕ) → orElse (readCause exampleA) n ≡ n
+pub after-a : (n : ℕ) → orElse (readCause exampleA) n ≡ n
 after-a n = second-cause (readCause exampleA) n read-a
 
--- low and high of a record, which is declined before the buffer
-pub low-and-high-a :
-    (boundsNumber [] shareA three ≡ 1) × (boundsLeaves [] shareA two ≡ two)
-    × (boundsNumber exampleA shareA two ≡ 0) × (boundsLeaves exampleA shareA two ≡ 920000000 ∷ 990000000 ∷ [])
-unfolding putNumber putLeaves frameCause
-low-and-high-a = (refl, refl, after-a _, answered (readCause exampleA) (putLeaves shareA two) two read-a)
+-- a record is declined before the buffer for its low and high
+pub low-and-high-a : (boundsNumber [] shareA three ≡ 1) × (boundsNumber exampleA shareA two ≡ 0)
+unfolding putNumber frameCause
+low-and-high-a = (refl, after-a _)
 
 -- a share sheet takes two buffers of s numbers; a record is declined before the year
 pub share-sheets : (sharesNumber [] 3 two three ≡ 1) × (sharesNumber exampleA 2 two two ≡ 0) × (sharesNumber exampleA 2 two three ≡ 13) × (sharesNumber exampleA 2 three two ≡ 13)
@@ -116,7 +109,7 @@ row-buffers = (refl, refl, refl, refl)
 -- Example A, "Class 2: lower 800000000, 100000000; upper 900000000, 250000000."; a record is declined before the class
 pub row-a :
     (rowNumber [] 3 long long ≡ 1) × (rowNumber exampleA 2 long longer ≡ 13) × (rowNumber exampleA 2 longer long ≡ 13)
-    × (rowIn exampleA 2 ≡ answerOf (800000000 ∷ 100000000 ∷ []) (900000000 ∷ 250000000 ∷ []))
+    × (rowOfRecord exampleA 2 ≡ answerOf (800000000 ∷ 100000000 ∷ []) (900000000 ∷ 250000000 ∷ []))
 unfolding rowAt onlyIf frameCause beAt schemeOf upTo tab causeWhere sizeOut startOut horizonOut ruleOut bandOut sumOut premiumOut anyBelow sumTo
 row-a = (refl, after-a _, after-a _, refl)
 
@@ -140,21 +133,9 @@ bands-a = (refl, after-a _, after-a _, after-a _, refl, refl)
 pub rewriting-a :
     (rewriteNumber [] (replicate 45 0) two ≡ 1) × (rewriteNumber exampleA (replicate 45 0) one ≡ 0) × (rewriteNumber exampleA (replicate 45 0) two ≡ 13)
     × (rewriteNumber exampleA (replicate 44 0) one ≡ 13)
-    × (recordLength inA (replicate 45 0) ≡ 45 ∷ [])
+    × (lengthAlone inA (replicate 45 0) ≡ 45 ∷ [])
 unfolding writeAnswer frameCause beAt schemeOf upTo tab causeWhere sizeOut startOut horizonOut ruleOut bandOut sumOut premiumOut anyBelow sumTo
 rewriting-a = (refl, after-a _, after-a _, after-a _, refl)
-
--- Example A's record written again into 47 bytes: the two past it stay, and they may not change
-pub same-bytes-a :
-    SameBytes 0 exampleA (replicate 47 9) (writeLeaves inA (replicate 47 9)) (recordLength inA (replicate 47 9))
-    × ¬ SameBytes 0 exampleA (replicate 47 9) (exampleA ++ (9 ∷ 8 ∷ [])) (45 ∷ [])
-    × ¬ SameBytes 0 exampleA (replicate 47 9) (exampleA ++ (9 ∷ 9 ∷ [])) (47 ∷ [])
-unfolding writeAnswer writeLeaves bytesOf headerBytes joined beBytes frameCause beAt schemeOf upTo tab causeWhere sizeOut startOut horizonOut ruleOut bandOut sumOut premiumOut anyBelow sumTo
-same-bytes-a = (
-  record { copied = λ z. refl; counted = λ z. refl },
-  λ w. let e : _≡_ {A = ℕ} 8 9 = ap (λ l. getD l 46 0) (w .copied refl) in omega arith,
-  λ w. let e : _≡_ {A = ℕ} 47 45 = ap (λ l. getD l 0 0) (w .counted refl) in omega arith,
-)
 
 -- there is no ready scheme 4, and a base above 2,500,000 is declined; both before the buffers
 pub ready-schemes : (readyNumber 4 2500001 [] two ≡ 14) × (readyNumber 3 2500001 [] two ≡ 15) × (readyNumber 1 2500001 [] two ≡ 15) × (readyNumber 2500001 1 [] two ≡ 14)
@@ -175,16 +156,16 @@ abbrev thirtyTen : List ℕ
 thirtyTen = 30 ∷ 10 ∷ []
 
 -- it counts as one of 32 numbers
-pub payoffs : (length (payoffOf thirtyTen) ≡ 32) × (at (payoffOf thirtyTen) 1 ≡ 10) × (at (payoffOf thirtyTen) 2 ≡ 0)
-unfolding payoffOf tab
+pub payoffs : (length (payoffRead thirtyTen) ≡ 32) × (at (payoffRead thirtyTen) 1 ≡ 10) × (at (payoffRead thirtyTen) 2 ≡ 0)
+unfolding payoffRead tab
 payoffs = (refl, refl, refl)
 
 -- a payoff not of 32 numbers is declined after the class, and a record before the class
 pub step-a : (stepNumber [] thirtyTen 3 one long ≡ 1) × (stepNumber exampleA thirtyTen 3 one long ≡ 11) × (stepNumber exampleA thirtyTen 2 one long ≡ 13)
-unfolding payoffOf payoffOut frameCause beAt schemeOf upTo tab causeWhere sizeOut startOut horizonOut ruleOut bandOut sumOut premiumOut anyBelow sumTo
+unfolding payoffRead payoffOut frameCause beAt schemeOf upTo tab causeWhere sizeOut startOut horizonOut ruleOut bandOut sumOut premiumOut anyBelow sumTo
 step-a = (refl, after-a _, after-a _)
 
 -- the low figure of Example A's class 2, and the high one
 pub figures-a : (figureOf false inA thirtyTen 2 ≡ 26 ∷ []) × (figureOf true inA thirtyTen 2 ≡ 28 ∷ [])
-unfolding payoffOf stepFigure fillRow capacityBefore sumTo onlyIf beAt schemeOf upTo tab
+unfolding payoffRead stepFigure fillRow capacityBefore sumTo onlyIf beAt schemeOf upTo tab
 figures-a = (refl, refl)

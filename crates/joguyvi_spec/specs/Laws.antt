@@ -1,6 +1,6 @@
--- The promises, of what the buffers are left with.
-pub mod Sizes
-pub mod Pairs
-pub mod Texting
-pub mod Bounds
+-- The laws of lent buffers, and that the promises hold of what they are left with.
+pub mod Buffers
+pub mod Causes
+pub mod Texts
+pub mod Figures
 pub mod Steps

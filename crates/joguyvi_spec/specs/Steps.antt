@@ -3,7 +3,7 @@ use Prim.Native.Nat.{ℕ, _≤_}
 use mathlib.Core.Path.{_≡_}
 use mathlib.Core.Bool.{Bool}
 use mathlib.Core.List.{List, [], _∷_}
-use lib.ListN.{length}
+use lib.ListN.{length, getD}
 use Rattle.setchain.specs.Step.{stepFigure, Reaches}
 use Rattle.scheme.specs.declared.Scheme.{Scheme}
 use Rattle.scheme.specs.Tables.{tab}
@@ -11,32 +11,40 @@ use Rattle.scheme.specs.Cause.{orElse}
 use Rattle.record_spec.specs.Layout.{version1, schemeIn}
 use Rattle.record_spec.specs.Read.{readCause}
 use Rattle.order.specs.States.{at}
+use Rattle.step_spec.specs.declared.StepAnswer.{StepAnswer}
 use Rattle.step_spec.specs.StepAnswer.{stepCause, classRow}
-use Rattle.joguyvi_spec.specs.Buffers.{bufferCause}
+use Rattle.joguyvi_spec.specs.Buffers.{bufferCause, filledWhere, BuffersPost}
 
 -- a payoff of 32 numbers: what is missing counts as 0, and what lies beyond 32 is ignored
-unfoldable pub payoffOf : List ℕ → List ℕ
-payoffOf numbers = tab 32 (at numbers)
+unfoldable pub payoffRead : List ℕ → List ℕ
+payoffRead numbers = tab 32 (at numbers)
 
 -- cause 13: a payoff not of 32 numbers, a buffer for the figure not of 1, or one for the row not of 32
 abbrev pub stepBuffers : (payoff figure row : List ℕ) → ℕ
 stepBuffers payoff figure row = orElse (bufferCause 32 payoff) (orElse (bufferCause 1 figure) (bufferCause 32 row))
 
+-- what is answered and left for a step's figure and row: its cause, then 13
+abbrev pub StepPost : StepAnswer → (payoff figure row : List ℕ) (number : ℕ) (figure′ row′ : List ℕ) → Type 0
+StepPost answer payoff figure row = BuffersPost (orElse (answer .number) (stepBuffers payoff figure row)) (answer .figure ∷ []) (answer .row) figure row
+
 -- the number for a record's step: the cause of reading, then that of the step, where 10 is for the payoff and 11 for the class, then 13
 abbrev pub stepNumber : List ℕ → (payoff : List ℕ) (class : ℕ) (figure row : List ℕ) → ℕ
-stepNumber bytes payoff class figure row = orElse (readCause bytes) (orElse (stepCause (schemeIn version1 bytes) (payoffOf payoff) class) (stepBuffers payoff figure row))
+stepNumber bytes payoff class figure row = orElse (readCause bytes) (orElse (stepCause (schemeIn version1 bytes) (payoffRead payoff) class) (stepBuffers payoff figure row))
 
 -- the figure of a class, low or high, as a buffer of 1 number
 abbrev pub figureOf : (high : Bool) → Scheme → (payoff : List ℕ) (class : ℕ) → List ℕ
-figureOf high s payoff class = stepFigure high (s .classes) (classRow s class) (at (payoffOf payoff)) ∷ []
+figureOf high s payoff class = stepFigure high (s .classes) (classRow s class) (at (payoffRead payoff)) ∷ []
 
--- what holds of the row's buffer after a step that answers `number`, with `figure` in the figure's buffer
-pub record RowKept (high : Bool) (s : Scheme) (payoff : List ℕ) (class number figure : ℕ) (before after : List ℕ) : Type 0 where
-  -- left as it was where the call is declined
-  pub left : (number ≡ 0 → ⊥) → after ≡ before
+-- joguyvi_low_step (`high` is false) and joguyvi_high_step (`high` is true): what they answer and leave
+pub record StepCall (high : Bool) (bytes payoff : List ℕ) (class : ℕ) (figure row : List ℕ) (number : ℕ) (figure′ row′ : List ℕ) : Type 0 where
+  pub answer : number ≡ stepNumber bytes payoff class figure row
+  pub figures : figure′ ≡ filledWhere number (figureOf high (schemeIn version1 bytes) payoff class) figure
+  -- the row is left as it was where the call is declined
+  pub left : (number ≡ 0 → ⊥) → row′ ≡ row
   -- otherwise it has 32 parts
-  pub size : number ≡ 0 → length after ≡ 32
+  pub size : number ≡ 0 → length row′ ≡ 32
   -- "with 0 beyond s"
-  pub beyond : number ≡ 0 → (j : ℕ) → s .classes ≤ j → at after j ≡ 0
+  pub beyond : number ≡ 0 → (j : ℕ) → schemeIn version1 bytes .classes ≤ j → at row′ j ≡ 0
   -- it lies inside the class's interval and reaches its unrounded figure (crate setchain, `Step`)
-  pub reaches : number ≡ 0 → Reaches high (s .classes) (classRow s class) (at (payoffOf payoff)) (at after) figure
+  pub reaches : number ≡ 0
+      → Reaches high (schemeIn version1 bytes .classes) (classRow (schemeIn version1 bytes) class) (at (payoffRead payoff)) (at row′) (getD figure′ 0 0)

@@ -1,2 +1,2 @@
 -- Laws over plain lists, which the functions' proofs cite.
-pub mod Stepping
+pub mod StepsLaws

@@ -1,10 +1,6 @@
 // The one-year step of a class of a record, for C and for Rust: each function answers 0 or the cause's number, and fills the lent buffers only where it answers 0.
-ghost use mathlib.Core.Path.{_≡_};
 ghost use mathlib.Core.Bool.{false, true};
-ghost use lib.ListN.{getD};
-ghost use Rattle.record_spec.specs.Layout.{schemeIn, version1};
-ghost use Rattle.joguyvi_spec.specs.Buffers.{filledWhere};
-ghost use Rattle.joguyvi_spec.specs.Steps.{figureOf, RowKept, stepNumber};
+ghost use Rattle.joguyvi_spec.specs.Steps.{StepCall};
 
 mod steps;
 
@@ -17,9 +13,7 @@ pub extern "C" fn joguyvi_low_step(
     figure: &mut [u64],
     row: &mut [u64],
 ) -> u8
-    ensures answer { λ r. ⌜ r ≡ stepNumber (now (bytes .entry)) (now (payoff .entry)) class (now (figure .entry)) (now (row .entry)) ⌝ }
-    ensures figures { λ r. ⌜ now (figure .exit) ≡ filledWhere r (figureOf false (schemeIn version1 (now (bytes .entry))) (now (payoff .entry)) class) (now (figure .entry)) ⌝ }
-    ensures rows { λ r. ⌜ RowKept false (schemeIn version1 (now (bytes .entry))) (now (payoff .entry)) class r (getD (now (figure .exit)) 0 0) (now (row .entry)) (now (row .exit)) ⌝ }
+    ensures { λ r. ⌜ StepCall false (now (bytes .entry)) (now (payoff .entry)) class (now (figure .entry)) (now (row .entry)) r (now (figure .exit)) (now (row .exit)) ⌝ }
 {
     steps::step(bytes, payoff, class, false, figure, row)
 }
@@ -33,9 +27,7 @@ pub extern "C" fn joguyvi_high_step(
     figure: &mut [u64],
     row: &mut [u64],
 ) -> u8
-    ensures answer { λ r. ⌜ r ≡ stepNumber (now (bytes .entry)) (now (payoff .entry)) class (now (figure .entry)) (now (row .entry)) ⌝ }
-    ensures figures { λ r. ⌜ now (figure .exit) ≡ filledWhere r (figureOf true (schemeIn version1 (now (bytes .entry))) (now (payoff .entry)) class) (now (figure .entry)) ⌝ }
-    ensures rows { λ r. ⌜ RowKept true (schemeIn version1 (now (bytes .entry))) (now (payoff .entry)) class r (getD (now (figure .exit)) 0 0) (now (row .entry)) (now (row .exit)) ⌝ }
+    ensures { λ r. ⌜ StepCall true (now (bytes .entry)) (now (payoff .entry)) class (now (figure .entry)) (now (row .entry)) r (now (figure .exit)) (now (row .exit)) ⌝ }
 {
     steps::step(bytes, payoff, class, true, figure, row)
 }

@@ -4,13 +4,11 @@ use scheme::or_else;
 use scheme::slice_cause;
 use step::StepAnswer;
 ghost use mathlib.Core.Path.{_≡_};
-ghost use mathlib.Core.List.{[], _∷_};
 ghost use lib.ListN.{getD};
 ghost use Rattle.scheme.specs.Cause.{orElse, sliceCause};
-ghost use Rattle.record_spec.specs.Layout.{schemeIn, version1};
 ghost use Rattle.step_spec.specs.StepAnswer.{StepAnswered};
-ghost use Rattle.joguyvi_spec.specs.Buffers.{bufferCause, filledWhere};
-ghost use Rattle.joguyvi_spec.specs.Steps.{figureOf, payoffOf, RowKept, stepBuffers, stepNumber};
+ghost use Rattle.joguyvi_spec.specs.Buffers.{bufferCause};
+ghost use Rattle.joguyvi_spec.specs.Steps.{StepCall, StepPost, payoffRead};
 
 // The number at a place of a buffer, or 0 past its end.
 fn number_at(numbers: &[u64], place: usize) -> u64
@@ -24,7 +22,7 @@ fn number_at(numbers: &[u64], place: usize) -> u64
 
 // A payoff of 32 numbers: what is missing counts as 0, and what lies beyond 32 is ignored.
 fn payoff_of(numbers: &[u64]) -> [u64; 32]
-    ensures { λ r. ⌜ r ≡ payoffOf (now (numbers .entry)) ⌝ }
+    ensures { λ r. ⌜ r ≡ payoffRead (now (numbers .entry)) ⌝ }
 {
     let mut out = [0u64; 32];
     let mut k: usize = 0;
@@ -45,9 +43,7 @@ fn buffers_cause(payoff: &[u64], figure: usize, row: usize) -> u8
 
 // Puts a step's figure into a buffer of 1 number and its row into one of 32, and answers the cause, or 0; the payoff was lent as `payoff`.
 fn put_step(answer: StepAnswer, payoff: &[u64], figure: &mut [u64], row: &mut [u64]) -> u8
-    ensures answer { λ r. ⌜ r ≡ orElse (answer .number) (stepBuffers (now (payoff .entry)) (now (figure .entry)) (now (row .entry))) ⌝ }
-    ensures figures { λ r. ⌜ now (figure .exit) ≡ filledWhere r (answer .figure ∷ []) (now (figure .entry)) ⌝ }
-    ensures rows { λ r. ⌜ now (row .exit) ≡ filledWhere r (answer .row) (now (row .entry)) ⌝ }
+    ensures { λ r. ⌜ StepPost answer (now (payoff .entry)) (now (figure .entry)) (now (row .entry)) r (now (figure .exit)) (now (row .exit)) ⌝ }
 {
     let sizes = buffers_cause(payoff, figure.len(), row.len());
     let number = or_else(answer.number, sizes);
@@ -79,9 +75,7 @@ pub fn step(
     figure: &mut [u64],
     row: &mut [u64],
 ) -> u8
-    ensures answer { λ r. ⌜ r ≡ stepNumber (now (bytes .entry)) (now (payoff .entry)) class (now (figure .entry)) (now (row .entry)) ⌝ }
-    ensures figures { λ r. ⌜ now (figure .exit) ≡ filledWhere r (figureOf high (schemeIn version1 (now (bytes .entry))) (now (payoff .entry)) class) (now (figure .entry)) ⌝ }
-    ensures rows { λ r. ⌜ RowKept high (schemeIn version1 (now (bytes .entry))) (now (payoff .entry)) class r (getD (now (figure .exit)) 0 0) (now (row .entry)) (now (row .exit)) ⌝ }
+    ensures { λ r. ⌜ StepCall high (now (bytes .entry)) (now (payoff .entry)) class (now (figure .entry)) (now (row .entry)) r (now (figure .exit)) (now (row .exit)) ⌝ }
 {
     let answer = record::read(bytes);
     let number = answer.number;

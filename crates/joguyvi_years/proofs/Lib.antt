@@ -1,3 +1,3 @@
 -- Laws over plain lists, which the functions' proofs cite.
-pub mod Putting
-pub mod SheetTexts
+pub mod FiguresLaws
+pub mod LibLaws

@@ -2,7 +2,7 @@
 use bounds::Bounds;
 ghost use mathlib.Core.Path.{_≡_};
 ghost use Rattle.bounds_spec.specs.Answers.{highOf, lowOf, numberOf};
-ghost use Rattle.joguyvi_spec.specs.Figures.{putLeaves, putNumber};
+ghost use Rattle.joguyvi_spec.specs.Figures.{BoundsPost};
 
 // The cause in an answer, or 0.
 fn number_of(b: Bounds) -> u8
@@ -36,7 +36,7 @@ fn high_of(b: Bounds) -> u64
 
 // Puts low and high into a buffer of 2 numbers, and answers the cause, or 0.
 pub fn put_bounds(out: &mut [u64], b: Bounds) -> u8
-    ensures { λ r. ⌜ (r ≡ putNumber b (now (out .entry))) × (now (out .exit) ≡ putLeaves b (now (out .entry))) ⌝ }
+    ensures { λ r. ⌜ BoundsPost b (now (out .entry)) r (now (out .exit)) ⌝ }
 {
     let number = number_of(b);
     if number != 0 {

@@ -8,7 +8,7 @@ cause-requires : tie.Need-cause-requires
 cause-requires c κs = search needs
 
 returns : tie.Need-returns
-returns c = c .cause .ensures
+returns c = record { answer = c .cause .ensures }
 
 pub joguyvi-check-spec : {M : Type 1} → statement M
 joguyvi-check-spec = tie.close (tie.spec cause-requires returns)

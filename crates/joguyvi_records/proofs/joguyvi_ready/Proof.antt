@@ -3,9 +3,8 @@
 use mathlib.Core.Path.{ap, sym, _∙_}
 use Rattle.scheme.specs.Cause.{causeOf}
 use Rattle.scheme.specs.Laws.Judged.{cause-accepted}
-use Rattle.ready_spec.specs.Answer.{readyAnswer}
 use Rattle.ready_spec.specs.Theorems.{answered-accepted}
-use Rattle.joguyvi_records.proofs.RecordTexts.{record-stopped, record-passed}
+use Rattle.joguyvi_records.proofs.LibLaws.{ready-stopped, ready-passed}
 use borrow.Author.Needs.{needs}
 use Rattle.joguyvi_records.proofs.joguyvi_ready.Statement.{statement}
 use Rattle.joguyvi_records.proofs.joguyvi_ready.Tie as tie
@@ -16,14 +15,13 @@ ready-requires c κs = search needs
 returns : tie.Need-returns
 returns c =
     let start = c .before .before .before .before in
-    let a = readyAnswer (start .args .number) (start .args .base) in
-    record-stopped (a .number) (a .scheme) (start .args .out .now) (start .args .length .now) (ap (λ r. r .number) (c .before .ready .ensures)) (c .if1 .taken)
+    ready-stopped (start .args .number) (start .args .base) (start .args .out .now) (start .args .length .now) (c .before .ready .ensures) (c .if1 .taken)
 
 put-record-requires : tie.Need-put-record-requires
 put-record-requires c κs =
     let at-if1 = c .before .before in
-    let at-ready = c .before .before .before in
-    let start = c .before .before .before .before .before .before in
+    let at-ready = at-if1 .before in
+    let start = at-ready .before .before .before in
     let is = at-ready .ready .ensures in
     let none = at-if1 .if1 .left in
     ap (λ r. causeOf (r .scheme)) is ∙ cause-accepted _ (answered-accepted (start .args .number) (start .args .base) (sym (ap (λ r. r .number) is) ∙ none))
@@ -37,13 +35,11 @@ same-length-2 c = search needs
 returns-2 : tie.Need-returns-2
 returns-2 c =
     let at-put-record = c .before .before .before .before in
-    let at-if1 = c .before .before .before .before .before .before .before in
-    let at-ready = c .before .before .before .before .before .before .before .before in
-    let start = c .before .before .before .before .before .before .before .before .before .before .before in
-    let a = readyAnswer (start .args .number) (start .args .base) in
-    let is = at-ready .ready .ensures in
-    let none = at-if1 .if1 .left in
-    record-passed (a .number) (a .scheme) (start .args .out .now) (start .args .length .now) _ (sym (ap (λ r. r .number) is) ∙ none) (ap (λ r. r .scheme) is) (at-put-record .put-record .ensures)
+    let at-if1 = at-put-record .before .before .before in
+    let at-ready = at-if1 .before in
+    let start = at-ready .before .before .before in
+    ready-passed (start .args .number) (start .args .base) (start .args .out .now) (start .args .length .now) (at-ready .ready .ensures)
+    (at-if1 .if1 .left) (at-put-record .put-record .ensures)
 
 pub joguyvi-ready-spec : {M : Type 1} → statement M
 joguyvi-ready-spec =

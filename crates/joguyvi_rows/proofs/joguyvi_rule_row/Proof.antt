@@ -1,7 +1,7 @@
 -- `joguyvi_rule_row` meets its contract: the cause of reading, or the row that the record shows put into the buffer.
 -- Assumes nothing.
 use mathlib.Core.Path.{sym, _∙_}
-use Rattle.joguyvi_rows.proofs.Parts.{rule-row-stopped, rule-row-passed, part-same}
+use Rattle.joguyvi_rows.proofs.LibLaws.{rule-row-stopped, rule-row-passed}
 use borrow.Author.Needs.{needs}
 use Rattle.joguyvi_rows.proofs.joguyvi_rule_row.Statement.{statement}
 use Rattle.joguyvi_rows.proofs.joguyvi_rule_row.Tie as tie
@@ -31,7 +31,7 @@ returns-2 c =
     let at-cause = at-if1 .before in
     let start = at-cause .before .before .before in
     rule-row-passed (start .args .bytes .now) (start .args .class) (start .args .out .now) (sym (at-cause .cause .ensures) ∙ at-if1 .if1 .left)
-    (part-same (start .args .out .now) (at-rule-row .rule-row .ensures) (at-put-part .put-part .ensures))
+    (at-rule-row .rule-row .ensures) (at-put-part .put-part .ensures)
 
 pub joguyvi-rule-row-spec : {M : Type 1} → statement M
 joguyvi-rule-row-spec =

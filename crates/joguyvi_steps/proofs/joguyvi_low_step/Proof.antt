@@ -14,9 +14,7 @@ same-length-2 : tie.Need-same-length-2
 same-length-2 c = search needs
 
 returns : tie.Need-returns
-returns c =
-    let at-step = c .before .before .before .before in
-    let told = at-step .step .ensures in (told .0, (told .1 .0, told .1 .1))
+returns c = let at-step = c .before .before .before .before in at-step .step .ensures
 
 pub joguyvi-low-step-spec : {M : Type 1} → statement M
 joguyvi-low-step-spec =

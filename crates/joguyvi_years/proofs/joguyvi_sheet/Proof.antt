@@ -2,9 +2,8 @@
 -- Assumes nothing.
 use mathlib.Core.Path.{ap, _∙_}
 use Rattle.record_spec.specs.Write.{writeNumber, writtenLength}
-use Rattle.sheet_spec.specs.Answer.{sheetAnswer, sheetLeaves}
-use Rattle.joguyvi_spec.specs.Laws.Texting.{text-out, text-declined, text-written}
-use Rattle.joguyvi_years.proofs.SheetTexts.{sheet-only, sheet-left}
+use Rattle.joguyvi_spec.specs.Laws.Texts.{text-out, text-declined, text-written}
+use Rattle.joguyvi_years.proofs.LibLaws.{sheet-only, sheet-left, sheet-call}
 use borrow.Author.Needs.{needs}
 use Rattle.joguyvi_years.proofs.joguyvi_sheet.Statement.{statement}
 use Rattle.joguyvi_years.proofs.joguyvi_sheet.Tie as tie
@@ -14,8 +13,7 @@ returns c =
     let start = c .before .before .before .before in
     let bytes = start .args .bytes .now in
     let out = start .args .out .now in
-    text-out (writeNumber (sheetAnswer bytes out)) (writtenLength (sheetAnswer bytes out)) (sheetLeaves bytes out) out (start .args .length .now) (sheet-only bytes out) (sheet-left bytes out)
-    (c .if1 .taken)
+    sheet-call bytes out (text-out (sheet-only bytes out) (sheet-left bytes out) (c .if1 .taken))
 
 sheet-requires : tie.Need-sheet-requires
 sheet-requires c κs = search needs
@@ -29,12 +27,12 @@ same-length c = search needs
 returns-2 : tie.Need-returns-2
 returns-2 c =
     let at-sheet = c .before .before .before .before in
-    let start = c .before .before .before .before .before .before .before .before .before .before in
+    let start = at-sheet .before .before .before .before .before .before in
     let bytes = start .args .bytes .now in
     let out = start .args .out .now in
     let w = at-sheet .sheet .ensures in
-    text-declined (writeNumber (sheetAnswer bytes out)) (writtenLength (sheetAnswer bytes out)) (sheetLeaves bytes out) out (start .args .length .now) (sheet-only bytes out) (sheet-left bytes out)
-    (c .before .write-number .ensures ∙ ap writeNumber (w .0)) (c .if2 .taken) (w .1 .0)
+    sheet-call bytes out
+    (text-declined (sheet-only bytes out) (sheet-left bytes out) (c .before .write-number .ensures ∙ ap writeNumber (w .0)) (c .if2 .taken) (w .1 .0))
 
 written-length-requires : tie.Need-written-length-requires
 written-length-requires c κs = search needs
@@ -57,8 +55,9 @@ returns-3 c =
     let bytes = start .args .bytes .now in
     let out = start .args .out .now in
     let w = at-call .sheet .ensures in
-    text-written (writeNumber (sheetAnswer bytes out)) (writtenLength (sheetAnswer bytes out)) (sheetLeaves bytes out) out (start .args .length .now) (sheet-only bytes out) (sheet-left bytes out)
-    (at-number .write-number .ensures ∙ ap writeNumber (w .0)) (c .before .if2 .left) (at-size .if1 .left) (c .written-length .ensures ∙ ap writtenLength (w .0)) (w .1 .0)
+    sheet-call bytes out
+    (text-written (sheet-only bytes out) (sheet-left bytes out) (at-number .write-number .ensures ∙ ap writeNumber (w .0)) (c .before .if2 .left)
+    (at-size .if1 .left) (c .written-length .ensures ∙ ap writtenLength (w .0)) (w .1 .0))
 
 pub joguyvi-sheet-spec : {M : Type 1} → statement M
 joguyvi-sheet-spec =

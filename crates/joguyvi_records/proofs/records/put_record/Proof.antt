@@ -1,9 +1,9 @@
 -- `put_record` meets its contract: 13 for the buffer of the length, the cause of writing, or the record and its length.
 -- Assumes nothing.
 use mathlib.Core.Path.{ap, _∙_}
-use Rattle.record_spec.specs.Write.{writeNumber, writtenLength, writeAnswer, writeLeaves}
-use Rattle.joguyvi_spec.specs.Laws.Texting.{text-out, text-declined, text-written}
-use Rattle.joguyvi_records.proofs.RecordTexts.{write-only, write-left}
+use Rattle.record_spec.specs.Write.{writeNumber, writtenLength}
+use Rattle.joguyvi_spec.specs.Laws.Texts.{text-out, text-declined, text-written}
+use Rattle.joguyvi_records.proofs.RecordsLaws.{write-only, write-left}
 use borrow.Author.Needs.{needs}
 use Rattle.joguyvi_records.proofs.records.put_record.Statement.{statement}
 use Rattle.joguyvi_records.proofs.records.put_record.Tie as tie
@@ -13,7 +13,7 @@ returns c =
     let start = c .before .before .before in
     let s = start .args .scheme in
     let out = start .args .out .now in
-    text-out (writeNumber (writeAnswer s out)) (writtenLength (writeAnswer s out)) (writeLeaves s out) out (start .args .length .now) (write-only s out (start .pre)) (write-left s out) (c .if1 .taken)
+    text-out (write-only s out (start .pre)) (write-left s out) (c .if1 .taken)
 
 write-requires : tie.Need-write-requires
 write-requires c κs = search needs
@@ -27,12 +27,11 @@ same-length c = search needs
 returns-2 : tie.Need-returns-2
 returns-2 c =
     let at-write = c .before .before .before .before in
-    let start = c .before .before .before .before .before .before .before .before .before in
+    let start = at-write .before .before .before .before .before in
     let s = start .args .scheme in
     let out = start .args .out .now in
     let w = at-write .write .ensures in
-    text-declined (writeNumber (writeAnswer s out)) (writtenLength (writeAnswer s out)) (writeLeaves s out) out (start .args .length .now) (write-only s out (start .pre)) (write-left s out)
-    (c .before .write-number .ensures ∙ ap writeNumber (w .0)) (c .if2 .taken) (w .1 .0)
+    text-declined (write-only s out (start .pre)) (write-left s out) (c .before .write-number .ensures ∙ ap writeNumber (w .0)) (c .if2 .taken) (w .1 .0)
 
 written-length-requires : tie.Need-written-length-requires
 written-length-requires c κs = search needs
@@ -55,8 +54,8 @@ returns-3 c =
     let s = start .args .scheme in
     let out = start .args .out .now in
     let w = at-call .write .ensures in
-    text-written (writeNumber (writeAnswer s out)) (writtenLength (writeAnswer s out)) (writeLeaves s out) out (start .args .length .now) (write-only s out (start .pre)) (write-left s out)
-    (at-number .write-number .ensures ∙ ap writeNumber (w .0)) (c .before .if2 .left) (at-size .if1 .left) (c .written-length .ensures ∙ ap writtenLength (w .0)) (w .1 .0)
+    text-written (write-only s out (start .pre)) (write-left s out) (at-number .write-number .ensures ∙ ap writeNumber (w .0)) (c .before .if2 .left)
+    (at-size .if1 .left) (c .written-length .ensures ∙ ap writtenLength (w .0)) (w .1 .0)
 
 pub put-record-spec : {M : Type 1} → statement M
 put-record-spec =

@@ -4,8 +4,7 @@ use mathlib.Core.Path.{_≡_, ap, sym, _∙_}
 use native.Mathlib.Omega.{arith}
 use lib.ListN.{getD, length}
 use Rattle.scheme.specs.Tables.{tab}
-use Rattle.joguyvi_spec.specs.Rows.{lowerBands, upperBands}
-use Rattle.joguyvi_spec.specs.Laws.Pairs.{pair-sizes, pair-left, pair-filled}
+use Rattle.joguyvi_spec.specs.Laws.Buffers.{buffer-sizes, unfilled}
 use borrow.Author.Needs.{needs}
 use Rattle.joguyvi_rows.proofs.row_buffers.put_bands.Statement.{statement}
 use Rattle.joguyvi_rows.proofs.row_buffers.put_bands.Tie as tie
@@ -21,13 +20,10 @@ sizes : (c : tie.Else1) → let at-cause = c .before in let start = at-cause .be
 sizes c =
     let at-cause = c .before in
     let start = at-cause .before .before .before .before .args in
-    pair-sizes (start .scheme .columns) (start .lower .now) (start .upper .now) (sym (at-cause .slices-cause .ensures) ∙ c .if1 .left)
+    buffer-sizes (start .scheme .columns) (start .lower .now) (start .upper .now) (sym (at-cause .slices-cause .ensures) ∙ c .if1 .left)
 
 returns : tie.Need-returns
-returns c =
-    let at-cause = c .before in
-    let s = at-cause .before .before .before .before .args .scheme in
-    pair-left (lowerBands s) (upperBands s) _ _ (at-cause .slices-cause .ensures) (c .if1 .taken)
+returns c = record { answer = c .before .slices-cause .ensures; filled = unfilled _ _ (c .if1 .taken); otherFilled = unfilled _ _ (c .if1 .taken) }
 
 copy-ends-requires : tie.Need-copy-ends-requires
 copy-ends-requires c κs =
@@ -54,11 +50,12 @@ returns-2 c =
     let at-lowers = at-uppers .before .before .before .before in
     let at-sizes = at-lowers .before .before .before .before in
     let at-cause = at-sizes .before in
-    let start = at-cause .before .before .before .before .args in
-    let s = start .scheme in
-    pair-filled (lowerBands s) (upperBands s) (start .lower .now) (start .upper .now) (at-cause .slices-cause .ensures) (at-sizes .if1 .left)
-    (at-lowers .copy-ends .ensures ∙ ap (λ n. tab n (λ k. getD (s .lowers) k 0)) (sizes at-sizes .0))
-    (at-uppers .copy-ends2 .ensures ∙ ap (λ n. tab n (λ k. getD (s .uppers) k 0)) (sizes at-sizes .1))
+    let s = at-cause .before .before .before .before .args .scheme in
+    record {
+      answer = sym (at-sizes .if1 .left) ∙ at-cause .slices-cause .ensures;
+      filled = at-lowers .copy-ends .ensures ∙ ap (λ n. tab n (λ k. getD (s .lowers) k 0)) (sizes at-sizes .0);
+      otherFilled = at-uppers .copy-ends2 .ensures ∙ ap (λ n. tab n (λ k. getD (s .uppers) k 0)) (sizes at-sizes .1);
+    }
 
 pub put-bands-spec : {M : Type 1} → statement M
 put-bands-spec =

@@ -1,12 +1,12 @@
 -- `put_part` meets its contract: 11 for an empty part, 13 for the buffer, or the part in the buffer.
 -- Assumes nothing.
-use Rattle.joguyvi_rows.proofs.Parts.{part-empty, part-out, part-copied}
+use Rattle.joguyvi_rows.proofs.RowBuffersLaws.{part-empty, part-out, part-copied}
 use borrow.Author.Needs.{needs}
 use Rattle.joguyvi_rows.proofs.row_buffers.put_part.Statement.{statement}
 use Rattle.joguyvi_rows.proofs.row_buffers.put_part.Tie as tie
 
 returns : tie.Need-returns
-returns c = part-empty (c .before .before .before .args .part .now) (c .before .before .before .args .out .now) (c .if1 .taken)
+returns c = let start = c .before .before .before in part-empty (start .args .part .now) (start .args .out .now) (c .if1 .taken)
 
 returns-2 : tie.Need-returns-2
 returns-2 c =

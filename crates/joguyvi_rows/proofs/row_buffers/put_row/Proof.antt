@@ -7,7 +7,7 @@ use Rattle.scheme.specs.Cause.{orElse}
 use Rattle.joguyvi_spec.specs.Buffers.{buffersCause}
 use Rattle.joguyvi_spec.specs.Rows.{putRowNumber}
 use Rattle.rows.specs.Laws.Copy.{row-copied}
-use Rattle.joguyvi_spec.specs.Laws.Pairs.{pair-sizes, pair-left, pair-filled}
+use Rattle.joguyvi_spec.specs.Laws.Buffers.{buffer-sizes, unfilled}
 use borrow.Author.Needs.{needs}
 use Rattle.joguyvi_rows.proofs.row_buffers.put_row.Statement.{statement}
 use Rattle.joguyvi_rows.proofs.row_buffers.put_row.Tie as tie
@@ -28,7 +28,7 @@ sizes : (c : tie.Else1) → let start = c .before .before .before .before .befor
     (length (start .args .lower .now) ≡ 32) × (length (start .args .upper .now) ≡ 32)
 sizes c =
     let start = c .before .before .before .before .before in
-    pair-sizes 32 (start .args .lower .now) (start .args .upper .now)
+    buffer-sizes 32 (start .args .lower .now) (start .args .upper .now)
     (second-none (start .args .answer .number) (buffersCause 32 (start .args .lower .now) (start .args .upper .now))
     (sym (cause (c .before)) ∙ c .if1 .left))
 
@@ -40,9 +40,7 @@ upper-size : (c : tie.Start) → length (c .args .answer .upper) ≡ 32
 upper-size c = sym (length-map (c .args .answer .upper) (λ v. v)) ∙ c .good .0 .1 .1 .1 .1 .0 .1 .0 .1
 
 returns : tie.Need-returns
-returns c =
-    let start = c .before .before .before .before .before in
-    pair-left (start .args .answer .lower) (start .args .answer .upper) _ _ (cause (c .before)) (c .if1 .taken)
+returns c = record { answer = cause (c .before); filled = unfilled _ _ (c .if1 .taken); otherFilled = unfilled _ _ (c .if1 .taken) }
 
 slice-aggregate-copy-row : tie.Need-slice-aggregate-copy-row
 slice-aggregate-copy-row c = search needs
@@ -70,9 +68,11 @@ returns-2 c =
     let at-or-else = at-if1 .before in
     let start = at-or-else .before .before .before .before in
     let fit = sizes at-if1 in
-    pair-filled (start .args .answer .lower) (start .args .answer .upper) (start .args .lower .now) (start .args .upper .now) (cause at-or-else) (at-if1 .if1 .left)
-    (at-copy-row .copy-row .ensures ∙ row-copied (start .args .answer .lower) (start .args .lower .now) (fit .0 ∙ sym (lower-size start)))
-    (at-copy-row2 .copy-row2 .ensures ∙ row-copied (start .args .answer .upper) (start .args .upper .now) (fit .1 ∙ sym (upper-size start)))
+    record {
+      answer = sym (at-if1 .if1 .left) ∙ cause at-or-else;
+      filled = at-copy-row .copy-row .ensures ∙ row-copied (start .args .answer .lower) (start .args .lower .now) (fit .0 ∙ sym (lower-size start));
+      otherFilled = at-copy-row2 .copy-row2 .ensures ∙ row-copied (start .args .answer .upper) (start .args .upper .now) (fit .1 ∙ sym (upper-size start));
+    }
 
 pub put-row-spec : {M : Type 1} → statement M
 put-row-spec =

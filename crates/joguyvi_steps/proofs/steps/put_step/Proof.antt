@@ -1,16 +1,14 @@
 -- `put_step` meets its contract: the step's cause, the buffers', or the figure and the row in their buffers.
 -- Assumes nothing.
 use mathlib.Core.Path.{_≡_, ap, sym, _∙_}
-use mathlib.Core.List.{[], _∷_}
 use native.Mathlib.Omega.{arith}
 use lib.ListN.{length, length-map}
 use Rattle.scheme.specs.Laws.Cause.{second-none}
 use Rattle.scheme.specs.Cause.{orElse}
-use Rattle.joguyvi_spec.specs.Laws.Sizes.{one}
-use Rattle.joguyvi_spec.specs.Laws.Pairs.{pair-left, pair-filled}
+use Rattle.joguyvi_spec.specs.Laws.Buffers.{unfilled, one}
 use Rattle.rows.specs.Laws.Copy.{row-copied}
 use Rattle.joguyvi_spec.specs.Steps.{stepBuffers}
-use Rattle.joguyvi_steps.proofs.Stepping.{step-sizes}
+use Rattle.joguyvi_steps.proofs.StepsLaws.{step-sizes}
 use borrow.Author.Needs.{needs}
 use Rattle.joguyvi_steps.proofs.steps.put_step.Statement.{statement}
 use Rattle.joguyvi_steps.proofs.steps.put_step.Tie as tie
@@ -40,9 +38,7 @@ row-size : (c : tie.Start) → length (c .args .answer .row) ≡ 32
 row-size c = sym (length-map (c .args .answer .row) (λ v. v)) ∙ c .good .0 .1 .1 .1 .1 .0 .1 .0 .1
 
 returns : tie.Need-returns
-returns c =
-    let start = c .before .before .before .before .before .before in
-    pair-left (start .args .answer .figure ∷ []) (start .args .answer .row) _ _ (cause (c .before)) (c .if1 .taken)
+returns c = record { answer = cause (c .before); filled = unfilled _ _ (c .if1 .taken); otherFilled = unfilled _ _ (c .if1 .taken) }
 
 slice-write-figure : tie.Need-slice-write-figure
 slice-write-figure c = omega (arith, sizes c .0)
@@ -66,9 +62,11 @@ returns-2 c =
     let at-or-else = at-if1 .before in
     let start = at-or-else .before .before .before .before .before in
     let fit = sizes at-if1 in
-    pair-filled (start .args .answer .figure ∷ []) (start .args .answer .row) (start .args .figure .now) (start .args .row .now) (cause at-or-else) (at-if1 .if1 .left)
-    (one (start .args .figure .now) (start .args .answer .figure) (fit .0))
-    (at-copy-row .copy-row .ensures ∙ row-copied (start .args .answer .row) (start .args .row .now) (fit .1 ∙ sym (row-size start)))
+    record {
+      answer = sym (at-if1 .if1 .left) ∙ cause at-or-else;
+      filled = one (start .args .figure .now) (start .args .answer .figure) (fit .0);
+      otherFilled = at-copy-row .copy-row .ensures ∙ row-copied (start .args .answer .row) (start .args .row .now) (fit .1 ∙ sym (row-size start));
+    }
 
 pub put-step-spec : {M : Type 1} → statement M
 put-step-spec =

@@ -1,6 +1,6 @@
 -- `step` meets its contract: the cause of reading, or the step put into its buffers.
 -- Assumes nothing.
-use Rattle.joguyvi_steps.proofs.Stepping.{step-stopped, step-passed}
+use Rattle.joguyvi_steps.proofs.StepsLaws.{step-stopped, step-passed}
 use borrow.Author.Needs.{needs}
 use Rattle.joguyvi_steps.proofs.steps.step.Statement.{statement}
 use Rattle.joguyvi_steps.proofs.steps.step.Tie as tie

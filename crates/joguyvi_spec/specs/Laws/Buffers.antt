@@ -1,4 +1,4 @@
--- Buffers of the size asked for, and of another.
+-- Buffers of the size asked for and of another, and buffers that are left as they were.
 -- Assumes nothing.
 use Prim.Native.Nat.{ℕ}
 use mathlib.Core.Path.{_≡_, refl, sym, _∙_}
@@ -7,7 +7,8 @@ use native.Mathlib.Omega.{arith}
 use native.Mathlib.Decide.{ℕ-discrete}
 use lib.ListN.{length, set}
 use borrow.Author.Tests.{eq-eqb, ne-eqb}
-use Rattle.joguyvi_spec.specs.Buffers.{bufferCause}
+use Rattle.scheme.specs.Laws.Cause.{declined, first-none, second-none}
+use Rattle.joguyvi_spec.specs.Buffers.{bufferCause, buffersCause, filledWhere}
 
 -- a buffer of another length, and one that fits
 pub buffer-out : (size : ℕ) (out : List ℕ) → (length out ≡ size → ⊥) → bufferCause size out ≡ 13
@@ -26,6 +27,15 @@ buffer-size size out e = by (ℕ-discrete (length out) size)
     by : Dec (length out ≡ size) → length out ≡ size
     by (yes z) = z
     by (no h) = absurd (thirteen (sym (buffer-out size out h) ∙ e))
+
+-- so are two
+pub buffer-sizes : (size : ℕ) (one other : List ℕ) → buffersCause size one other ≡ 0 → (length one ≡ size) × (length other ≡ size)
+buffer-sizes size one other e =
+    (buffer-size size one (first-none (bufferCause size one) (bufferCause size other) e), buffer-size size other (second-none (bufferCause size one) (bufferCause size other) e))
+
+-- a buffer is left as it was with a number that is not 0
+pub unfilled : {number : ℕ} (full before : List ℕ) → (number ≡ 0 → ⊥) → before ≡ filledWhere number full before
+unfilled {number} full before some = sym (declined number full before some)
 
 -- one number written into a buffer of 1
 pub one : (size : List ℕ) (v : ℕ) → length size ≡ 1 → set size 0 v ≡ v ∷ []
