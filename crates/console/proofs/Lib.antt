@@ -1,3 +1,3 @@
 -- The laws by which reading, records and checksums are proved.
-pub mod Reading
-pub mod Checking
+pub mod ReadLaws
+pub mod RecordLaws

@@ -51,8 +51,8 @@ module _ (bytes out size : List ℕ) {a : ReadAnswer} (is : a ≡ readAnswer byt
   clear : recordNumber s out size ≡ 0 → writeCause s out ≡ 0
   clear z = sym (answer-number s out) ∙ first-none (writeNumber (writeAnswer s out)) (bufferCause 1 size) z
 
-  room : recordNumber s out size ≡ 0 → recordLength s ≤ length out
-  room z =
+  space : recordNumber s out size ≡ 0 → recordLength s ≤ length out
+  space z =
       ltb-false (length out) (recordLength s)
       (test-none (ltb (length out) (recordLength s)) 13 (omega arith)
       (second-none (causeOf s) (cond (ltb (length out) (recordLength s)) 13 0) (clear z)))
@@ -68,7 +68,7 @@ module _ (bytes out size : List ℕ) {a : ReadAnswer} (is : a ≡ readAnswer byt
         copied = λ z.
             found .filled
             ∙ answered n (writeLeaves s out) out z
-            ∙ copied bytes out small (read-passed bytes is none) (omega (arith, whole none, room (done z)));
+            ∙ copied bytes out small (read-passed bytes is none) (omega (arith, whole none, space (done z)));
         counted = λ z.
             found .otherFilled
             ∙ answered n (lengthAlone s out) size z

@@ -33,7 +33,7 @@ use Rattle.bounds_spec.specs.PromiseExamples.{forbidden}
 use Rattle.bounds_spec.specs.Laws.Kept.{sheet-kept}
 use Rattle.sheet_spec.specs.Text.{digitsWithin}
 use Rattle.sheet_spec.specs.Sheet.{refusedLine, sheetText}
-use Rattle.sheet_spec.specs.Answer.{roomFor, sheetAnswer, sheetLeaves}
+use Rattle.sheet_spec.specs.Answer.{spaceFor, sheetAnswer, sheetLeaves}
 use Rattle.joguyvi_spec.specs.Figures.{putNumber, lowAndHigh, ShareCall, MeanCall, TotalCall}
 use Rattle.joguyvi_spec.specs.Shares.{ShareSheetCall}
 use Rattle.joguyvi_spec.specs.Texts.{SheetCall}
@@ -142,7 +142,7 @@ refusedOne = 82 ∷ 69 ∷ 70 ∷ 85 ∷ 83 ∷ 69 ∷ 68 ∷ 32 ∷ 49 ∷ 10 �
 pub sheet-calls :
     SheetCall [] (replicate 11 0) one 0 refusedOne (10 ∷ []) × ¬ SheetCall [] (replicate 11 0) one 0 (replicate 11 0) (10 ∷ [])
     × ¬ SheetCall [] (replicate 11 0) one 0 refusedOne (11 ∷ []) × SheetCall [] two one 13 two one × ¬ SheetCall [] two one 1 two one
-unfolding sheetAnswer sheetLeaves roomFor sheetText refusedLine digitsWithin frameCause
+unfolding sheetAnswer sheetLeaves spaceFor sheetText refusedLine digitsWithin frameCause
 sheet-calls = (
   record { answer = refl; text = refl; lengths = refl },
   λ w. let e : _≡_ {A = ℕ} 0 82 = ap (λ l. getD l 0 0) (w .text) in omega arith,

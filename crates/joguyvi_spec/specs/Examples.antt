@@ -30,7 +30,7 @@ use Rattle.bounds_spec.specs.declared.Bounds.the-variants.{Answered, Refused}
 use Rattle.bounds_spec.specs.Answers.{sheetCause}
 use Rattle.sheet_spec.specs.Text.{digitsWithin}
 use Rattle.sheet_spec.specs.Sheet.{refusedLine, sheetText}
-use Rattle.sheet_spec.specs.Answer.{roomFor, sheetAnswer}
+use Rattle.sheet_spec.specs.Answer.{spaceFor, sheetAnswer}
 use Rattle.joguyvi_spec.specs.Figures.{putNumber, lowAndHigh, boundsNumber}
 use Rattle.joguyvi_spec.specs.Shares.{sharesNumber}
 use Rattle.joguyvi_spec.specs.Texts.{sheetNumber, sheetLength}
@@ -90,11 +90,11 @@ pub share-sheets : (sharesNumber [] 3 two three ≡ 1) × (sharesNumber exampleA
 unfolding sheetCause frameCause beAt schemeOf upTo tab causeWhere sizeOut startOut horizonOut ruleOut bandOut sumOut premiumOut anyBelow sumTo
 share-sheets = (refl, after-a _, after-a _, after-a _)
 
--- the sheet of no bytes, "REFUSED 1", takes 11 bytes of room and a buffer of one number for its length, 10 with the end of the line
+-- the sheet of no bytes, "REFUSED 1", takes 11 bytes of space and a buffer of one number for its length, 10 with the end of the line
 pub sheets :
     (sheetNumber [] (replicate 11 0) one ≡ 0) × (sheetNumber [] (replicate 10 0) one ≡ 13) × (sheetNumber [] (replicate 11 0) two ≡ 13)
     × (sheetLength [] (replicate 11 0) ≡ 10 ∷ [])
-unfolding sheetAnswer roomFor sheetText refusedLine digitsWithin frameCause
+unfolding sheetAnswer spaceFor sheetText refusedLine digitsWithin frameCause
 sheets = (refl, refl, refl, refl)
 
 -- a row's answer by its number
@@ -143,9 +143,9 @@ unfolding readyAnswer
 ready-schemes = (refl, refl, refl, refl)
 
 -- ready scheme 1 takes 209 bytes
-pub ready-room : (readyNumber 1 100 (replicate 209 0) one ≡ 0) × (readyNumber 1 100 (replicate 208 0) one ≡ 13)
+pub ready-space : (readyNumber 1 100 (replicate 209 0) one ≡ 0) × (readyNumber 1 100 (replicate 208 0) one ≡ 13)
 unfolding readyAnswer readyScheme schemeOf upTo scale1 writeAnswer tab causeWhere sizeOut startOut horizonOut ruleOut bandOut sumOut premiumOut anyBelow sumTo
-ready-room = (refl, refl)
+ready-space = (refl, refl)
 
 -- a step takes a payoff of 32 numbers, a buffer of one for the figure and one of 32 for the row
 pub step-buffers : (stepBuffers long one long ≡ 0) × (stepBuffers two one long ≡ 13) × (stepBuffers long two long ≡ 13) × (stepBuffers long one two ≡ 13)

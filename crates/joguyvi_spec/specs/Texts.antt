@@ -7,7 +7,7 @@ use Rattle.record_spec.specs.Write.{writeNumber, writtenLength}
 use Rattle.sheet_spec.specs.Answer.{sheetAnswer, sheetLeaves}
 use Rattle.joguyvi_spec.specs.Buffers.{bufferCause, filledWhere}
 
--- 13 where the text has no room, or the buffer for its length is not of 1 number
+-- 13 where the text has no space, or the buffer for its length is not of 1 number
 abbrev pub sheetNumber : List ℕ → (out size : List ℕ) → ℕ
 sheetNumber bytes out size = orElse (writeNumber (sheetAnswer bytes out)) (bufferCause 1 size)
 

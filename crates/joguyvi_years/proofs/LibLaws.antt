@@ -19,7 +19,7 @@ use Rattle.bounds_spec.specs.declared.Bounds.{Bounds}
 use Rattle.bounds_spec.specs.Answers.{sheetCause, sheetSlice, lowShares, highShares}
 use Rattle.bounds_spec.specs.Promises.{SheetPromise}
 use Rattle.sheet_spec.specs.Sheet.{sheetText}
-use Rattle.sheet_spec.specs.Answer.{roomFor, sheetAnswer, sheetLeaves}
+use Rattle.sheet_spec.specs.Answer.{spaceFor, sheetAnswer, sheetLeaves}
 use Rattle.joguyvi_spec.specs.Figures.{BoundsPost, BoundsCall}
 use Rattle.joguyvi_spec.specs.Shares.{ShareSheetCall}
 use Rattle.joguyvi_spec.specs.Texts.{SheetCall}
@@ -61,7 +61,7 @@ module _ (bytes : List ℕ) (year : ℕ) (low high : List ℕ) {a : ReadAnswer} 
       let found : SharesPost (schemeIn version1 bytes) year low high n low′ high′ = subst (λ s. SharesPost s year low high n low′ high′) (read-in bytes is none) put in
       record { answer = passed-number bytes is none (found .0); lows = found .1 .0; highs = found .1 .1 .0; promise = found .1 .1 .1 }
 
--- over the outcome of the test for room
+-- over the outcome of the test for space
 only-13 : (b : Bool) (n : ℕ) → (writeNumber (cond b (Declined 13) (Written n)) ≡ 0 → ⊥) → writeNumber (cond b (Declined 13) (Written n)) ≡ 13
 only-13 true n h = refl
 only-13 false n h = absurd (h refl)
@@ -74,11 +74,11 @@ left-alone false n out full h = absurd (h refl)
 module _ (bytes out : List ℕ) where
   pub sheet-only : (writeNumber (sheetAnswer bytes out) ≡ 0 → ⊥) → writeNumber (sheetAnswer bytes out) ≡ 13
   unfolding sheetAnswer
-  sheet-only h = only-13 (ltb (length out) (roomFor bytes)) (length (sheetText bytes)) h
+  sheet-only h = only-13 (ltb (length out) (spaceFor bytes)) (length (sheetText bytes)) h
 
   pub sheet-left : (writeNumber (sheetAnswer bytes out) ≡ 0 → ⊥) → sheetLeaves bytes out ≡ out
   unfolding sheetAnswer sheetLeaves
-  sheet-left h = left-alone (ltb (length out) (roomFor bytes)) (length (sheetText bytes)) out (sheetText bytes ++ drop (length (sheetText bytes)) out) h
+  sheet-left h = left-alone (ltb (length out) (spaceFor bytes)) (length (sheetText bytes)) out (sheetText bytes ++ drop (length (sheetText bytes)) out) h
 
   pub sheet-call : {size : List ℕ} {n : ℕ} {out′ size′ : List ℕ}
       → TextPost (writeNumber (sheetAnswer bytes out)) (writtenLength (sheetAnswer bytes out)) (sheetLeaves bytes out) out size n out′ size′

@@ -1,2 +1,2 @@
 -- The law by which the program's core is proved.
-pub mod Composing
+pub mod ComposeLaws

@@ -6,11 +6,11 @@ use lib.ListN.{length, take}
 use Rattle.big_endian_spec.specs.Numbers.{Bytes}
 use Rattle.sheet_spec.specs.Sheet.{sheetText}
 
--- the n bytes that were read, in a buffer of one byte more than a record's length field can say, and a buffer with room for any sheet
+-- the n bytes that were read, in a buffer of one byte more than a record's length field can say, and a buffer with space for any sheet
 pub record ComposePre (input : List ℕ) (n : ℕ) (out : List ℕ) : Type 0 where
   pub within : n ≤ length input
   pub enough : 65536 ≤ length input
-  pub room : 132862 ≤ length out
+  pub space : 132862 ≤ length out
 
 -- what is printed, the first r bytes of the buffer afterwards
 pub record ComposePost (input : List ℕ) (n : ℕ) (after : List ℕ) (r : ℕ) : Type 0 where

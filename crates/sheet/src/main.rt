@@ -4,8 +4,8 @@ ghost use Rattle.sheet.specs.Program.{ComposePre, ComposePost};
 // One byte more than a record's length field can say: input that has more is refused by its first bytes, as it would be by all of them.
 const INPUT: usize = 65_536;
 
-// Room for the sheet of any record.
-const ROOM: usize = 132_862;
+// Space for the sheet of any record.
+const SPACE: usize = 132_862;
 
 // Writes the sheet of the first n bytes of the input, and answers its length.
 fn compose(input: &[u8], n: usize, out: &mut [u8]) -> usize
@@ -22,7 +22,7 @@ fn main() {
     if read.failed {
         return;
     }
-    let mut out = [0u8; ROOM];
+    let mut out = [0u8; SPACE];
     let length = compose(&input, read.length, &mut out);
     if !console::bytes(&out[..length]) {
         console::complain(b"sheet: standard output could not be written\n");

@@ -14,33 +14,33 @@ use Rattle.record_spec.specs.Write.{writeNumber, writtenLength}
 use Rattle.sheet_spec.specs.Sheet.{sheetText}
 
 -- the most bytes that the sheet of a scheme of this size may have: SCHEME 19, a class 40, PREMIUM 35, TOTAL 28
-unfoldable pub roomOf : Scheme → ℕ
-roomOf s = 19 + suc (s .horizon) * (s .classes * 40 + 35) + 28
+unfoldable pub spaceOf : Scheme → ℕ
+spaceOf s = 19 + suc (s .horizon) * (s .classes * 40 + 35) + 28
 
--- the room that the sheet of these bytes takes: a refusal has at most 11 bytes
-unfoldable pub roomFor : List ℕ → ℕ
-roomFor bytes = cond (eqb (readCause bytes) 0) (roomOf (schemeIn version1 bytes)) 11
+-- the space that the sheet of these bytes takes: a refusal has at most 11 bytes
+unfoldable pub spaceFor : List ℕ → ℕ
+spaceFor bytes = cond (eqb (readCause bytes) 0) (spaceOf (schemeIn version1 bytes)) 11
 
--- a text into a slice of at least `room` bytes: its length, and 13 for a shorter slice
-abbrev pub answerBy : (room : ℕ) (text out : List ℕ) → WriteAnswer
-answerBy room text out = cond (ltb (length out) room) (Declined 13) (Written (length text))
+-- a text into a slice of at least `space` bytes: its length, and 13 for a shorter slice
+abbrev pub answerBy : (space : ℕ) (text out : List ℕ) → WriteAnswer
+answerBy space text out = cond (ltb (length out) space) (Declined 13) (Written (length text))
 
 -- the text from the front on, and bytes past it unchanged; declined, all of them
-abbrev pub leavesBy : (room : ℕ) (text out : List ℕ) → List ℕ
-leavesBy room text out = cond (ltb (length out) room) out (text ++ drop (length text) out)
+abbrev pub leavesBy : (space : ℕ) (text out : List ℕ) → List ℕ
+leavesBy space text out = cond (ltb (length out) space) out (text ++ drop (length text) out)
 
--- what is answered for a text that takes so much room, and what the slice holds afterwards
-pub record Told (room : ℕ) (text before after : List ℕ) (r : WriteAnswer) : Type 0 where
-  pub answer : r ≡ answerBy room text before
-  pub leaves : after ≡ leavesBy room text before
+-- what is answered for a text that takes so much space, and what the slice holds afterwards
+pub record Told (space : ℕ) (text before after : List ℕ) (r : WriteAnswer) : Type 0 where
+  pub answer : r ≡ answerBy space text before
+  pub leaves : after ≡ leavesBy space text before
 
 -- the answer for any bytes
 unfoldable pub sheetAnswer : List ℕ → List ℕ → WriteAnswer
-sheetAnswer bytes out = answerBy (roomFor bytes) (sheetText bytes) out
+sheetAnswer bytes out = answerBy (spaceFor bytes) (sheetText bytes) out
 
 -- the slice after it
 unfoldable pub sheetLeaves : List ℕ → List ℕ → List ℕ
-sheetLeaves bytes out = leavesBy (roomFor bytes) (sheetText bytes) out
+sheetLeaves bytes out = leavesBy (spaceFor bytes) (sheetText bytes) out
 
 -- what the answer promises: the first bytes of the slice, as many as it says, are the sheet of all the bytes
 abbrev pub TextPromise : (bytes after : List ℕ) → WriteAnswer → Type 0

@@ -1,5 +1,5 @@
--- The figures' largest values, the lengths of lines, and the room that a sheet takes.
+-- The figures' largest values, the lengths of lines, and the space that a sheet takes.
 pub mod Figures
 pub mod Widths
-pub mod Room
+pub mod Space
 pub mod Cut

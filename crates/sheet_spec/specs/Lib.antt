@@ -1,5 +1,5 @@
 -- Read in this order: numbers and words as text, the sheet, what the call answers, worked texts.
--- Laws shows that the sheet fits the room that is asked for it.
+-- Laws shows that the sheet fits the space that is asked for it.
 pub mod Text
 pub mod Sheet
 pub mod Answer

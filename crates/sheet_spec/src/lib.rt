@@ -1,1 +1,1 @@
-// What the sheet of any bytes is, and the room that it takes: everything stands in specs/.
+// What the sheet of any bytes is, and the space that it takes: everything stands in specs/.

@@ -5,8 +5,8 @@ use mathlib.Core.List.{List}
 use lib.ListN.{length}
 use lib.Seq.{sets}
 
--- the slice has room for the text from the place on
-pub record Room (slice : List ℕ) (at : ℕ) (text : List ℕ) : Type 0 where
+-- the slice has space for the text from the place on
+pub record Space (slice : List ℕ) (at : ℕ) (text : List ℕ) : Type 0 where
   pub fits : at + length text ≤ length slice
 
 -- the text stands from the place on, all else is as it was, and `to` is the place after it

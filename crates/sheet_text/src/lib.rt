@@ -5,7 +5,7 @@ ghost use mathlib.Core.Path.{_≡_};
 ghost use Prim.Native.Nat.{_≤_};
 ghost use Rattle.scheme.specs.Accepted.{Accepted};
 ghost use Rattle.sheet_spec.specs.Sheet.{refusedLine, sheetOf};
-ghost use Rattle.sheet_spec.specs.Answer.{roomOf, Told, sheetAnswer, sheetLeaves, TextPromise};
+ghost use Rattle.sheet_spec.specs.Answer.{spaceOf, Told, sheetAnswer, sheetLeaves, TextPromise};
 
 mod lines;
 mod tables;
@@ -27,17 +27,17 @@ fn refused(out: &mut [u8], number: u8) -> WriteAnswer
 // Writes the sheet of an accepted scheme.
 fn accepted(out: &mut [u8], scheme: Scheme) -> WriteAnswer
     requires { ⌜ Accepted scheme ⌝ }
-    ensures { λ r. ⌜ Told (roomOf scheme) (sheetOf scheme) (now (out .entry)) (now (out .exit)) r ⌝ }
+    ensures { λ r. ⌜ Told (spaceOf scheme) (sheetOf scheme) (now (out .entry)) (now (out .exit)) r ⌝ }
 {
     let years = (scheme.horizon as usize) + 1;
-    let room = 19 + years * ((scheme.classes as usize) * 40 + 35) + 28;
-    if out.len() < room {
+    let space = 19 + years * ((scheme.classes as usize) * 40 + 35) + 28;
+    if out.len() < space {
         return WriteAnswer::Declined(scheme::SLICE_OUT);
     }
     WriteAnswer::Written(tables::put_sheet(out, scheme))
 }
 
-// Writes the sheet of any bytes, or the line of their refusal, and leaves bytes past it unchanged; a slice without the room is left as it was.
+// Writes the sheet of any bytes, or the line of their refusal, and leaves bytes past it unchanged; a slice without the space is left as it was.
 pub fn sheet(bytes: &[u8], out: &mut [u8]) -> WriteAnswer
     ensures answer { λ r. ⌜ r ≡ sheetAnswer (now (bytes .entry)) (now (out .entry)) ⌝ }
     ensures leaves { λ r. ⌜ now (out .exit) ≡ sheetLeaves (now (bytes .entry)) (now (out .entry)) ⌝ }

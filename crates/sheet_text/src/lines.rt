@@ -3,13 +3,13 @@ ghost use Prim.Native.Nat.{_+_, _<_};
 ghost use mathlib.Core.List.{_++_};
 ghost use Rattle.sheet_spec.specs.Text.{field, newline};
 ghost use Rattle.sheet_spec.specs.Sheet.{schemeLine, classLine, premiumLine, totalLine, refusedLine};
-ghost use Rattle.sheet_text.specs.Put.{Put, Room};
+ghost use Rattle.sheet_text.specs.Put.{Put, Space};
 use crate::text;
 use scheme::Scheme;
 
 // puts the two figures that end a line
 fn ends(out: &mut [u8], at: usize, low: u64, high: u64) -> usize
-    requires { ⌜ Room (now out) at (field low ++ field high ++ newline) ⌝ }
+    requires { ⌜ Space (now out) at (field low ++ field high ++ newline) ⌝ }
     ensures { λ r. ⌜ Put (now (out .entry)) at (field low ++ field high ++ newline) (now (out .exit)) r ⌝ }
 {
     let a = text::put_field(out, at, low);
@@ -19,7 +19,7 @@ fn ends(out: &mut [u8], at: usize, low: u64, high: u64) -> usize
 
 // puts the SCHEME line
 pub fn scheme_line(out: &mut [u8], at: usize, scheme: Scheme) -> usize
-    requires { ⌜ Room (now out) at (schemeLine scheme) ⌝ }
+    requires { ⌜ Space (now out) at (schemeLine scheme) ⌝ }
     ensures { λ r. ⌜ Put (now (out .entry)) at (schemeLine scheme) (now (out .exit)) r ⌝ }
 {
     let a = text::put_word(out, at, b"SCHEME");
@@ -32,7 +32,7 @@ pub fn scheme_line(out: &mut [u8], at: usize, scheme: Scheme) -> usize
 
 // puts the line of a class in a year: class j + 1
 pub fn class_line(out: &mut [u8], at: usize, year: usize, j: usize, low: u64, high: u64) -> usize
-    requires { ⌜ Room (now out) at (classLine year j low high) × (j < 256) ⌝ }
+    requires { ⌜ Space (now out) at (classLine year j low high) × (j < 256) ⌝ }
     ensures { λ r. ⌜ Put (now (out .entry)) at (classLine year j low high) (now (out .exit)) r ⌝ }
 {
     let a = text::put_word(out, at, b"YEAR");
@@ -44,7 +44,7 @@ pub fn class_line(out: &mut [u8], at: usize, year: usize, j: usize, low: u64, hi
 
 // puts the PREMIUM line of a year
 pub fn premium_line(out: &mut [u8], at: usize, year: usize, low: u64, high: u64) -> usize
-    requires { ⌜ Room (now out) at (premiumLine year low high) ⌝ }
+    requires { ⌜ Space (now out) at (premiumLine year low high) ⌝ }
     ensures { λ r. ⌜ Put (now (out .entry)) at (premiumLine year low high) (now (out .exit)) r ⌝ }
 {
     let a = text::put_word(out, at, b"YEAR");
@@ -55,7 +55,7 @@ pub fn premium_line(out: &mut [u8], at: usize, year: usize, low: u64, high: u64)
 
 // puts the TOTAL line
 pub fn total_line(out: &mut [u8], at: usize, low: u64, high: u64) -> usize
-    requires { ⌜ Room (now out) at (totalLine low high) ⌝ }
+    requires { ⌜ Space (now out) at (totalLine low high) ⌝ }
     ensures { λ r. ⌜ Put (now (out .entry)) at (totalLine low high) (now (out .exit)) r ⌝ }
 {
     let a = text::put_word(out, at, b"TOTAL");
@@ -64,7 +64,7 @@ pub fn total_line(out: &mut [u8], at: usize, low: u64, high: u64) -> usize
 
 // puts the line of a refusal
 pub fn refused_line(out: &mut [u8], at: usize, number: u8) -> usize
-    requires { ⌜ Room (now out) at (refusedLine number) ⌝ }
+    requires { ⌜ Space (now out) at (refusedLine number) ⌝ }
     ensures { λ r. ⌜ Put (now (out .entry)) at (refusedLine number) (now (out .exit)) r ⌝ }
 {
     let a = text::put_word(out, at, b"REFUSED");

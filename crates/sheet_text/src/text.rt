@@ -3,11 +3,11 @@ ghost use mathlib.Core.Path.{_≡_};
 ghost use Prim.Native.Nat.{_+_, _*_, _≤_, _<_};
 ghost use lib.ListN.{length};
 ghost use Rattle.sheet_spec.specs.Text.{digitsWithin, twoDigits, decimal, field, newline};
-ghost use Rattle.sheet_text.specs.Put.{Put, Room};
+ghost use Rattle.sheet_text.specs.Put.{Put, Space};
 
 // puts the bytes of a word
 pub fn put_word(out: &mut [u8], at: usize, word: &[u8]) -> usize
-    requires { ⌜ Room (now out) at (now word) ⌝ }
+    requires { ⌜ Space (now out) at (now word) ⌝ }
     ensures { λ r. ⌜ Put (now (out .entry)) at (now (word .entry)) (now (out .exit)) r ⌝ }
 {
     let mut k: usize = 0;
@@ -38,7 +38,7 @@ fn put_two(out: &mut [u8], at: usize, x: u64) -> usize
 
 // puts the digits of a number, two at a time, by recursion on how many pairs of them there may be
 fn put_pairs(out: &mut [u8], at: usize, x: u64, pairs: u64) -> usize
-    requires { ⌜ Room (now out) at (digitsWithin (pairs * 2) x) ⌝ }
+    requires { ⌜ Space (now out) at (digitsWithin (pairs * 2) x) ⌝ }
     ensures { λ r. ⌜ Put (now (out .entry)) at (digitsWithin (pairs * 2) x) (now (out .exit)) r ⌝ }
 {
     if pairs == 0 {
@@ -57,7 +57,7 @@ fn put_pairs(out: &mut [u8], at: usize, x: u64, pairs: u64) -> usize
 
 // puts a number in decimal
 pub fn put_number(out: &mut [u8], at: usize, x: u64) -> usize
-    requires { ⌜ Room (now out) at (decimal x) ⌝ }
+    requires { ⌜ Space (now out) at (decimal x) ⌝ }
     ensures { λ r. ⌜ Put (now (out .entry)) at (decimal x) (now (out .exit)) r ⌝ }
 {
     put_pairs(out, at, x, 10)
@@ -65,7 +65,7 @@ pub fn put_number(out: &mut [u8], at: usize, x: u64) -> usize
 
 // puts a space and a number
 pub fn put_field(out: &mut [u8], at: usize, x: u64) -> usize
-    requires { ⌜ Room (now out) at (field x) ⌝ }
+    requires { ⌜ Space (now out) at (field x) ⌝ }
     ensures { λ r. ⌜ Put (now (out .entry)) at (field x) (now (out .exit)) r ⌝ }
 {
     out[at] = 32;
@@ -74,7 +74,7 @@ pub fn put_field(out: &mut [u8], at: usize, x: u64) -> usize
 
 // puts the end of a line
 pub fn put_newline(out: &mut [u8], at: usize) -> usize
-    requires { ⌜ Room (now out) at newline ⌝ }
+    requires { ⌜ Space (now out) at newline ⌝ }
     ensures { λ r. ⌜ Put (now (out .entry)) at newline (now (out .exit)) r ⌝ }
 {
     out[at] = 10;

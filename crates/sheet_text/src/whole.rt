@@ -3,14 +3,14 @@ ghost use mathlib.Core.Path.{_≡_};
 ghost use Rattle.scheme.specs.Accepted.{SizeFits};
 ghost use Rattle.bounds_spec.specs.Table.{lowTable, highTable};
 ghost use Rattle.sheet_spec.specs.Sheet.{sheetOf};
-ghost use Rattle.sheet_text.specs.Put.{Put, Room};
+ghost use Rattle.sheet_text.specs.Put.{Put, Space};
 use crate::lines;
 use crate::years;
 use scheme::Scheme;
 
 // puts the sheet
 pub fn whole(out: &mut [u8], at: usize, scheme: Scheme, low: &[u64], high: &[u64]) -> usize
-    requires { ⌜ Room (now out) at (sheetOf scheme) × SizeFits scheme × (now low ≡ lowTable scheme) × (now high ≡ highTable scheme) ⌝ }
+    requires { ⌜ Space (now out) at (sheetOf scheme) × SizeFits scheme × (now low ≡ lowTable scheme) × (now high ≡ highTable scheme) ⌝ }
     ensures { λ r. ⌜ Put (now (out .entry)) at (sheetOf scheme) (now (out .exit)) r ⌝ }
 {
     let s = scheme.classes as usize;

@@ -6,7 +6,7 @@ use native.Mathlib.Omega.{arith}
 use lib.ListN.{length, drop}
 use borrow.Author.Needs.{needs}
 use Rattle.console.specs.Checksum.{added, checksumFrom}
-use Rattle.console.proofs.Checking.{checksum-more, checksum-all}
+use Rattle.console.proofs.RecordLaws.{checksum-more, checksum-all}
 use Rattle.console.proofs.checksum.Statement.{statement}
 use Rattle.console.proofs.checksum.Tie as tie
 

@@ -5,7 +5,7 @@ use mathlib.Core.Path.{_∙_}
 use native.Mathlib.Omega.{arith}
 use lib.ListN.{length}
 use Rattle.console.specs.Input.{ReadInto}
-use Rattle.console.proofs.Reading.{read-none, read-more}
+use Rattle.console.proofs.ReadLaws.{read-none, read-more}
 use Rattle.console.proofs.fill.Statement.{statement}
 use Rattle.console.proofs.fill.Tie as tie
 

@@ -1,7 +1,7 @@
 -- `more` puts what one read brought behind the bytes that are there, and changes no other.
 -- Assumes nothing.
 use borrow.Author.Needs.{needs}
-use Rattle.console.proofs.Reading.{read-copied}
+use Rattle.console.proofs.ReadLaws.{read-copied}
 use Rattle.console.proofs.more.Statement.{statement}
 use Rattle.console.proofs.more.Tie as tie
 

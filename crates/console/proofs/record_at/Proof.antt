@@ -6,7 +6,7 @@ use native.Mathlib.Omega.{arith}
 use lib.ListN.{length}
 use borrow.Author.Needs.{needs}
 use borrow.Author.Tests.{leb-true, not-true, not-false}
-use Rattle.console.proofs.Checking.{record-none, record-held}
+use Rattle.console.proofs.RecordLaws.{record-none, record-held}
 use Rattle.console.proofs.record_at.Statement.{statement}
 use Rattle.console.proofs.record_at.Tie as tie
 

@@ -1,4 +1,4 @@
--- `joguyvi_sheet` meets its contract: 13 for the buffer of the length or for want of room, or the text and its length.
+-- `joguyvi_sheet` meets its contract: 13 for the buffer of the length or for want of space, or the text and its length.
 -- Assumes nothing.
 use mathlib.Core.Path.{ap, _∙_}
 use Rattle.record_spec.specs.Write.{writeNumber, writtenLength}

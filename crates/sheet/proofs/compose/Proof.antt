@@ -1,9 +1,9 @@
--- `compose` leaves the sheet of the whole input: a buffer with room for any sheet is never declined.
+-- `compose` leaves the sheet of the whole input: a buffer with space for any sheet is never declined.
 -- Assumes nothing.
 use mathlib.Core.Path.{sym}
 use lib.Seq.{length-take-le}
 use borrow.Author.Needs.{needs}
-use Rattle.sheet.proofs.Composing.{composed}
+use Rattle.sheet.proofs.ComposeLaws.{composed}
 use Rattle.sheet.proofs.compose.Statement.{statement}
 use Rattle.sheet.proofs.compose.Tie as tie
 

@@ -34,7 +34,7 @@ compose-requires c κs =
     record {
       within = omega (arith, read .within, read .size);
       enough = omega (arith, read .size, length-replicate {A = ℕ} 65536 0);
-      room = omega (arith, length-replicate {A = ℕ} 132862 0);
+      space = omega (arith, length-replicate {A = ℕ} 132862 0);
     }
 
 array-share-prefix-out : tie.Need-array-share-prefix-out

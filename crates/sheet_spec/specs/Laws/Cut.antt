@@ -15,7 +15,7 @@ use Rattle.big_endian_spec.specs.Laws.{bytes-take, beAt-fits}
 use Rattle.record_spec.specs.Layout.{HEADER}
 use Rattle.record_spec.specs.Read.{frameCause, readCause}
 use Rattle.sheet_spec.specs.Sheet.{refusedLine, sheetText}
-use Rattle.sheet_spec.specs.Laws.Room.{text-refused}
+use Rattle.sheet_spec.specs.Laws.Space.{text-refused}
 
 -- the causes 1 and 2, of which the second applies
 first-two : (a b : Bool) (rest after : ℕ) → b ≡ true → orElse (orElse (orElse (cond a 1 0) (cond b 2 0)) rest) after ≡ cond a 1 2

@@ -1,7 +1,7 @@
--- `refused` meets its contract: declined for want of room, or the line.
+-- `refused` meets its contract: declined for want of space, or the line.
 use native.Mathlib.Omega.{arith}
 use Rattle.sheet_spec.specs.Laws.Widths.{refused-line-within}
-use Rattle.sheet_text.specs.Laws.Answer.{told-declined, told-written, told-room}
+use Rattle.sheet_text.specs.Laws.Answer.{told-declined, told-written, told-space}
 use borrow.Author.Needs.{needs}
 use Rattle.sheet_text.proofs.refused.Statement.{statement}
 use Rattle.sheet_text.proofs.refused.Tie as tie
@@ -10,7 +10,7 @@ returns : tie.Need-returns
 returns c = told-declined (c .if1 .taken)
 
 refused-line-requires : tie.Need-refused-line-requires
-refused-line-requires c κs = told-room {room = 11} (omega arith) (refused-line-within _ (c .before .before .before .pre) .fits)
+refused-line-requires c κs = told-space {space = 11} (omega arith) (refused-line-within _ (c .before .before .before .pre) .fits)
 
 same-length : tie.Need-same-length
 same-length c = search needs

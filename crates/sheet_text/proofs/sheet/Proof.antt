@@ -4,7 +4,7 @@ use native.Mathlib.Omega.{arith}
 use Rattle.record_spec.specs.Read.{readCause}
 use Rattle.record_spec.specs.Layout.{version1, schemeIn}
 use Rattle.record_spec.specs.Laws.Read.{read-number, read-scheme}
-use Rattle.sheet_spec.specs.Laws.Room.{read-cause-most, read-accepted}
+use Rattle.sheet_spec.specs.Laws.Space.{read-cause-most, read-accepted}
 use Rattle.sheet_text.specs.Laws.Answer.{sheet-refused, sheet-accepted}
 use borrow.Author.Needs.{needs}
 use Rattle.sheet_text.proofs.sheet.Statement.{statement}

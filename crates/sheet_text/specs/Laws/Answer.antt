@@ -18,25 +18,25 @@ use Rattle.bounds_spec.specs.Table.{tableSize, tableCause}
 use Rattle.record_spec.specs.declared.WriteAnswer.{WriteAnswer}
 use Rattle.record_spec.specs.declared.WriteAnswer.the-variants.{Written, Declined}
 use Rattle.sheet_spec.specs.Sheet.{sheetOf, refusedLine, sheetText}
-use Rattle.sheet_text.specs.Put.{Room, Put}
+use Rattle.sheet_text.specs.Put.{Space, Put}
 use Rattle.record_spec.specs.Write.{writeNumber, writtenLength}
-use Rattle.sheet_spec.specs.Answer.{roomOf, roomFor, Told, sheetAnswer, sheetLeaves, TextPromise}
-use Rattle.sheet_spec.specs.Laws.Room.{text-accepted, room-accepted, text-refused, room-refused, text-kept}
+use Rattle.sheet_spec.specs.Answer.{spaceOf, spaceFor, Told, sheetAnswer, sheetLeaves, TextPromise}
+use Rattle.sheet_spec.specs.Laws.Space.{text-accepted, space-accepted, text-refused, space-refused, text-kept}
 
 -- a slice that is too short, and one that is not
-pub told-declined : {room : ℕ} {text out : List ℕ} → length out < room → Told room text out out (Declined 13)
-told-declined {room} {text} {out} short = record { answer = rw (lt-ltb (length out) room short); leaves = rw (lt-ltb (length out) room short) }
+pub told-declined : {space : ℕ} {text out : List ℕ} → length out < space → Told space text out out (Declined 13)
+told-declined {space} {text} {out} short = record { answer = rw (lt-ltb (length out) space short); leaves = rw (lt-ltb (length out) space short) }
 
-pub told-written : {room : ℕ} {text out after : List ℕ} {to : ℕ} → room ≤ length out → length text ≤ room → Put out 0 text after to → Told room text out after (Written to)
-told-written {room} {text} {out} {after} {to} enough fits p =
+pub told-written : {space : ℕ} {text out after : List ℕ} {to : ℕ} → space ≤ length out → length text ≤ space → Put out 0 text after to → Told space text out after (Written to)
+told-written {space} {text} {out} {after} {to} enough fits p =
     let place : to ≡ length text = omega (arith, p .place) in
     record {
-      answer = rw (le-ltb (length out) room enough, place);
-      leaves = rw (le-ltb (length out) room enough) (p .holds ∙ sets-front out text (omega arith));
+      answer = rw (le-ltb (length out) space enough, place);
+      leaves = rw (le-ltb (length out) space enough) (p .holds ∙ sets-front out text (omega arith));
     }
 
-pub told-room : {room : ℕ} {text out : List ℕ} → room ≤ length out → length text ≤ room → Room out 0 text
-told-room enough fits = record { fits = omega arith }
+pub told-space : {space : ℕ} {text out : List ℕ} → space ≤ length out → length text ≤ space → Space out 0 text
+told-space enough fits = record { fits = omega arith }
 
 -- any bytes
 module _ (bytes : List ℕ) where
@@ -53,18 +53,18 @@ module _ (bytes : List ℕ) where
   unfolding sheetAnswer sheetLeaves
   sheet-refused {out = out} e some told =
       let cause : readCause bytes ≡ 0 → ⊥ = λ z. some (e ∙ z) in
-      keeps out (rw (text-refused bytes cause, room-refused bytes cause, ← e) (told .answer)) (rw (text-refused bytes cause, room-refused bytes cause, ← e) (told .leaves))
+      keeps out (rw (text-refused bytes cause, space-refused bytes cause, ← e) (told .answer)) (rw (text-refused bytes cause, space-refused bytes cause, ← e) (told .leaves))
 
-  pub sheet-accepted : {s : Scheme} {out after : List ℕ} {r : WriteAnswer} → readCause bytes ≡ 0 → s ≡ schemeIn version1 bytes → Told (roomOf s) (sheetOf s) out after r
+  pub sheet-accepted : {s : Scheme} {out after : List ℕ} {r : WriteAnswer} → readCause bytes ≡ 0 → s ≡ schemeIn version1 bytes → Told (spaceOf s) (sheetOf s) out after r
       → Ensured out after r
   unfolding sheetAnswer sheetLeaves
   sheet-accepted {out = out} none e told =
-      keeps out (rw (text-accepted bytes none, room-accepted bytes none, ← e) (told .answer)) (rw (text-accepted bytes none, room-accepted bytes none, ← e) (told .leaves))
+      keeps out (rw (text-accepted bytes none, space-accepted bytes none, ← e) (told .answer)) (rw (text-accepted bytes none, space-accepted bytes none, ← e) (told .leaves))
 
   -- the number and the value of the answer
-  pub answer-written : (out : List ℕ) → roomFor bytes ≤ length out → (writeNumber (sheetAnswer bytes out) ≡ 0) × (writtenLength (sheetAnswer bytes out) ≡ length (sheetText bytes))
+  pub answer-written : (out : List ℕ) → spaceFor bytes ≤ length out → (writeNumber (sheetAnswer bytes out) ≡ 0) × (writtenLength (sheetAnswer bytes out) ≡ length (sheetText bytes))
   unfolding sheetAnswer
-  answer-written out enough = (rw (le-ltb (length out) (roomFor bytes) enough), rw (le-ltb (length out) (roomFor bytes) enough))
+  answer-written out enough = (rw (le-ltb (length out) (spaceFor bytes) enough), rw (le-ltb (length out) (spaceFor bytes) enough))
 
 -- the tables of an accepted scheme are written into slices of their size
 pub table-clear : (s : Scheme) (low high : List ℕ) → Accepted s → length low ≡ tableSize s → length high ≡ tableSize s → tableCause s low high ≡ 0

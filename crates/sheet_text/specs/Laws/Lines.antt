@@ -4,7 +4,7 @@ use mathlib.Core.Path.{_≡_, ap, _∙_}
 use mathlib.Core.List.{List, _++_, append-assoc}
 use native.Mathlib.Numerals.{add-one}
 use Rattle.sheet_spec.specs.Text.{field, newline, yearWord, classWord, premiumWord}
-use Rattle.sheet_text.specs.Put.{Room, Put}
+use Rattle.sheet_text.specs.Put.{Space, Put}
 
 -- the two figures that end a line
 abbrev pub endsText : (low high : ℕ) → List ℕ
@@ -22,16 +22,16 @@ ends-apart : (x : List ℕ) (low high : ℕ) → x ++ field low ++ field high ++
 ends-apart x low high =
     ap (λ l. l ++ newline) (append-assoc x (field low) (field high)) ∙ append-assoc x (field low ++ field high) newline
 
-pub ends-room : {l : List ℕ} {at : ℕ} (x : List ℕ) (low high : ℕ) → Room l at (x ++ field low ++ field high ++ newline) → Room l at (x ++ endsText low high)
-ends-room x low high r = rw (ends-apart x low high) at r
+pub ends-space : {l : List ℕ} {at : ℕ} (x : List ℕ) (low high : ℕ) → Space l at (x ++ field low ++ field high ++ newline) → Space l at (x ++ endsText low high)
+ends-space x low high r = rw (ends-apart x low high) at r
 
 pub ends-put : {l : List ℕ} {at : ℕ} {m : List ℕ} {to : ℕ} (x : List ℕ) (low high : ℕ)
     → Put l at (x ++ endsText low high) m to → Put l at (x ++ field low ++ field high ++ newline) m to
 ends-put x low high p = rw (ends-apart x low high) p
 
 -- the class number: the code's j + 1
-pub class-field-room : {l : List ℕ} {at : ℕ} (j : ℕ) → Room l at (field (suc j)) → Room l at (field (j + 1))
-class-field-room j r = rw add-one r
+pub class-field-space : {l : List ℕ} {at : ℕ} (j : ℕ) → Space l at (field (suc j)) → Space l at (field (j + 1))
+class-field-space j r = rw add-one r
 
 pub class-field-put : {l : List ℕ} {at : ℕ} {m : List ℕ} {to : ℕ} (j : ℕ) → Put l at (field (j + 1)) m to → Put l at (field (suc j)) m to
 class-field-put j p = rw add-one at p

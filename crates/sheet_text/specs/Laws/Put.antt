@@ -12,7 +12,7 @@ use lib.Seq.{sets, length-sets, length-take-le, take-length, take-suc}
 use Rattle.record_spec.specs.Joined.{joined}
 use Rattle.record.specs.Laws.Lists.{sets-append, sets-more}
 use Rattle.sheet_spec.specs.Text.{digitsWithin, twoDigits}
-use Rattle.sheet_text.specs.Put.{Room, Put}
+use Rattle.sheet_text.specs.Put.{Space, Put}
 
 -- the slice keeps its length
 pub put-kept : {l : List ℕ} {at : ℕ} {a m : List ℕ} {k : ℕ} → Put l at a m k → length m ≡ length l
@@ -38,12 +38,12 @@ put-then {l} {at} {a} {m} {k} {b} {n} {to} p q =
       place = omega (arith, p .place, q .place, length-append a b);
     }
 
--- room for the first of two texts, and after it for the second
-pub room-first : {l : List ℕ} {at : ℕ} {a : List ℕ} (b : List ℕ) → Room l at (a ++ b) → Room l at a
-room-first {l} {at} {a} b r = record { fits = omega (arith, r .fits, length-append a b) }
+-- space for the first of two texts, and after it for the second
+pub space-first : {l : List ℕ} {at : ℕ} {a : List ℕ} (b : List ℕ) → Space l at (a ++ b) → Space l at a
+space-first {l} {at} {a} b r = record { fits = omega (arith, r .fits, length-append a b) }
 
-pub room-next : {l : List ℕ} {at : ℕ} {a m : List ℕ} {k : ℕ} {b : List ℕ} → Put l at a m k → Room l at (a ++ b) → Room m k b
-room-next {l} {at} {a} {m} {k} {b} p r = record { fits = omega (arith, r .fits, p .place, put-kept p, length-append a b) }
+pub space-next : {l : List ℕ} {at : ℕ} {a m : List ℕ} {k : ℕ} {b : List ℕ} → Put l at a m k → Space l at (a ++ b) → Space m k b
+space-next {l} {at} {a} {m} {k} {b} p r = record { fits = omega (arith, r .fits, p .place, put-kept p, length-append a b) }
 
 -- a word byte by byte: k bytes stand, one more, all
 pub word-more : (word l : List ℕ) (at k : ℕ) → k < length word → set (sets l at (take k word)) (at + k) (getD word k 0) ≡ sets l at (take (k + 1) word)
@@ -89,28 +89,28 @@ module _ {l : List ℕ} {at : ℕ} (pairs x : ℕ) where
   pub digits-put-one : {d : ℕ} → 0 < pairs → x < 10 → d ≡ 48 + x → Put l at (digitsWithin (pairs * 2) x) (set l at d) (at + 1)
   digits-put-one h k e = rw (digits-one (pairs * 2) x (omega arith) k, e) (put-one l at (48 + x))
 
-  pub digits-room-one : 0 < pairs → x < 10 → Room l at (digitsWithin (pairs * 2) x) → at < length l
-  digits-room-one h k r = let size : length (digitsWithin (pairs * 2) x) ≡ 1 = ap length (digits-one (pairs * 2) x (omega arith) k) in omega (arith, size, r .fits)
+  pub digits-space-one : 0 < pairs → x < 10 → Space l at (digitsWithin (pairs * 2) x) → at < length l
+  digits-space-one h k r = let size : length (digitsWithin (pairs * 2) x) ≡ 1 = ap length (digits-one (pairs * 2) x (omega arith) k) in omega (arith, size, r .fits)
 
   pub digits-put-two : {m : List ℕ} {to : ℕ} → 0 < pairs → 10 ≤ x → x < 100 → Put l at (twoDigits x) m to → Put l at (digitsWithin (pairs * 2) x) m to
   digits-put-two h k b p = rw (digits-two pairs x h k b) p
 
-  pub digits-room-two : 0 < pairs → 10 ≤ x → x < 100 → Room l at (digitsWithin (pairs * 2) x) → at + 2 ≤ length l
-  digits-room-two h k b r = let size : length (digitsWithin (pairs * 2) x) ≡ 2 = ap length (digits-two pairs x h k b) in omega (arith, size, r .fits)
+  pub digits-space-two : 0 < pairs → 10 ≤ x → x < 100 → Space l at (digitsWithin (pairs * 2) x) → at + 2 ≤ length l
+  digits-space-two h k b r = let size : length (digitsWithin (pairs * 2) x) ≡ 2 = ap length (digits-two pairs x h k b) in omega (arith, size, r .fits)
 
-  pub digits-room : 0 < pairs → 100 ≤ x → Room l at (digitsWithin (pairs * 2) x) → Room l at (digitsWithin ((pairs - 1) * 2) (x / 100))
-  digits-room h k r = room-first (twoDigits (x % 100)) (rw (digits-pair pairs x h k) at r)
+  pub digits-space : 0 < pairs → 100 ≤ x → Space l at (digitsWithin (pairs * 2) x) → Space l at (digitsWithin ((pairs - 1) * 2) (x / 100))
+  digits-space h k r = space-first (twoDigits (x % 100)) (rw (digits-pair pairs x h k) at r)
 
-  pub digits-room-more : {m : List ℕ} {to : ℕ} → 0 < pairs → 100 ≤ x → Room l at (digitsWithin (pairs * 2) x)
+  pub digits-space-more : {m : List ℕ} {to : ℕ} → 0 < pairs → 100 ≤ x → Space l at (digitsWithin (pairs * 2) x)
       → Put l at (digitsWithin ((pairs - 1) * 2) (x / 100)) m to → to + 2 ≤ length m
-  digits-room-more h k r p =
-      let last : Room _ _ (twoDigits (x % 100)) = room-next p (rw (digits-pair pairs x h k) at r) in omega (arith, last .fits)
+  digits-space-more h k r p =
+      let last : Space _ _ (twoDigits (x % 100)) = space-next p (rw (digits-pair pairs x h k) at r) in omega (arith, last .fits)
 
   pub digits-put-more : {m n : List ℕ} {to end : ℕ} → 0 < pairs → 100 ≤ x → Put l at (digitsWithin ((pairs - 1) * 2) (x / 100)) m to
       → Put m to (twoDigits (x % 100)) n end → Put l at (digitsWithin (pairs * 2) x) n end
   digits-put-more h k p q = rw (digits-pair pairs x h k) (put-then p q)
 
--- lists one after another: none, one more, and room for it
+-- lists one after another: none, one more, and space for it
 pub joined-none : (f : ℕ → List ℕ) (l : List ℕ) (at : ℕ) → Put l at (joined 0 f) l at
 unfolding joined
 joined-none f l at = put-none l at
@@ -129,10 +129,10 @@ joined-longer f i (suc n) h =
     (λ less. omega (arith, joined-longer f i n (omega arith), length-append (joined n f) (f n)))
     (eq-or-lt-of-le h)
 
-pub joined-room : {l : List ℕ} {at : ℕ} {m : List ℕ} {k : ℕ} (f : ℕ → List ℕ) (i n : ℕ) → i < n
-    → Put l at (joined i f) m k → Room l at (joined n f) → Room m k (f i)
+pub joined-space : {l : List ℕ} {at : ℕ} {m : List ℕ} {k : ℕ} (f : ℕ → List ℕ) (i n : ℕ) → i < n
+    → Put l at (joined i f) m k → Space l at (joined n f) → Space m k (f i)
 unfolding joined
-joined-room f i n h p r =
+joined-space f i n h p r =
     record { fits = omega (arith, r .fits, p .place, put-kept p, joined-longer f (suc i) n h, length-append (joined i f) (f i)) }
 
 pub joined-all : {l : List ℕ} {at : ℕ} {m : List ℕ} {k i n : ℕ} (f : ℕ → List ℕ) → i ≡ n → Put l at (joined i f) m k → Put l at (joined n f) m k

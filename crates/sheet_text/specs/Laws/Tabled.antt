@@ -16,7 +16,7 @@ use Rattle.bounds_spec.specs.Answers.{startOf}
 use Rattle.bounds_spec.specs.Table.{tableSize, figureTable, lowTable, highTable}
 use Rattle.bounds_spec.specs.Laws.Table.{share-at, mean-at, total-at}
 use Rattle.sheet_spec.specs.Sheet.{schemeLine, classLine, yearLines, totalLine, sheetOf}
-use Rattle.sheet_text.specs.Put.{Room, Put}
+use Rattle.sheet_text.specs.Put.{Space, Put}
 use Rattle.sheet_text.specs.Tabled.{classText, yearText}
 
 -- how long a table is
@@ -52,9 +52,9 @@ sheet-tabled s low high el eh =
     joined-eq (suc (s .horizon)) _ _ (λ t l. year-tabled s t (omega arith)) in
     rw (el, eh, add-one, add-one, years, total-at false s, total-at true s)
 
--- room for them, and them put
-pub sheet-room : {l : List ℕ} {at : ℕ} {low high : List ℕ} (s : Scheme) → low ≡ lowTable s → high ≡ highTable s → Room l at (sheetOf s) → Room l at (tabledText s low high)
-sheet-room {low = low} {high = high} s el eh r = rw (sheet-tabled s low high el eh) at r
+-- space for them, and them put
+pub sheet-space : {l : List ℕ} {at : ℕ} {low high : List ℕ} (s : Scheme) → low ≡ lowTable s → high ≡ highTable s → Space l at (sheetOf s) → Space l at (tabledText s low high)
+sheet-space {low = low} {high = high} s el eh r = rw (sheet-tabled s low high el eh) at r
 
 pub sheet-put : {l : List ℕ} {at : ℕ} {low high m : List ℕ} {to : ℕ} (s : Scheme) → low ≡ lowTable s → high ≡ highTable s
     → Put l at (tabledText s low high) m to → Put l at (sheetOf s) m to

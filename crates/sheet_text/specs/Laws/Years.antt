@@ -8,9 +8,9 @@ use native.Mathlib.Nat.{mul-le-mul-right}
 use lib.ListN.{getD}
 use Rattle.record_spec.specs.Joined.{joined}
 use Rattle.sheet_spec.specs.Sheet.{premiumLine}
-use Rattle.sheet_text.specs.Put.{Room, Put}
+use Rattle.sheet_text.specs.Put.{Space, Put}
 use Rattle.sheet_text.specs.Tabled.{classText, yearText}
-use Rattle.sheet_text.specs.Laws.Put.{put-then, room-first, room-next}
+use Rattle.sheet_text.specs.Laws.Put.{put-then, space-first, space-next}
 
 -- the figures of a year before n stand below n × (s + 1)
 pub year-below : (s n t : ℕ) → t < n → t * suc s + s < n * suc s
@@ -24,14 +24,14 @@ parts : (low high : List ℕ) (s year : ℕ) → yearText low high s year ≡ jo
 unfolding yearText
 parts low high s year = rw add-one
 
--- room for both, and both in order
+-- space for both, and both in order
 module _ {l : List ℕ} {at : ℕ} (low high : List ℕ) (s year : ℕ) where
-  pub year-room-classes : Room l at (yearText low high s year) → Room l at (joined s (classText low high year (year * (s + 1))))
-  year-room-classes r = room-first (premiumText low high s year) (rw (parts low high s year) at r)
+  pub year-space-classes : Space l at (yearText low high s year) → Space l at (joined s (classText low high year (year * (s + 1))))
+  year-space-classes r = space-first (premiumText low high s year) (rw (parts low high s year) at r)
 
-  pub year-room-premium : {m : List ℕ} {k : ℕ} → Put l at (joined s (classText low high year (year * (s + 1)))) m k → Room l at (yearText low high s year)
-      → Room m k (premiumText low high s year)
-  year-room-premium p r = room-next p (rw (parts low high s year) at r)
+  pub year-space-premium : {m : List ℕ} {k : ℕ} → Put l at (joined s (classText low high year (year * (s + 1)))) m k → Space l at (yearText low high s year)
+      → Space m k (premiumText low high s year)
+  year-space-premium p r = space-next p (rw (parts low high s year) at r)
 
   pub year-put : {m : List ℕ} {k : ℕ} {n : List ℕ} {to : ℕ} → Put l at (joined s (classText low high year (year * (s + 1)))) m k → Put m k (premiumText low high s year) n to
       → Put l at (yearText low high s year) n to

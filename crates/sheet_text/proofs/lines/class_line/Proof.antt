@@ -2,8 +2,8 @@
 use Rattle.sheet_spec.specs.Text.{field, classWord}
 use Prim.Native.Nat.{suc}
 use Rattle.sheet_spec.specs.Sheet.{classLine}
-use Rattle.sheet_text.specs.Laws.Put.{put-then, room-first, room-next}
-use Rattle.sheet_text.specs.Laws.Lines.{endsText, classHead, ends-room, ends-put, class-field-room, class-field-put}
+use Rattle.sheet_text.specs.Laws.Put.{put-then, space-first, space-next}
+use Rattle.sheet_text.specs.Laws.Lines.{endsText, classHead, ends-space, ends-put, class-field-space, class-field-put}
 use borrow.Author.Needs.{needs}
 use Rattle.sheet_text.proofs.lines.class_line.Statement.{statement}
 use Rattle.sheet_text.proofs.lines.class_line.Tie as tie
@@ -15,22 +15,22 @@ put-word-requires : tie.Need-put-word-requires
 unfolding classLine
 put-word-requires c κs =
     let start = c .before .before .before .args in
-    room-first (field (start .year))
-    (room-first classWord
-    (room-first (field (suc (start .j)))
-    (room-first (endsText (start .low) (start .high))
-    (ends-room (classHead (start .year) (start .j)) (start .low) (start .high) (c .before .before .before .pre .0)))))
+    space-first (field (start .year))
+    (space-first classWord
+    (space-first (field (suc (start .j)))
+    (space-first (endsText (start .low) (start .high))
+    (ends-space (classHead (start .year) (start .j)) (start .low) (start .high) (c .before .before .before .pre .0)))))
 
 put-field-requires : tie.Need-put-field-requires
 unfolding classLine
 put-field-requires c κs =
     let at-put-word = c .before .before .before in
     let start = at-put-word .before .before .before .before in
-    room-next (at-put-word .put-word .ensures)
-    (room-first classWord
-    (room-first (field (suc (start .args .j)))
-    (room-first (endsText (start .args .low) (start .args .high))
-    (ends-room (classHead (start .args .year) (start .args .j)) (start .args .low) (start .args .high) (start .pre .0)))))
+    space-next (at-put-word .put-word .ensures)
+    (space-first classWord
+    (space-first (field (suc (start .args .j)))
+    (space-first (endsText (start .args .low) (start .args .high))
+    (ends-space (classHead (start .args .year) (start .args .j)) (start .args .low) (start .args .high) (start .pre .0)))))
 
 slice-aggregate-put-word-2 : tie.Need-slice-aggregate-put-word-2
 slice-aggregate-put-word-2 c = search needs
@@ -41,10 +41,10 @@ put-word-requires-2 c κs =
     let at-put-field = c .before .before .before .before in
     let at-put-word = at-put-field .before .before .before .before in
     let start = at-put-word .before .before .before .before in
-    room-next (put-then (at-put-word .put-word .ensures) (at-put-field .put-field .ensures))
-    (room-first (field (suc (start .args .j)))
-    (room-first (endsText (start .args .low) (start .args .high))
-    (ends-room (classHead (start .args .year) (start .args .j)) (start .args .low) (start .args .high) (start .pre .0))))
+    space-next (put-then (at-put-word .put-word .ensures) (at-put-field .put-field .ensures))
+    (space-first (field (suc (start .args .j)))
+    (space-first (endsText (start .args .low) (start .args .high))
+    (ends-space (classHead (start .args .year) (start .args .j)) (start .args .low) (start .args .high) (start .pre .0))))
 
 add-put-field : tie.Need-add-put-field
 add-put-field c = search needs
@@ -56,10 +56,10 @@ put-field-requires-2 c κs =
     let at-put-field = at-put-word2 .before .before .before .before .before in
     let at-put-word = at-put-field .before .before .before .before in
     let start = at-put-word .before .before .before .before in
-    class-field-room (start .args .j)
-    (room-next (put-then (put-then (at-put-word .put-word .ensures) (at-put-field .put-field .ensures)) (at-put-word2 .put-word2 .ensures))
-    (room-first (endsText (start .args .low) (start .args .high))
-    (ends-room (classHead (start .args .year) (start .args .j)) (start .args .low) (start .args .high) (start .pre .0))))
+    class-field-space (start .args .j)
+    (space-next (put-then (put-then (at-put-word .put-word .ensures) (at-put-field .put-field .ensures)) (at-put-word2 .put-word2 .ensures))
+    (space-first (endsText (start .args .low) (start .args .high))
+    (ends-space (classHead (start .args .year) (start .args .j)) (start .args .low) (start .args .high) (start .pre .0))))
 
 ends-requires : tie.Need-ends-requires
 unfolding classLine
@@ -69,10 +69,10 @@ ends-requires c κs =
     let at-put-field = at-put-word2 .before .before .before .before .before in
     let at-put-word = at-put-field .before .before .before .before in
     let start = at-put-word .before .before .before .before in
-    room-next
+    space-next
     (put-then (put-then (put-then (at-put-word .put-word .ensures) (at-put-field .put-field .ensures)) (at-put-word2 .put-word2 .ensures))
     (class-field-put (start .args .j) (at-put-field2 .put-field2 .ensures)))
-    (ends-room (classHead (start .args .year) (start .args .j)) (start .args .low) (start .args .high) (start .pre .0))
+    (ends-space (classHead (start .args .year) (start .args .j)) (start .args .low) (start .args .high) (start .pre .0))
 
 same-length : tie.Need-same-length
 same-length c = search needs

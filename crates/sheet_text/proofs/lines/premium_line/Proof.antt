@@ -1,8 +1,8 @@
 -- `lines::premium_line` meets its contract: each part stands after the last.
 use Rattle.sheet_spec.specs.Text.{field, premiumWord}
 use Rattle.sheet_spec.specs.Sheet.{premiumLine}
-use Rattle.sheet_text.specs.Laws.Put.{put-then, room-first, room-next}
-use Rattle.sheet_text.specs.Laws.Lines.{endsText, premiumHead, ends-room, ends-put}
+use Rattle.sheet_text.specs.Laws.Put.{put-then, space-first, space-next}
+use Rattle.sheet_text.specs.Laws.Lines.{endsText, premiumHead, ends-space, ends-put}
 use borrow.Author.Needs.{needs}
 use Rattle.sheet_text.proofs.lines.premium_line.Statement.{statement}
 use Rattle.sheet_text.proofs.lines.premium_line.Tie as tie
@@ -14,20 +14,20 @@ put-word-requires : tie.Need-put-word-requires
 unfolding premiumLine
 put-word-requires c κs =
     let start = c .before .before .before .args in
-    room-first (field (start .year))
-    (room-first premiumWord
-    (room-first (endsText (start .low) (start .high))
-    (ends-room (premiumHead (start .year)) (start .low) (start .high) (c .before .before .before .pre))))
+    space-first (field (start .year))
+    (space-first premiumWord
+    (space-first (endsText (start .low) (start .high))
+    (ends-space (premiumHead (start .year)) (start .low) (start .high) (c .before .before .before .pre))))
 
 put-field-requires : tie.Need-put-field-requires
 unfolding premiumLine
 put-field-requires c κs =
     let at-put-word = c .before .before .before in
     let start = at-put-word .before .before .before .before in
-    room-next (at-put-word .put-word .ensures)
-    (room-first premiumWord
-    (room-first (endsText (start .args .low) (start .args .high))
-    (ends-room (premiumHead (start .args .year)) (start .args .low) (start .args .high) (start .pre))))
+    space-next (at-put-word .put-word .ensures)
+    (space-first premiumWord
+    (space-first (endsText (start .args .low) (start .args .high))
+    (ends-space (premiumHead (start .args .year)) (start .args .low) (start .args .high) (start .pre))))
 
 slice-aggregate-put-word-2 : tie.Need-slice-aggregate-put-word-2
 slice-aggregate-put-word-2 c = search needs
@@ -38,9 +38,9 @@ put-word-requires-2 c κs =
     let at-put-field = c .before .before .before .before in
     let at-put-word = at-put-field .before .before .before .before in
     let start = at-put-word .before .before .before .before in
-    room-next (put-then (at-put-word .put-word .ensures) (at-put-field .put-field .ensures))
-    (room-first (endsText (start .args .low) (start .args .high))
-    (ends-room (premiumHead (start .args .year)) (start .args .low) (start .args .high) (start .pre)))
+    space-next (put-then (at-put-word .put-word .ensures) (at-put-field .put-field .ensures))
+    (space-first (endsText (start .args .low) (start .args .high))
+    (ends-space (premiumHead (start .args .year)) (start .args .low) (start .args .high) (start .pre)))
 
 ends-requires : tie.Need-ends-requires
 unfolding premiumLine
@@ -49,8 +49,8 @@ ends-requires c κs =
     let at-put-field = at-put-word2 .before .before .before .before .before in
     let at-put-word = at-put-field .before .before .before .before in
     let start = at-put-word .before .before .before .before in
-    room-next (put-then (put-then (at-put-word .put-word .ensures) (at-put-field .put-field .ensures)) (at-put-word2 .put-word2 .ensures))
-    (ends-room (premiumHead (start .args .year)) (start .args .low) (start .args .high) (start .pre))
+    space-next (put-then (put-then (at-put-word .put-word .ensures) (at-put-field .put-field .ensures)) (at-put-word2 .put-word2 .ensures))
+    (ends-space (premiumHead (start .args .year)) (start .args .low) (start .args .high) (start .pre))
 
 same-length : tie.Need-same-length
 same-length c = search needs

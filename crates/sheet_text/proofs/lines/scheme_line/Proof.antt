@@ -1,7 +1,7 @@
 -- `lines::scheme_line` meets its contract: each part stands after the last.
 use Rattle.sheet_spec.specs.Text.{field, newline}
 use Rattle.sheet_spec.specs.Sheet.{schemeLine}
-use Rattle.sheet_text.specs.Laws.Put.{put-then, put-kept, room-first, room-next}
+use Rattle.sheet_text.specs.Laws.Put.{put-then, put-kept, space-first, space-next}
 use borrow.Author.Needs.{needs}
 use Rattle.sheet_text.proofs.lines.scheme_line.Statement.{statement}
 use Rattle.sheet_text.proofs.lines.scheme_line.Tie as tie
@@ -13,9 +13,9 @@ put-word-requires : tie.Need-put-word-requires
 unfolding schemeLine
 put-word-requires c κs =
     let scheme = c .before .before .before .args .scheme in
-    room-first (field (scheme .classes))
-    (room-first (field (scheme .columns))
-    (room-first (field (scheme .start)) (room-first (field (scheme .horizon)) (room-first newline (c .before .before .before .pre)))))
+    space-first (field (scheme .classes))
+    (space-first (field (scheme .columns))
+    (space-first (field (scheme .start)) (space-first (field (scheme .horizon)) (space-first newline (c .before .before .before .pre)))))
 
 cast-put-field : tie.Need-cast-put-field
 cast-put-field c = search needs
@@ -26,7 +26,7 @@ put-field-requires c κs =
     let at-put-word = c .before .before .before .before in
     let start = at-put-word .before .before .before .before in
     let scheme = start .args .scheme in
-    room-next (at-put-word .put-word .ensures) (room-first (field (scheme .columns)) (room-first (field (scheme .start)) (room-first (field (scheme .horizon)) (room-first newline (start .pre)))))
+    space-next (at-put-word .put-word .ensures) (space-first (field (scheme .columns)) (space-first (field (scheme .start)) (space-first (field (scheme .horizon)) (space-first newline (start .pre)))))
 
 cast-put-field-2 : tie.Need-cast-put-field-2
 cast-put-field-2 c = search needs
@@ -38,8 +38,8 @@ put-field-requires-2 c κs =
     let at-put-word = at-put-field .before .before .before .before .before in
     let start = at-put-word .before .before .before .before in
     let scheme = start .args .scheme in
-    room-next (put-then (at-put-word .put-word .ensures) (at-put-field .put-field .ensures))
-    (room-first (field (scheme .start)) (room-first (field (scheme .horizon)) (room-first newline (start .pre))))
+    space-next (put-then (at-put-word .put-word .ensures) (at-put-field .put-field .ensures))
+    (space-first (field (scheme .start)) (space-first (field (scheme .horizon)) (space-first newline (start .pre))))
 
 cast-put-field-3 : tie.Need-cast-put-field-3
 cast-put-field-3 c = search needs
@@ -52,8 +52,8 @@ put-field-requires-3 c κs =
     let at-put-word = at-put-field .before .before .before .before .before in
     let start = at-put-word .before .before .before .before in
     let scheme = start .args .scheme in
-    room-next (put-then (put-then (at-put-word .put-word .ensures) (at-put-field .put-field .ensures)) (at-put-field2 .put-field2 .ensures))
-    (room-first (field (scheme .horizon)) (room-first newline (start .pre)))
+    space-next (put-then (put-then (at-put-word .put-word .ensures) (at-put-field .put-field .ensures)) (at-put-field2 .put-field2 .ensures))
+    (space-first (field (scheme .horizon)) (space-first newline (start .pre)))
 
 cast-put-field-4 : tie.Need-cast-put-field-4
 cast-put-field-4 c = search needs
@@ -66,10 +66,10 @@ put-field-requires-4 c κs =
     let at-put-field = at-put-field2 .before .before .before .before .before in
     let at-put-word = at-put-field .before .before .before .before .before in
     let start = at-put-word .before .before .before .before in
-    room-next
+    space-next
     (put-then (put-then (put-then (at-put-word .put-word .ensures) (at-put-field .put-field .ensures)) (at-put-field2 .put-field2 .ensures))
     (at-put-field3 .put-field3 .ensures))
-    (room-first newline (start .pre))
+    (space-first newline (start .pre))
 
 put-newline-requires : tie.Need-put-newline-requires
 unfolding schemeLine
@@ -80,7 +80,7 @@ put-newline-requires c κs =
     let at-put-field = at-put-field2 .before .before .before .before .before in
     let at-put-word = at-put-field .before .before .before .before .before in
     let start = at-put-word .before .before .before .before in
-    room-next
+    space-next
     (put-then
     (put-then (put-then (put-then (at-put-word .put-word .ensures) (at-put-field .put-field .ensures)) (at-put-field2 .put-field2 .ensures))
     (at-put-field3 .put-field3 .ensures))

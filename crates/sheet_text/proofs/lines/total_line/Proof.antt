@@ -1,8 +1,8 @@
 -- `lines::total_line` meets its contract: the word, then the figures.
 use Rattle.sheet_spec.specs.Text.{totalWord}
 use Rattle.sheet_spec.specs.Sheet.{totalLine}
-use Rattle.sheet_text.specs.Laws.Put.{put-then, room-first, room-next}
-use Rattle.sheet_text.specs.Laws.Lines.{endsText, ends-room, ends-put}
+use Rattle.sheet_text.specs.Laws.Put.{put-then, space-first, space-next}
+use Rattle.sheet_text.specs.Laws.Lines.{endsText, ends-space, ends-put}
 use borrow.Author.Needs.{needs}
 use Rattle.sheet_text.proofs.lines.total_line.Statement.{statement}
 use Rattle.sheet_text.proofs.lines.total_line.Tie as tie
@@ -13,15 +13,15 @@ slice-aggregate-put-word c = search needs
 put-word-requires : tie.Need-put-word-requires
 unfolding totalLine
 put-word-requires c κs =
-    room-first (endsText (c .before .before .before .args .low) (c .before .before .before .args .high))
-    (ends-room totalWord (c .before .before .before .args .low) (c .before .before .before .args .high) (c .before .before .before .pre))
+    space-first (endsText (c .before .before .before .args .low) (c .before .before .before .args .high))
+    (ends-space totalWord (c .before .before .before .args .low) (c .before .before .before .args .high) (c .before .before .before .pre))
 
 ends-requires : tie.Need-ends-requires
 unfolding totalLine
 ends-requires c κs =
     let at-put-word = c .before .before .before in
     let start = at-put-word .before .before .before .before in
-    room-next (at-put-word .put-word .ensures) (ends-room totalWord (start .args .low) (start .args .high) (start .pre))
+    space-next (at-put-word .put-word .ensures) (ends-space totalWord (start .args .low) (start .args .high) (start .pre))
 
 same-length : tie.Need-same-length
 same-length c = search needs

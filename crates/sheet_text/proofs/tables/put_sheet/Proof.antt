@@ -1,7 +1,7 @@
 -- `tables::put_sheet` meets its contract: the tables stand in the first parts of two arrays.
 use mathlib.Core.Path.{sym, _∙_}
 use native.Mathlib.Omega.{arith}
-use Rattle.sheet_spec.specs.Laws.Room.{table-at-most, zeros-part}
+use Rattle.sheet_spec.specs.Laws.Space.{table-at-most, zeros-part}
 use borrow.Author.Needs.{needs}
 use Rattle.sheet_text.proofs.tables.put_sheet.Statement.{statement}
 use Rattle.sheet_text.proofs.tables.put_sheet.Tie as tie

@@ -2,7 +2,7 @@
 use mathlib.Core.Path.{_∙_}
 use native.Mathlib.Omega.{arith}
 use lib.ListN.{length-set}
-use Rattle.sheet_text.specs.Laws.Put.{digits-put-none, digits-put-one, digits-put-two, digits-put-more, digits-room, digits-room-one, digits-room-two, digits-room-more}
+use Rattle.sheet_text.specs.Laws.Put.{digits-put-none, digits-put-one, digits-put-two, digits-put-more, digits-space, digits-space-one, digits-space-two, digits-space-more}
 use Prim.Native.Nat.{ℕ, _<_}
 use borrow.Fn.Kinds.{In}
 use borrow.Fn.PlainCycle.{Measures, is, falls, and}
@@ -54,7 +54,7 @@ put-pairs-slice-write-out : (t : ℕ) → put-pairs-lts.Need-slice-write-out (
 ) (put-pairs-at t) put-pairs.Post
 put-pairs-slice-write-out t c =
     let start = c .before .before .before .before in
-    digits-room-one _ _ (omega arith) (omega arith) (start .pre .1)
+    digits-space-one _ _ (omega arith) (omega arith) (start .pre .1)
 
 put-pairs-add-result : (t : ℕ) → put-pairs-lts.Need-add-result (
   digit-reads.Asked,
@@ -66,7 +66,7 @@ put-pairs-add-result : (t : ℕ) → put-pairs-lts.Need-add-result (
 ) (put-pairs-at t) put-pairs.Post
 put-pairs-add-result t c =
     let start = c .before .before .before .before in
-    omega (arith, digits-room-one (start .args .pairs) (start .args .x) (omega arith) (omega arith) (start .pre .1))
+    omega (arith, digits-space-one (start .args .pairs) (start .args .x) (omega arith) (omega arith) (start .pre .1))
 
 put-pairs-same-length : (t : ℕ) → put-pairs-lts.Need-same-length (
   digit-reads.Asked,
@@ -100,7 +100,7 @@ put-pairs-put-two-requires : (t : ℕ) → put-pairs-lts.Need-put-two-requires (
 ) (put-pairs-at t) put-pairs.Post
 put-pairs-put-two-requires t c κs =
     let start = c .before .before .before .before .before in
-    (omega arith, digits-room-two _ _ (omega arith) (omega arith) (omega arith) (start .pre .1))
+    (omega arith, digits-space-two _ _ (omega arith) (omega arith) (omega arith) (start .pre .1))
 
 put-pairs-same-length-2 : (t : ℕ) → put-pairs-lts.Need-same-length-2 (
   digit-reads.Asked,
@@ -142,7 +142,7 @@ put-pairs-put-pairs-requires : (t : ℕ) → put-pairs-lts.Need-put-pairs-requir
 ) (put-pairs-at t) put-pairs.Post
 put-pairs-put-pairs-requires t c κs =
     let start = c .before .before .before .before .before in
-    (omega arith, digits-room _ _ (omega arith) (omega arith) (start .pre .1))
+    (omega arith, digits-space _ _ (omega arith) (omega arith) (start .pre .1))
 
 put-pairs-put-two-requires-2 : (t : ℕ) → put-pairs-lts.Need-put-two-requires-2 (
   digit-reads.Asked,
@@ -155,7 +155,7 @@ put-pairs-put-two-requires-2 : (t : ℕ) → put-pairs-lts.Need-put-two-requires
 put-pairs-put-two-requires-2 t c κs =
     let at-put-pairs = c .before .before .before in
     let start = at-put-pairs .before .before .before .before .before .before in
-    (omega arith, digits-room-more _ _ (omega arith) (omega arith) (start .pre .1) (at-put-pairs .put-pairs .ensures))
+    (omega arith, digits-space-more _ _ (omega arith) (omega arith) (start .pre .1) (at-put-pairs .put-pairs .ensures))
 
 put-pairs-same-length-3 : (t : ℕ) → put-pairs-lts.Need-same-length-3 (
   digit-reads.Asked,

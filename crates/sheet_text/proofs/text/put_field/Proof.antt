@@ -1,7 +1,7 @@
 -- `text::put_field` meets its contract: the space, then the number.
 use mathlib.Core.Path.{_∙_}
 use lib.ListN.{length-set}
-use Rattle.sheet_text.specs.Laws.Put.{put-one, put-then, room-next}
+use Rattle.sheet_text.specs.Laws.Put.{put-one, put-then, space-next}
 use borrow.Author.Needs.{needs}
 use Rattle.sheet_text.proofs.text.put_field.Statement.{statement}
 use Rattle.sheet_text.proofs.text.put_field.Tie as tie
@@ -13,7 +13,7 @@ add-put-number : tie.Need-add-put-number
 add-put-number c = search needs
 
 put-number-requires : tie.Need-put-number-requires
-put-number-requires c κs = room-next (put-one (c .before .before .args .out .now) (c .before .before .args .at) 32) (c .before .before .pre)
+put-number-requires c κs = space-next (put-one (c .before .before .args .out .now) (c .before .before .args .at) 32) (c .before .before .pre)
 
 same-length : tie.Need-same-length
 same-length c =

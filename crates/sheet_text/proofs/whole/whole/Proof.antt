@@ -4,8 +4,8 @@ use mathlib.Core.Bool.{true, false}
 use native.Mathlib.Omega.{arith}
 use Rattle.record_spec.specs.Joined.{joined}
 use Rattle.sheet_text.specs.Tabled.{yearText}
-use Rattle.sheet_text.specs.Laws.Put.{put-then, room-first, room-next}
-use Rattle.sheet_text.specs.Laws.Tabled.{totalText, table-size, sheet-room, sheet-put}
+use Rattle.sheet_text.specs.Laws.Put.{put-then, space-first, space-next}
+use Rattle.sheet_text.specs.Laws.Tabled.{totalText, table-size, sheet-space, sheet-put}
 use borrow.Author.Needs.{needs}
 use Rattle.sheet_text.proofs.whole.whole.Statement.{statement}
 use Rattle.sheet_text.proofs.whole.whole.Tie as tie
@@ -22,17 +22,17 @@ add-n c = search needs
 scheme-line-requires : tie.Need-scheme-line-requires
 scheme-line-requires c κs =
     let start = c .before .before .before .before .before .before in
-    room-first (joined (start .args .scheme .horizon + 1) (yearText (start .args .low .now) (start .args .high .now) (start .args .scheme .classes)))
-    (room-first (totalText (start .args .low .now) (start .args .high .now) (start .args .scheme .horizon + 1) (start .args .scheme .classes))
-    (sheet-room _ (start .pre .2) (start .pre .3) (start .pre .0)))
+    space-first (joined (start .args .scheme .horizon + 1) (yearText (start .args .low .now) (start .args .high .now) (start .args .scheme .classes)))
+    (space-first (totalText (start .args .low .now) (start .args .high .now) (start .args .scheme .horizon + 1) (start .args .scheme .classes))
+    (sheet-space _ (start .pre .2) (start .pre .3) (start .pre .0)))
 
 all-years-requires : tie.Need-all-years-requires
 all-years-requires c κs =
     let at-scheme-line = c .before .before .before in
     let start = at-scheme-line .before .before .before .before .before .before .before in (
-      room-next (at-scheme-line .scheme-line .ensures)
-          (room-first (totalText (start .args .low .now) (start .args .high .now) (start .args .scheme .horizon + 1) (start .args .scheme .classes))
-          (sheet-room _ (start .pre .2) (start .pre .3) (start .pre .0))),
+      space-next (at-scheme-line .scheme-line .ensures)
+          (space-first (totalText (start .args .low .now) (start .args .high .now) (start .args .scheme .horizon + 1) (start .args .scheme .classes))
+          (sheet-space _ (start .pre .2) (start .pre .3) (start .pre .0))),
       omega (arith, start .pre .1 .classes),
       omega (arith, table-size false (start .args .scheme) (start .pre .2)),
       omega (arith, table-size true (start .args .scheme) (start .pre .3)),
@@ -71,7 +71,7 @@ total-line-requires c κs =
     let at-all-years = c .before .before .before .before .before in
     let at-scheme-line = at-all-years .before .before .before .before in
     let start = at-scheme-line .before .before .before .before .before .before .before in
-    room-next (put-then (at-scheme-line .scheme-line .ensures) (at-all-years .all-years .ensures)) (sheet-room (start .args .scheme) (start .pre .2) (start .pre .3) (start .pre .0))
+    space-next (put-then (at-scheme-line .scheme-line .ensures) (at-all-years .all-years .ensures)) (sheet-space (start .args .scheme) (start .pre .2) (start .pre .3) (start .pre .0))
 
 same-length : tie.Need-same-length
 same-length c = search needs

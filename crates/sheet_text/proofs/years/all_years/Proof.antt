@@ -4,7 +4,7 @@ use native.Mathlib.Omega.{arith}
 use Rattle.record_spec.specs.Joined.{joined}
 use Rattle.sheet_text.specs.Put.{Put}
 use Rattle.sheet_text.specs.Tabled.{yearText}
-use Rattle.sheet_text.specs.Laws.Put.{put-kept, joined-none, joined-more, joined-room, joined-all}
+use Rattle.sheet_text.specs.Laws.Put.{put-kept, joined-none, joined-more, joined-space, joined-all}
 use Rattle.sheet_text.specs.Laws.Years.{year-below}
 use Rattle.sheet_text.proofs.years.all_years.Statement.{statement}
 use Rattle.sheet_text.proofs.years.all_years.Tie as tie
@@ -22,7 +22,7 @@ year-lines-requires : tie.Need-year-lines-requires Inv-loop μ-loop
 year-lines-requires c κs =
     let at-loop = c .before .before in
     let start = at-loop .before .before .before .before in (
-      joined-room (yearText (start .args .low .now) (start .args .high .now) (start .args .s)) (at-loop .loop .t) (start .args .n) (omega arith) (at-loop .loop .inv .1) (start .pre .0),
+      joined-space (yearText (start .args .low .now) (start .args .high .now) (start .args .s)) (at-loop .loop .t) (start .args .n) (omega arith) (at-loop .loop .inv .1) (start .pre .0),
       omega arith,
       omega (arith, year-below (start .args .s) (start .args .n) (at-loop .loop .t) (omega arith)),
       omega (arith, year-below (start .args .s) (start .args .n) (at-loop .loop .t) (omega arith)),

@@ -4,7 +4,7 @@ use native.Mathlib.Omega.{arith}
 use Rattle.record_spec.specs.Joined.{joined}
 use Rattle.sheet_text.specs.Put.{Put}
 use Rattle.sheet_text.specs.Tabled.{classText}
-use Rattle.sheet_text.specs.Laws.Put.{put-kept, joined-none, joined-more, joined-room, joined-all}
+use Rattle.sheet_text.specs.Laws.Put.{put-kept, joined-none, joined-more, joined-space, joined-all}
 use Rattle.sheet_text.proofs.years.class_lines.Statement.{statement}
 use Rattle.sheet_text.proofs.years.class_lines.Tie as tie
 
@@ -39,7 +39,7 @@ class-line-requires : tie.Need-class-line-requires Inv-loop μ-loop
 class-line-requires c κs =
     let at-loop = c .before .before .before .before in
     let start = at-loop .before .before .before .before in (
-      joined-room (classText (start .args .low .now) (start .args .high .now) (start .args .year) (start .args .base))
+      joined-space (classText (start .args .low .now) (start .args .high .now) (start .args .year) (start .args .base))
           (at-loop .loop .j) (start .args .s) (omega arith) (at-loop .loop .inv .1) (start .pre .0),
       omega arith,
     )

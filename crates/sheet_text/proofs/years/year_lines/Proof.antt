@@ -1,6 +1,6 @@
 -- `years::year_lines` meets its contract: the classes, then the premium.
 use native.Mathlib.Omega.{arith}
-use Rattle.sheet_text.specs.Laws.Years.{year-room-classes, year-room-premium, year-put}
+use Rattle.sheet_text.specs.Laws.Years.{year-space-classes, year-space-premium, year-put}
 use borrow.Author.Needs.{needs}
 use Rattle.sheet_text.proofs.years.year_lines.Statement.{statement}
 use Rattle.sheet_text.proofs.years.year_lines.Tie as tie
@@ -14,7 +14,7 @@ mul-base c = search needs
 class-lines-requires : tie.Need-class-lines-requires
 class-lines-requires c κs =
     let start = c .before .before .before .before in
-    (year-room-classes _ _ _ _ (start .pre .0), omega arith, omega arith, omega arith)
+    (year-space-classes _ _ _ _ (start .pre .0), omega arith, omega arith, omega arith)
 
 add-premium-line : tie.Need-add-premium-line
 add-premium-line c = search needs
@@ -38,7 +38,7 @@ premium-line-requires : tie.Need-premium-line-requires
 premium-line-requires c κs =
     let at-class-lines = c .before .before .before .before .before in
     let start = at-class-lines .before .before .before .before .before in
-    year-room-premium _ _ _ _ (at-class-lines .class-lines .ensures) (start .pre .0)
+    year-space-premium _ _ _ _ (at-class-lines .class-lines .ensures) (start .pre .0)
 
 same-length : tie.Need-same-length
 same-length c = search needs

@@ -1,4 +1,4 @@
--- The sheet of any bytes has room where the answer says so.
+-- The sheet of any bytes has space where the answer says so.
 use Prim.Native.Nat.{ℕ, suc, _+_, _*_, _≤_}
 use mathlib.Core.Path.{_≡_, refl}
 use mathlib.Core.Bool.{Bool, true, false, cond, not, _||_}
@@ -20,7 +20,7 @@ use Rattle.record_spec.specs.Layout.{HEADER, version1, lengthOf, classesIn, col
 use Rattle.record_spec.specs.Read.{versionCause, fieldCause, lengthCause, frameCause, readCause}
 use Rattle.record_spec.specs.declared.WriteAnswer.the-variants.{Written, Declined}
 use Rattle.sheet_spec.specs.Sheet.{classLines, yearPremium, yearLines, sheetOf, refusedLine, sheetText}
-use Rattle.sheet_spec.specs.Answer.{roomOf, roomFor, sheetAnswer, sheetLeaves, TextPromise}
+use Rattle.sheet_spec.specs.Answer.{spaceOf, spaceFor, sheetAnswer, sheetLeaves, TextPromise}
 use Rattle.sheet_spec.specs.Laws.Figures.{share-at-most, mean-at-most, total-at-most}
 use Rattle.sheet_spec.specs.Laws.Widths.{Within, within-append, within-joined, scheme-line-within, class-line-within, premium-line-within, total-line-within, refused-line-within}
 
@@ -39,8 +39,8 @@ module _ (s : Scheme) (ok : Accepted s) where
       class-line-within t j _ _ (omega (arith, ok .horizon .within)) (omega (arith, ok .size .classes)) (share-at-most false s ok j t) (share-at-most true s ok j t)))
       (premium-line-within t _ _ (omega (arith, ok .horizon .within)) (mean-at-most false s ok t) (mean-at-most true s ok t)))
 
-  pub sheet-within : Within (roomOf s) (sheetOf s)
-  unfolding roomOf sheetOf
+  pub sheet-within : Within (spaceOf s) (sheetOf s)
+  unfolding spaceOf sheetOf
   sheet-within =
       within-append
       (within-append (scheme-line-within s ok) (within-joined (s .classes * 40 + 35) (suc (s .horizon)) (yearLines s) (λ t l. year-within t (omega arith))))
@@ -48,17 +48,17 @@ module _ (s : Scheme) (ok : Accepted s) where
       (omega (arith, ok .horizon .within, total-at-most false s ok (s .horizon)))
       (omega (arith, ok .horizon .within, total-at-most true s ok (s .horizon))))
 
-  pub room-at-most : roomOf s ≤ 132862
-  unfolding roomOf
-  room-at-most =
+  pub space-at-most : spaceOf s ≤ 132862
+  unfolding spaceOf
+  space-at-most =
       let years : suc (s .horizon) ≤ 101 = omega (arith, ok .horizon .within) in
       let lines : s .classes * 40 + 35 ≤ 1315 = omega (arith, ok .size .classes) in
       omega (arith, mul-le-mul years lines)
 
-  -- the code's numbers: the room, and the tables' size
-  pub room-coded : 19 + (s .horizon + 1) * (s .classes * 40 + 35) + 28 ≡ roomOf s
-  unfolding roomOf
-  room-coded = omega arith
+  -- the code's numbers: the space, and the tables' size
+  pub space-coded : 19 + (s .horizon + 1) * (s .classes * 40 + 35) + 28 ≡ spaceOf s
+  unfolding spaceOf
+  space-coded = omega arith
 
   pub table-at-most : (s .horizon + 1) * (s .classes + 1) + 1 ≤ 3334
   table-at-most =
@@ -107,48 +107,48 @@ read-cause-most bytes = or-most (frameCause bytes) (causeOf (schemeIn version1 b
 pub read-accepted : (bytes : List ℕ) → readCause bytes ≡ 0 → Accepted (schemeIn version1 bytes)
 read-accepted bytes e = accepted-cause _ (second-none (frameCause bytes) (causeOf (schemeIn version1 bytes)) e)
 
--- the text and the room of any bytes, by cases
+-- the text and the space of any bytes, by cases
 module _ (bytes : List ℕ) where
   pub text-accepted : readCause bytes ≡ 0 → sheetText bytes ≡ sheetOf (schemeIn version1 bytes)
   unfolding sheetText
   text-accepted e = rw (eq-eqb (readCause bytes) 0 e)
 
-  pub room-accepted : readCause bytes ≡ 0 → roomFor bytes ≡ roomOf (schemeIn version1 bytes)
-  unfolding roomFor
-  room-accepted e = rw (eq-eqb (readCause bytes) 0 e)
+  pub space-accepted : readCause bytes ≡ 0 → spaceFor bytes ≡ spaceOf (schemeIn version1 bytes)
+  unfolding spaceFor
+  space-accepted e = rw (eq-eqb (readCause bytes) 0 e)
 
   pub text-refused : (readCause bytes ≡ 0 → ⊥) → sheetText bytes ≡ refusedLine (readCause bytes)
   unfolding sheetText
   text-refused e = rw (ne-eqb (readCause bytes) 0 e)
 
-  pub room-refused : (readCause bytes ≡ 0 → ⊥) → roomFor bytes ≡ 11
-  unfolding roomFor
-  room-refused e = rw (ne-eqb (readCause bytes) 0 e)
+  pub space-refused : (readCause bytes ≡ 0 → ⊥) → spaceFor bytes ≡ 11
+  unfolding spaceFor
+  space-refused e = rw (ne-eqb (readCause bytes) 0 e)
 
--- the room of any bytes is enough for their text, and at most 132,862
-pub record Roomy (bytes : List ℕ) : Type 0 where
-  pub enough : length (sheetText bytes) ≤ roomFor bytes
-  pub most : roomFor bytes ≤ 132862
+-- the space of any bytes is enough for their text, and at most 132,862
+pub record EnoughSpace (bytes : List ℕ) : Type 0 where
+  pub enough : length (sheetText bytes) ≤ spaceFor bytes
+  pub most : spaceFor bytes ≤ 132862
 
-pub roomy : (bytes : List ℕ) → Roomy bytes
-roomy bytes = by (ℕ-discrete (readCause bytes) 0)
+pub enough-space : (bytes : List ℕ) → EnoughSpace bytes
+enough-space bytes = by (ℕ-discrete (readCause bytes) 0)
   where
-    by : Dec (readCause bytes ≡ 0) → Roomy bytes
+    by : Dec (readCause bytes ≡ 0) → EnoughSpace bytes
     by (yes none) =
         record {
-          enough = rw (text-accepted bytes none, room-accepted bytes none) (sheet-within (schemeIn version1 bytes) (read-accepted bytes none) .fits);
-          most = rw (room-accepted bytes none) (room-at-most (schemeIn version1 bytes) (read-accepted bytes none));
+          enough = rw (text-accepted bytes none, space-accepted bytes none) (sheet-within (schemeIn version1 bytes) (read-accepted bytes none) .fits);
+          most = rw (space-accepted bytes none) (space-at-most (schemeIn version1 bytes) (read-accepted bytes none));
         }
     by (no some) =
         record {
-          enough = rw (text-refused bytes some, room-refused bytes some) (refused-line-within (readCause bytes) (omega (arith, read-cause-most bytes)) .fits);
-          most = rw (room-refused bytes some) (omega arith);
+          enough = rw (text-refused bytes some, space-refused bytes some) (refused-line-within (readCause bytes) (omega (arith, read-cause-most bytes)) .fits);
+          most = rw (space-refused bytes some) (omega arith);
         }
 
 -- the answer keeps its promise
 pub text-kept : (bytes out : List ℕ) → TextPromise bytes (sheetLeaves bytes out) (sheetAnswer bytes out)
 unfolding sheetAnswer sheetLeaves
-text-kept bytes out = by (ltb (length out) (roomFor bytes))
+text-kept bytes out = by (ltb (length out) (spaceFor bytes))
   where
     by : (short : Bool) → TextPromise bytes (cond short out (sheetText bytes ++ drop (length (sheetText bytes)) out)) (cond short (Declined 13) (Written (length (sheetText bytes))))
     by true e = absurd (omega arith)
