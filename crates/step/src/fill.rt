@@ -1,21 +1,8 @@
 // The fill: a row that starts from the lowers and gives the slack along an order of the classes.
 use order::state;
+use rows::copy_row;
 use rows::slack;
-ghost use mathlib.Core.Path.{_≡_};
-ghost use lib.ListN.{length};
 ghost use Rattle.step.specs.Fill.{FillPre, FillPost, FillSlackPre};
-
-// Copies a slice to one of its length.
-fn copy(from: &[u64], to: &mut [u64])
-    requires { ⌜ length (now to) ≡ length (now from) ⌝ }
-    ensures { λ _. ⌜ now (to .exit) ≡ now (from .entry) ⌝ }
-{
-    let mut i = 0;
-    while i < from.len() {
-        to[i] = from[i];
-        i += 1;
-    }
-}
 
 // Gives the slack to a row that holds the lowers, to each class along the order as far as its capacity goes.
 // Returns the place of the class that took the last of them.
@@ -43,6 +30,6 @@ pub fn fill(lower: &[u64], upper: &[u64], order: &[u8], row: &mut [u64]) -> usiz
     requires { ⌜ FillPre (now lower) (now upper) (now order) (now row) ⌝ }
     ensures { λ r. ⌜ FillPost (now (lower .entry)) (now (upper .entry)) (now (order .entry)) (now (row .exit)) r ⌝ }
 {
-    copy(lower, row);
+    copy_row(lower, row);
     fill_slack(upper, order, row, slack(lower))
 }

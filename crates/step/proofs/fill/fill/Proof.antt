@@ -1,23 +1,31 @@
 -- `fill` gives the slack to a copy of the lowers.
 -- Assumes nothing.
+use mathlib.Core.Path.{_≡_, _∙_}
 use native.Mathlib.Omega.{arith}
 use borrow.Author.Needs.{needs}
+use Rattle.rows.specs.Laws.Copy.{row-copied}
 use Rattle.step.specs.Laws.Fill.{fill-takes-slack}
 use Rattle.step.proofs.fill.fill.Statement.{statement}
 use Rattle.step.proofs.fill.fill.Tie as tie
 
-copy-requires : tie.Need-copy-requires
-copy-requires c κs = search needs
+copy-row-requires : tie.Need-copy-row-requires
+copy-row-requires c κs = search needs
 
 slack-requires : tie.Need-slack-requires
 slack-requires c κs = search needs
 
+-- the row has the lowers' length, so that it now holds them
+copied : (c : tie.After-copy-row) → let start = c .before .before .before .before .before .before in
+    c .copy-row .last .1 .0 ≡ start .args .lower .now
+copied c =
+    let start = c .before .before .before .before .before .before in
+    c .copy-row .ensures ∙ row-copied (start .args .lower .now) (start .args .row .now) (start .pre .rows)
+
 fill-slack-requires : tie.Need-fill-slack-requires
 fill-slack-requires c κs =
-    let at-copy = c .before .before .before .before in
-    let s = c .before .before .before .before .before .before .before .before .before .before in
-    fill-takes-slack (s .pre) (at-copy .copy .ensures)
-    (omega (arith, c .slack .ensures, s .pre .sound .lowers))
+    let at-copy-row = c .before .before .before .before in
+    let start = at-copy-row .before .before .before .before .before .before in
+    fill-takes-slack (start .pre) (copied at-copy-row) (omega (arith, c .slack .ensures, start .pre .sound .lowers))
 
 same-length : tie.Need-same-length
 same-length c = search needs
@@ -25,9 +33,9 @@ same-length c = search needs
 returns : tie.Need-returns
 returns c =
     let at-fill-slack = c .before .before in
-    let at-copy = at-fill-slack .before .before .before .before .before in
-    rw (at-copy .copy .ensures) at (at-fill-slack .fill-slack .ensures)
+    let at-copy-row = at-fill-slack .before .before .before .before .before in
+    rw (copied at-copy-row) at (at-fill-slack .fill-slack .ensures)
 
 pub fill-spec : {M : Type 1} → statement M
 fill-spec =
-    tie.close (tie.spec copy-requires slack-requires fill-slack-requires same-length returns)
+    tie.close (tie.spec copy-row-requires slack-requires fill-slack-requires same-length returns)
