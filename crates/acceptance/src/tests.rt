@@ -8,7 +8,7 @@ ghost use Rattle.setchain.specs.Sums.{sumTo};
 ghost use Rattle.setchain.specs.Rows.{ONE};
 ghost use Rattle.scheme.specs.Tables.{anyBelow};
 ghost use Rattle.scheme.specs.Cause.{outside, bandTest};
-ghost use Rattle.scheme.specs.Stages.{formCause, bandCause};
+ghost use Rattle.scheme.specs.Stages.{formCause, bandCause, limitCause};
 use scheme::outside;
 use scheme::wide;
 
@@ -121,10 +121,10 @@ pub fn band_cause(lowers: &[u32; 8], uppers: &[u32; 8], columns: u8) -> u8
     0
 }
 
-// some class's premium is above 10,000,000
+// cause 10 where some class's premium is above 10,000,000, or 0
 pub fn premium_cause(premiums: &[u32; 32], classes: u8) -> u8
     requires { ⌜ classes ≤ 32 ⌝ }
-    ensures { λ r. ⌜ r ≡ cond (anyBelow classes (λ i. ltb 10000000 (getD (now (premiums .entry)) i 0))) 10 0 ⌝ }
+    ensures { λ r. ⌜ r ≡ limitCause 10000000 (now (premiums .entry)) classes ⌝ }
 {
     let n = classes as usize;
     let mut i: usize = 0;

@@ -20,7 +20,7 @@ use Rattle.scheme.specs.Tables.{tab}
 use Rattle.scheme.specs.Laws.Tab.{length-tab, getD-tab}
 use Rattle.order.specs.Order.{Occurs, Permutation, SortedPermutation}
 use Rattle.order.specs.Laws.Permutations.{sorted-permutation}
-use Rattle.step.specs.Lists.{at, rowIn}
+use Rattle.step.specs.Lists.{at, listsRow}
 use Rattle.setchain.specs.Laws.Agreeing.{Agree, sound-agrees, step-agrees}
 use Rattle.step.specs.Fill.{FillPost, FillSlackPre}
 use Rattle.step.specs.Step.{StepPre}
@@ -194,7 +194,7 @@ module _ (high : Bool) (r : IntervalRow) (payoff order : List ℕ) (slack : ℕ)
   up-at : (j : ℕ) → j < n → at upper j ≡ r .upper j
   up-at j l = getD-tab n (r .upper) j 0 l
 
-  agree : Agree n r (rowIn lower upper)
+  agree : Agree n r (listsRow lower upper)
   agree = record { lower = λ j l. sym (low-at j l); upper = λ j l. sym (up-at j l) }
 
   steppable : StepPre lower upper payoff order high lower
@@ -203,7 +203,7 @@ module _ (high : Bool) (r : IntervalRow) (payoff order : List ℕ) (slack : ℕ)
         uppers = length-tab n (r .upper) ∙ sym lower-size;
         payoffs = sym lower-size;
         rows = refl;
-        sound = subst (λ k. SoundRow k (rowIn lower upper)) (sym lower-size) (sound-agrees agree sound);
+        sound = subst (λ k. SoundRow k (listsRow lower upper)) (sym lower-size) (sound-agrees agree sound);
         small = λ j l. small j (omega (arith, lower-size));
         sorted = sorted;
       }
@@ -316,5 +316,5 @@ module _ (high : Bool) (r : IntervalRow) (payoff order : List ℕ) (slack : ℕ)
       by s =
           ap (rounded high) (sums-are ∙ ap (λ k. dot k (at (w .row)) (at payoff)) (sym lower-size))
           ∙ step-reached steppable (s .filled)
-          ∙ ap (λ k. stepFigure high k (rowIn lower upper) (at payoff)) lower-size
+          ∙ ap (λ k. stepFigure high k (listsRow lower upper) (at payoff)) lower-size
           ∙ sym (step-agrees agree (λ j l. refl) high)

@@ -25,7 +25,7 @@ module _ {rules lowers uppers : List ℕ} {n i : ℕ} {entries : List ℕ} (lowe
 
   front-is : (l ends : List ℕ) → l ≡ tab (length (take n zeros)) (sumByTarget rules ends) → front l ≡ tab n (sumByTarget rules ends)
   unfolding front
-  front-is l ends e = front-made n zeros l (drop n zeros) (able .few) (sumByTarget rules ends) e
+  front-is l ends e = front-made n l (drop n zeros) (able .few) (sumByTarget rules ends) e
 
   front-count : (l ends : List ℕ) → l ≡ tab (length (take n zeros)) (sumByTarget rules ends) → length (front l) ≡ n
   front-count l ends e = ap length (front-is l ends e) ∙ length-tab n (sumByTarget rules ends)

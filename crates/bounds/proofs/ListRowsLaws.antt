@@ -5,16 +5,17 @@ use mathlib.Core.Path.{_≡_, refl, ap, sym, _∙_, subst}
 use mathlib.Core.List.{List}
 use native.Mathlib.Omega.{arith}
 use lib.Dec.{eqb}
-use lib.ListN.{length, take, drop, set, length-set}
+use lib.ListN.{length, set, length-set}
 use lib.Seq.{getD-set-same, getD-set-other}
 use borrow.Author.Count.{below-none, below-more}
 use borrow.Author.Tests.{eq-eqb, ne-eqb}
 use Rattle.setchain.specs.Sums.{sumTo, onlyIf}
 use Rattle.setchain.specs.Rows.{ONE, SoundRow}
 use Rattle.setchain.specs.Laws.Sums.{sumTo-eq, onlyIf-true, onlyIf-false, total-start}
-use Rattle.step.specs.Lists.{at, rulesRow, rulesOf}
+use Rattle.rows.specs.Rows.{classRules}
+use Rattle.step.specs.Lists.{at}
 use Rattle.setchain.specs.Laws.Agreeing.{Agree, agree-sym, sound-agrees}
-use Rattle.bounds.specs.Entries.{lowerEnds, capacities, counts, sumOf, listedRow, ListRowPre, ListRowPost, ListRowsPre, ListRowsPost}
+use Rattle.bounds.specs.Entries.{lowerEnds, capacities, counts, sumOf, listedRow, rulesRow, ListRowPre, ListRowPost, ListRowsPre, ListRowsPost}
 use Rattle.bounds.proofs.AddRowLaws.{listSum}
 
 -- the lists at row i: the rows below it are listed, and of the others there is no entry
@@ -24,13 +25,13 @@ pub record Listing (n : ℕ) (rules lowers uppers entries slack : List ℕ) (i :
   pub inside : i ≤ n
   pub within : (e : ℕ) → e < 1024 → at entries e < n
   pub short : (j : ℕ) → j < n → at entries (counts + j) ≤ i
-  pub lower : (k : ℕ) → k < i → (j : ℕ) → j < n → listSum entries lowerEnds j k ≡ rulesRow (rulesOf (length lowers) rules k) lowers uppers .lower j
+  pub lower : (k : ℕ) → k < i → (j : ℕ) → j < n → listSum entries lowerEnds j k ≡ rulesRow (classRules (length lowers) rules k) lowers uppers .lower j
   pub rise : (k : ℕ) → k < i → (j : ℕ) → j < n
       → listSum entries capacities j k
-      ≡ rulesRow (rulesOf (length lowers) rules k) lowers uppers .upper j - rulesRow (rulesOf (length lowers) rules k) lowers uppers .lower j
+      ≡ rulesRow (classRules (length lowers) rules k) lowers uppers .upper j - rulesRow (classRules (length lowers) rules k) lowers uppers .lower j
   pub lowerLater : (k : ℕ) → i ≤ k → (j : ℕ) → j < n → listSum entries lowerEnds j k ≡ 0
   pub riseLater : (k : ℕ) → i ≤ k → (j : ℕ) → j < n → listSum entries capacities j k ≡ 0
-  pub whole : (k : ℕ) → k < i → sumTo n (rulesRow (rulesOf (length lowers) rules k) lowers uppers .lower) + at slack k ≡ ONE
+  pub whole : (k : ℕ) → k < i → sumTo n (rulesRow (classRules (length lowers) rules k) lowers uppers .lower) + at slack k ≡ ONE
 
 -- what a row adds to its own sum and to another's
 own-sum : (i : ℕ) {x y z : ℕ} → x ≡ y + onlyIf (eqb i i) z → y ≡ 0 → x ≡ z
@@ -65,19 +66,19 @@ module _ {n : ℕ} {rules lowers uppers entries₀ spare₀ : List ℕ}
     part-count : i * 8 + length lowers - i * 8 ≡ length lowers
     part-count = omega arith
 
-    pub listing-takes : i < n → ListRowPre (take (i * 8 + length lowers - i * 8) (drop (i * 8) rules)) lowers uppers n i entries
+    pub listing-takes : i < n → ListRowPre (classRules (i * 8 + length lowers - i * 8) rules i) lowers uppers n i entries
     listing-takes l =
         record {
           table = w .table;
           few = able .few;
           inside = l;
-          sound = subst (λ k. SoundRow n (rulesRow (take k (drop (i * 8) rules)) lowers uppers)) (sym part-count) (able .sound i l);
+          sound = subst (λ k. SoundRow n (rulesRow (classRules k rules i) lowers uppers)) (sym part-count) (able .sound i l);
           within = w .within;
           short = w .short;
         }
 
     module _ {entries′ : List ℕ} {r : ℕ} (l : i < n)
-        (a : ListRowPost (rulesOf (length lowers) rules i) lowers uppers n i entries entries′ r) where
+        (a : ListRowPost (classRules (length lowers) rules i) lowers uppers n i entries entries′ r) where
       listing-next : Listing n rules lowers uppers entries′ (set slack i r) (i + 1)
       listing-next =
           record {
@@ -95,20 +96,20 @@ module _ {n : ℕ} {rules lowers uppers entries₀ spare₀ : List ℕ}
             lowerLater = λ k h j g. other-sum i k _ (λ e. omega arith) (a .lowers j k g) ∙ w .lowerLater k (omega arith) j g;
             riseLater = λ k h j g. other-sum i k _ (λ e. omega arith) (a .rises j k g) ∙ w .riseLater k (omega arith) j g;
             whole =
-                below-more (λ k. sumTo n (rulesRow (rulesOf (length lowers) rules k) lowers uppers .lower) + at (set slack i r) k ≡ ONE) i
+                below-more (λ k. sumTo n (rulesRow (classRules (length lowers) rules k) lowers uppers .lower) + at (set slack i r) k ≡ ONE) i
                 (λ k h. omega (arith, getD-set-other slack i k r 0 (λ e. omega arith), w .whole k h))
                 (omega (arith, getD-set-same slack i r 0 (omega (arith, w .slacks, able .few)), a .whole));
           }
 
     pub listing-more : {entries′ : List ℕ} {r : ℕ} → i < n
-        → ListRowPost (take (i * 8 + length lowers - i * 8) (drop (i * 8) rules)) lowers uppers n i entries entries′ r
+        → ListRowPost (classRules (i * 8 + length lowers - i * 8) rules i) lowers uppers n i entries entries′ r
         → Listing n rules lowers uppers entries′ (set slack i r) (i + 1)
     listing-more {entries′} {r} l a =
         listing-next l
-        (subst (λ k. ListRowPost (take k (drop (i * 8) rules)) lowers uppers n i entries entries′ r) part-count a)
+        (subst (λ k. ListRowPost (classRules k rules i) lowers uppers n i entries entries′ r) part-count a)
 
     -- when all rows are listed
-    listing-agrees : n ≤ i → (k : ℕ) → k < n → Agree n (listedRow entries k) (rulesRow (rulesOf (length lowers) rules k) lowers uppers)
+    listing-agrees : n ≤ i → (k : ℕ) → k < n → Agree n (listedRow entries k) (rulesRow (classRules (length lowers) rules k) lowers uppers)
     listing-agrees h k l =
         record {
           lower = λ j g. w .lower k (omega arith) j g;
@@ -129,7 +130,7 @@ module _ {n : ℕ} {rules lowers uppers entries₀ spare₀ : List ℕ}
                 whole = λ k l.
                     omega (
                       arith,
-                      sumTo-eq n (listedRow entries k .lower) (rulesRow (rulesOf (length lowers) rules k) lowers uppers .lower) (listing-agrees h k l .lower),
+                      sumTo-eq n (listedRow entries k .lower) (rulesRow (classRules (length lowers) rules k) lowers uppers .lower) (listing-agrees h k l .lower),
                       w .whole k (omega arith),
                     );
               };

@@ -12,9 +12,9 @@ use Rattle.scheme.specs.Accepted.{Accepted}
 use Rattle.scheme.specs.Rows.{chainOf}
 use Rattle.scheme.specs.Laws.Sound.{accepted-sound}
 use Rattle.rows.specs.Laws.SumByTarget.{lower-is, upper-is}
-use Rattle.step.specs.Lists.{rulesRow, rulesOf}
+use Rattle.rows.specs.Rows.{classRules}
 use Rattle.setchain.specs.Laws.Agreeing.{Agree, sound-agrees}
-use Rattle.bounds.specs.Entries.{counts, listedRow, Empty, ListRowsPre, ListRowsPost}
+use Rattle.bounds.specs.Entries.{counts, listedRow, rulesRow, Empty, ListRowsPre, ListRowsPost}
 use Rattle.bounds.specs.Start.{ListSchemePost}
 
 -- arrays of zeros hold lists with no entry
@@ -30,7 +30,7 @@ empty-listed =
 -- from a scheme's parts to its chain
 module _ (s : Scheme) (accepted : Accepted s) where
   stored : ℕ → ℕ → IntervalRow
-  stored columns i = rulesRow (rulesOf columns (s .rules) i) (take (s .columns) (s .lowers)) (take (s .columns) (s .uppers))
+  stored columns i = rulesRow (classRules columns (s .rules) i) (take (s .columns) (s .lowers)) (take (s .columns) (s .uppers))
 
   rows-back : (i : ℕ) → i < s .classes → Agree (s .classes) (chainOf s .row i) (stored (s .columns) i)
   unfolding stored

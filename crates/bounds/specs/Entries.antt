@@ -7,7 +7,9 @@ use lib.Dec.{eqb}
 use lib.ListN.{length}
 use Rattle.setchain.specs.Sums.{sumTo, onlyIf}
 use Rattle.setchain.specs.Rows.{ONE, IntervalRow, SoundRow, SetChain, SoundChain}
-use Rattle.step.specs.Lists.{at, rulesRow, rulesOf}
+use Rattle.scheme.specs.SumByTarget.{sumByTarget}
+use Rattle.rows.specs.Rows.{classRules}
+use Rattle.step.specs.Lists.{at}
 use Rattle.setchain.specs.Laws.Agreeing.{Agree}
 
 -- where the lower ends begin, the capacities and the counts
@@ -73,6 +75,10 @@ pub record AddRowPost (lower upper : List ℕ) (i : ℕ) (entries entries′ : L
   pub rises : (j k : ℕ) → j < length upper
       → sumOf entries′ capacities (j * 32) (at entries′ (counts + j)) k ≡ sumOf entries capacities (j * 32) (at entries (counts + j)) k + onlyIf (eqb i k) (at upper j - at lower j)
 
+-- the interval row that some rules make with their bands' ends
+abbrev pub rulesRow : List ℕ → List ℕ → List ℕ → IntervalRow
+rulesRow rules lowers uppers = record { lower = sumByTarget rules lowers; upper = sumByTarget rules uppers }
+
 -- the same from a state's rules and their bands' ends
 pub record ListRowPre (rules lowers uppers : List ℕ) (n i : ℕ) (entries : List ℕ) : Type 0 where
   pub table : length entries ≡ 3104
@@ -100,10 +106,10 @@ pub record ListRowsPre (n : ℕ) (rules lowers uppers entries slack : List ℕ) 
   pub few : n ≤ 32
   pub columns : length lowers ≤ 8
   pub stored : n * 8 ≤ length rules
-  pub sound : (i : ℕ) → i < n → SoundRow n (rulesRow (rulesOf (length lowers) rules i) lowers uppers)
+  pub sound : (i : ℕ) → i < n → SoundRow n (rulesRow (classRules (length lowers) rules i) lowers uppers)
   pub empty : Empty entries slack
 
 -- the lists hold each row's entries
 pub record ListRowsPost (n : ℕ) (rules lowers uppers entries slack : List ℕ) : Type 0 where
   pub held : SoundTable n entries slack
-  pub agrees : (i : ℕ) → i < n → Agree n (listedRow entries i) (rulesRow (rulesOf (length lowers) rules i) lowers uppers)
+  pub agrees : (i : ℕ) → i < n → Agree n (listedRow entries i) (rulesRow (classRules (length lowers) rules i) lowers uppers)

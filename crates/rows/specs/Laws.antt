@@ -2,5 +2,6 @@
 pub mod Clear
 pub mod AddToTarget
 pub mod SumByTarget
+pub mod Front
 pub mod Entries
 pub mod Copy

@@ -13,13 +13,17 @@ use Rattle.scheme.specs.SumByTarget.{sumByTarget}
 unfoldable pub entriesOf : List ℕ → List ℕ → ℕ → List ℕ
 entriesOf rules ends classes = tab 32 (λ j. onlyIf (ltb j classes) (sumByTarget rules ends j))
 
+-- the rules of class i + 1: eight stand for each class, of which as many count as there are columns
+abbrev pub classRules : ℕ → List ℕ → ℕ → List ℕ
+classRules columns rules i = take columns (drop (i * 8) rules)
+
 -- the row of class i + 1 that the code makes of a scheme's parts
 abbrev pub rowFrom : List ℕ → List ℕ → List ℕ → ℕ → ℕ → ℕ → RowAnswer
 rowFrom rules lowers uppers columns classes i =
     record {
       number = 0;
-      lower = entriesOf (take columns (drop (i * 8) rules)) (take columns lowers) classes;
-      upper = entriesOf (take columns (drop (i * 8) rules)) (take columns uppers) classes;
+      lower = entriesOf (classRules columns rules i) (take columns lowers) classes;
+      upper = entriesOf (classRules columns rules i) (take columns uppers) classes;
     }
 
 -- a slice after a row is copied into it: the row where it is of the row's length, and otherwise what it held

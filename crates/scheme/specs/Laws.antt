@@ -1,6 +1,7 @@
 -- The laws that proofs use in place of the definitions' text.
 pub mod Tables
 pub mod Cause
+pub mod Limits
 pub mod Judged
 pub mod Sound
 pub mod Tab

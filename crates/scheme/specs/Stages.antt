@@ -1,7 +1,9 @@
 -- The stages in which the code finds a cause: each stage is a part of the whole.
 use Prim.Native.Nat.{ℕ}
 use mathlib.Core.Bool.{cond, _||_}
+use mathlib.Core.List.{List}
 use lib.Dec.{ltb}
+use lib.ListN.{getD}
 use Rattle.setchain.specs.Sums.{sumTo}
 use Rattle.setchain.specs.Rows.{ONE}
 use Rattle.scheme.specs.Tables.{anyBelow}
@@ -17,3 +19,7 @@ abbrev pub bandCause : ℕ → (ℕ → ℕ) → (ℕ → ℕ) → ℕ
 bandCause n lower upper =
     cond (anyBelow n (λ k. bandTest (lower k) (upper k))) 8
     (cond (ltb ONE (sumTo n lower) || ltb (sumTo n upper) ONE) 9 0)
+
+-- cause 10 where one of the first n numbers is above its limit, or 0
+abbrev pub limitCause : (limit : ℕ) (numbers : List ℕ) (n : ℕ) → ℕ
+limitCause limit numbers n = cond (anyBelow n (λ i. ltb limit (getD numbers i 0))) 10 0

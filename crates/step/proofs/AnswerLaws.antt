@@ -1,28 +1,48 @@
--- The one-year step's cause in the order of the code's tests, and its whole answer.
+-- The one-year step's cause from the row operation's, and its whole answer from the class's interval row.
 -- Assumes nothing.
 use Prim.Native.Nat.{ℕ, _-_, _≤_, _<_}
-use mathlib.Core.Path.{_≡_, refl, ap, sym, _∙_}
+use mathlib.Core.Path.{_≡_, refl, ap, sym, _∙_, subst}
 use mathlib.Core.Bool.{Bool, true, false, cond, _||_}
-use mathlib.Core.List.{List}
+use mathlib.Core.List.{List, _++_}
+use native.Mathlib.Decide.{ℕ-discrete}
 use native.Mathlib.Omega.{arith}
-use lib.Dec.{ltb}
-use lib.ListN.{replicate, length-replicate}
-use borrow.Author.Tests.{ltb-false}
-use Rattle.scheme.specs.declared.Scheme.{Scheme}
-use Rattle.scheme.specs.Accepted.{Accepted}
-use Rattle.scheme.specs.Cause.{outside, sizeOut, startOut, horizonOut, ruleOut, bandOut, sumOut, premiumOut, causeWhere, causeOf, orElse, classCause}
-use Rattle.scheme.specs.Laws.Cause.{outside-false, first-cause, second-cause, declined, answered, cond-true, cond-false, first-none, second-none, test-none}
-use Rattle.scheme.specs.Laws.Judged.{accepted-cause}
-use Rattle.scheme.specs.Laws.Sound.{accepted-sound}
-use Rattle.rows.specs.Laws.SumByTarget.{lower-is, upper-is}
-use Rattle.scheme.specs.Laws.Tables.{any-false}
-use Rattle.step_spec.specs.declared.StepAnswer.{StepAnswer}
-use Rattle.step.specs.Lists.{at}
+use lib.Dec.{eqb, ltb}
+use lib.ListN.{length, take, drop, replicate, length-replicate}
+use lib.Seq.{take-at, length-take-le, getD-take}
+use borrow.Author.Tests.{ltb-false, lt-ltb, ne-eqb}
+use Rattle.setchain.specs.Sums.{onlyIf}
+use Rattle.setchain.specs.Rows.{SoundRow}
 use Rattle.setchain.specs.Step.{stepFigure, Reaches}
+use Rattle.setchain.specs.Laws.Sums.{onlyIf-true}
 use Rattle.setchain.specs.Laws.Agreeing.{Agree, agree-sym, sound-agrees, reaches-agree}
 use Rattle.setchain.specs.Laws.Step.{reached-figure}
+use Rattle.scheme.specs.declared.Scheme.{Scheme}
+use Rattle.scheme.specs.declared.RowAnswer.{RowAnswer}
+use Rattle.scheme.specs.Accepted.{Accepted}
+use Rattle.scheme.specs.Cause.{outside, sizeOut, startOut, horizonOut, ruleOut, bandOut, sumOut, premiumOut, causeWhere, causeOf, orElse, classCause}
+use Rattle.scheme.specs.Tables.{tab}
+use Rattle.scheme.specs.Stages.{limitCause}
+use Rattle.scheme.specs.RowAnswer.{rowCause, rowRefused, rowAt, rowAnswer}
+use Rattle.scheme.specs.Laws.Cause.{first-cause, second-cause, declined, answered, first-none, second-none, test-none, class-fits}
+use Rattle.scheme.specs.Laws.Judged.{accepted-cause}
+use Rattle.scheme.specs.Laws.Sound.{accepted-sound}
+use Rattle.scheme.specs.Laws.Tables.{any-false}
+use Rattle.scheme.specs.Laws.Tab.{length-tab, getD-tab}
+use Rattle.rows.specs.Laws.Front.{front-lent, whole-size, whole-front, whole-beyond}
+use Rattle.order.specs.Order.{SortedPermutation, Permutation, identityOrder, sorted}
+use Rattle.order.specs.Laws.Permutations.{identity-permutation, sorted-holds}
+use Rattle.step_spec.specs.declared.StepAnswer.{StepAnswer}
 use Rattle.step_spec.specs.StepAnswer.{payoffOut, stepCause, classRow, StepAnswered}
-use Rattle.step.specs.Solve.{rowFromParts, AnsweredPre, AnsweredPost}
+use Rattle.step.specs.Lists.{at, listsRow}
+use Rattle.step.specs.Answer.{schemeCause, stepRefused}
+use Rattle.step.specs.Step.{StepPre, StepPost}
+
+-- the classes in the order of their numbers, sorted, are sorted
+pub numbers-sorted : (payoff before order : List ℕ) {order′ : List ℕ} {high : Bool} → length before ≡ length payoff → length payoff ≤ 128
+    → order ≡ identityOrder before → order′ ≡ sorted payoff high order → SortedPermutation payoff high order′
+numbers-sorted payoff before order {order′} {high} e few n s =
+    let numbers : Permutation (length payoff) (identityOrder before) = subst (λ k. Permutation k (identityOrder before)) e (identity-permutation before (omega arith)) in
+    subst (SortedPermutation payoff high) (sym s) (sorted-holds payoff high order (subst (Permutation (length payoff)) (sym n) numbers) few)
 
 -- a second test of cause 10 comes after all that the first has
 joined : (a b c d e f g h : Bool)
@@ -37,122 +57,216 @@ joined false false false false false true g h = refl
 joined false false false false false false true h = refl
 joined false false false false false false false h = refl
 
+-- the causes of acceptance are 10 at most
+most : (b : Bool) (x y : ℕ) → x ≤ 10 → y ≤ 10 → cond b x y ≤ 10
+most true x y h k = h
+most false x y h k = k
+
+cause-most : (s : Scheme) (moneyOut : Bool) → causeWhere s moneyOut ≤ 10
+unfolding causeWhere
+cause-most s moneyOut =
+    most (sizeOut s) 3 _ (omega arith)
+    (most (startOut s) 5 _ (omega arith)
+    (most (horizonOut s) 6 _ (omega arith)
+    (most (ruleOut s) 7 _ (omega arith)
+    (most (bandOut s) 8 _ (omega arith)
+    (most (sumOut s) 9 _ (omega arith)
+    (most moneyOut 10 0 (omega arith) (omega arith)))))))
+
+-- so a number of 11 is the class's cause, and any other is theirs
+apart : (a : ℕ) (out : Bool) → a ≤ 10 → schemeCause (orElse a (cond out 11 0)) ≡ a
+apart a out few = by (ℕ-discrete a 0)
+  where
+    class : (b : Bool) → schemeCause (cond b 11 0) ≡ 0
+    class true = refl
+    class false = refl
+
+    by : Dec (a ≡ 0) → schemeCause (orElse a (cond out 11 0)) ≡ a
+    by (yes z) = ap schemeCause (second-cause a (cond out 11 0) z) ∙ class out ∙ sym z
+    by (no h) = ap schemeCause (first-cause a (cond out 11 0) h) ∙ ap (λ b. cond b 0 a) (ne-eqb a 11 (λ e. omega arith))
+
 module _ (s : Scheme) (payoff : List ℕ) (class : ℕ) where
+  -- cause 10 of the payoffs
+  payoffCause : ℕ
+  payoffCause = limitCause 1000000000 payoff (s .classes)
+
   -- the causes in the order of the code's tests
-  in-shift : stepCause s payoff class ≡ orElse (orElse (causeOf s) (cond (payoffOut s payoff) 10 0)) (classCause s class)
-  unfolding causeWhere
-  in-shift =
+  in-turn : stepCause s payoff class ≡ orElse (orElse (causeOf s) payoffCause) (classCause s class)
+  unfolding causeWhere payoffOut payoffCause
+  in-turn =
       ap (λ x. orElse x (classCause s class))
       (joined (sizeOut s) (startOut s) (horizonOut s) (ruleOut s) (bandOut s) (sumOut s) (premiumOut s) (payoffOut s payoff))
 
-  module _ (n : ℕ) (is : n ≡ causeOf s) where
-    -- a cause of the scheme's own comes first
-    pub cause-scheme : (n ≡ 0 → ⊥) → n ≡ stepCause s payoff class
-    cause-scheme h =
-        let first : orElse (causeOf s) (cond (payoffOut s payoff) 10 0) ≡ n = first-cause (causeOf s) (cond (payoffOut s payoff) 10 0) (λ z. h (is ∙ z)) ∙ sym is in
-        sym (in-shift ∙ first-cause (orElse (causeOf s) (cond (payoffOut s payoff) 10 0)) (classCause s class) (λ z. h (sym first ∙ z)) ∙ first)
-
-    module _ (none : n ≡ 0) where
-      -- without one the payoffs are tested
-      money : orElse (causeOf s) (cond (payoffOut s payoff) 10 0) ≡ cond (payoffOut s payoff) 10 0
-      money = second-cause (causeOf s) (cond (payoffOut s payoff) 10 0) (sym is ∙ none)
-
-      -- a payoff above its limit
-      pub cause-payoff : payoffOut s payoff ≡ true → 10 ≡ stepCause s payoff class
-      cause-payoff h =
-          let first : orElse (causeOf s) (cond (payoffOut s payoff) 10 0) ≡ 10 = money ∙ cond-true (payoffOut s payoff) 10 0 h in
-          sym (in-shift ∙ first-cause (orElse (causeOf s) (cond (payoffOut s payoff) 10 0)) (classCause s class) (λ z. omega (arith, first, z)) ∙ first)
-
-      module _ (fits : payoffOut s payoff ≡ false) where
-        -- where payoffs fit the class is tested
-        rest : stepCause s payoff class ≡ classCause s class
-        rest =
-            in-shift
-            ∙ second-cause (orElse (causeOf s) (cond (payoffOut s payoff) 10 0)) (classCause s class) (money ∙ cond-false (payoffOut s payoff) 10 0 fits)
-
-        -- a class that is none
-        pub cause-class : outside (s .classes) class ≡ true → 11 ≡ stepCause s payoff class
-        cause-class h = sym (rest ∙ cond-true (outside (s .classes) class) 11 0 h)
-
-        -- no cause at all
-        pub cause-none : outside (s .classes) class ≡ false → 0 ≡ stepCause s payoff class
-        cause-none h = sym (rest ∙ cond-false (outside (s .classes) class) 11 0 h)
-
   -- a call that is declined: the number, and 0 everywhere else
-  pub step-declined : {high : Bool} (n : ℕ) → n ≡ stepCause s payoff class → (n ≡ 0 → ⊥)
-      → StepAnswered high s payoff class (record { number = n; figure = 0; row = replicate 32 0 })
-  step-declined {high} n is some =
-      record {
+  pub step-declined : {high : Bool} {r : StepAnswer} (n : ℕ) → r ≡ stepRefused n → n ≡ stepCause s payoff class → (n ≡ 0 → ⊥) → StepAnswered high s payoff class r
+  step-declined {high} n made is some =
+      rw made
+      (record {
         number = is;
         figure = sym (declined (stepCause s payoff class) (stepFigure high (s .classes) (classRow s class) (at payoff)) 0 (λ z. some (is ∙ z)));
         size = length-replicate {A = ℕ} 32 0;
         declinedRow = λ h. refl;
         beyond = λ z. absurd (some z);
         reaches = λ z. absurd (some z);
-      }
+      })
 
-  -- a call that is not
-  module _ (n : ℕ) (is : n ≡ stepCause s payoff class) (none : n ≡ 0) where
-    -- its causes in turn are all 0
-    zero-cause : orElse (orElse (causeOf s) (cond (payoffOut s payoff) 10 0)) (classCause s class) ≡ 0
-    zero-cause = sym in-shift ∙ sym is ∙ none
-
-    -- those before the class's too
-    zero-money : orElse (causeOf s) (cond (payoffOut s payoff) 10 0) ≡ 0
-    zero-money = first-none (orElse (causeOf s) (cond (payoffOut s payoff) 10 0)) (classCause s class) zero-cause
-
-    -- so the scheme is accepted
-    ok : Accepted s
-    ok = accepted-cause s (first-none (causeOf s) (cond (payoffOut s payoff) 10 0) zero-money)
-
-    -- no payoff is above its limit
-    payoffs-fit : payoffOut s payoff ≡ false
-    payoffs-fit = test-none (payoffOut s payoff) 10 (omega arith) (second-none (causeOf s) (cond (payoffOut s payoff) 10 0) zero-money)
-
-    -- and the class is one of 1 to s
-    range : (1 ≤ class) × (class ≤ s .classes)
-    range =
-        outside-false (s .classes) class
-        (test-none (outside (s .classes) class) 11 (omega arith) (second-none (orElse (causeOf s) (cond (payoffOut s payoff) 10 0)) (classCause s class) zero-cause))
-
-    -- the limit at each class
-    payoff-fits : (j : ℕ) → j < s .classes → at payoff j ≤ 1000000000
-    unfolding payoffOut
-    payoff-fits j l = ltb-false 1000000000 (at payoff j) (any-false (s .classes) (λ i. ltb 1000000000 (at payoff i)) payoffs-fit j l)
-
-    -- what the code sums by target is the class's interval row
-    same : Agree (s .classes) (rowFromParts (s .rules) (s .lowers) (s .uppers) (s .columns) class) (classRow s class)
-    same =
-        record {
-          lower = λ j l. lower-is s ok (class - 1) (omega (arith, range)) j;
-          upper = λ j l. upper-is s ok (class - 1) (omega (arith, range)) j;
-        }
-
-    -- what the parts must be for an answer
-    pub step-answerable : AnsweredPre (s .rules) (s .lowers) (s .uppers) payoff (s .columns) (s .classes) class
-    step-answerable =
-        record {
-          positive = range .0;
-          within = range .1;
-          fewClasses = ok .size .classes;
-          fewColumns = ok .size .columns;
-          sound = sound-agrees (agree-sym same) (accepted-sound s ok (class - 1) (omega (arith, range)));
-          small = λ j l. omega (arith, payoff-fits j l);
-        }
-
-    -- the answer made of them is the one promised
-    pub step-answered : {high : Bool} {r : StepAnswer} → AnsweredPost (s .rules) (s .lowers) (s .uppers) payoff (s .columns) (s .classes) class high r → StepAnswered high s payoff class r
-    step-answered {high} {r} w =
-        record {
-          number = w .number ∙ sym none ∙ is;
-          figure =
-              reached-figure (s .classes) (classRow s class) (accepted-sound s ok (class - 1) (omega (arith, range))) high (at payoff) (at (r .row)) (r .figure) reached
-              ∙ sym (answered (stepCause s payoff class) (stepFigure high (s .classes) (classRow s class) (at payoff)) 0 (sym is ∙ none));
-          size = w .size;
-          declinedRow = λ h. absurd (h (w .number));
-          beyond = λ z. w .beyond;
-          reaches = λ z. reached;
-        }
+  -- over the row operation's answer
+  module _ {interval : RowAnswer} (is : interval ≡ rowAnswer s class) where
+    number-is : interval .number ≡ rowCause s class
+    unfolding rowAt
+    number-is = ap (λ r. r .number) is ∙ by (ℕ-discrete (rowCause s class) 0)
       where
-        reached : Reaches high (s .classes) (classRow s class) (at payoff) (at (r .row)) (r .figure)
-        reached = reaches-agree same (λ j l. refl) (λ j l. refl) (w .reaches)
+        by : Dec (rowCause s class ≡ 0) → rowAnswer s class .number ≡ rowCause s class
+        by (yes z) = ap (λ r. r .number) (answered (rowCause s class) (rowAt s (class - 1)) (rowRefused (rowCause s class)) z) ∙ sym z
+        by (no h) = ap (λ r. r .number) (declined (rowCause s class) (rowAt s (class - 1)) (rowRefused (rowCause s class)) h)
+
+    module _ {own : ℕ} (owns : own ≡ schemeCause (interval .number)) where
+      -- the scheme's own cause
+      own-is : own ≡ causeOf s
+      own-is = owns ∙ ap schemeCause number-is ∙ apart (causeOf s) (outside (s .classes) class) (cause-most s (premiumOut s))
+
+      -- comes first
+      pub cause-scheme : (own ≡ 0 → ⊥) → own ≡ stepCause s payoff class
+      cause-scheme h =
+          let some : causeOf s ≡ 0 → ⊥ = λ z. h (own-is ∙ z) in
+          let first : orElse (causeOf s) payoffCause ≡ causeOf s = first-cause (causeOf s) payoffCause some in
+          own-is ∙ sym (in-turn ∙ ap (λ n. orElse n (classCause s class)) first ∙ first-cause (causeOf s) (classCause s class) some)
+
+      module _ (none : own ≡ 0) where
+        -- without one there are 32 classes at most
+        pub classes-fit : s .classes ≤ 32
+        classes-fit = accepted-cause s (sym own-is ∙ none) .size .classes
+
+        -- and the payoffs' cause comes before the class's
+        pub cause-later : orElse (limitCause 1000000000 payoff (s .classes)) (interval .number) ≡ stepCause s payoff class
+        unfolding payoffCause
+        cause-later =
+            let accepted : causeOf s ≡ 0 = sym own-is ∙ none in
+            ap (orElse payoffCause) (number-is ∙ second-cause (causeOf s) (classCause s class) accepted)
+            ∙ ap (λ n. orElse n (classCause s class)) (sym (second-cause (causeOf s) payoffCause accepted))
+            ∙ sym in-turn
+
+    -- a call that is not declined
+    module _ {number : ℕ} (counts : number ≡ stepCause s payoff class) (none : number ≡ 0) where
+      -- its causes in turn are all 0
+      turn-none : orElse (orElse (causeOf s) payoffCause) (classCause s class) ≡ 0
+      turn-none = sym in-turn ∙ sym counts ∙ none
+
+      -- those before the class's too
+      before-none : orElse (causeOf s) payoffCause ≡ 0
+      before-none = first-none (orElse (causeOf s) payoffCause) (classCause s class) turn-none
+
+      -- so the scheme is accepted
+      ok : Accepted s
+      ok = accepted-cause s (first-none (causeOf s) payoffCause before-none)
+
+      -- the class is one of 1 to s
+      range : (1 ≤ class) × (class ≤ s .classes)
+      range = class-fits (s .classes) class (second-none (orElse (causeOf s) payoffCause) (classCause s class) turn-none)
+
+      -- and no payoff is above its limit
+      payoff-fits : (j : ℕ) → j < s .classes → at payoff j ≤ 1000000000
+      unfolding payoffCause
+      payoff-fits j l =
+          ltb-false 1000000000 (at payoff j)
+          (any-false (s .classes) (λ i. ltb 1000000000 (at payoff i)) (test-none _ 10 (omega arith) (second-none (causeOf s) payoffCause before-none)) j l)
+
+      -- its row is sound
+      sound : SoundRow (s .classes) (classRow s class)
+      sound = accepted-sound s ok (class - 1) (omega (arith, range))
+
+      -- and is the one that the row operation answers
+      entries-are : interval ≡ rowAt s (class - 1)
+      entries-are =
+          is
+          ∙ answered (rowCause s class) (rowAt s (class - 1)) (rowRefused (rowCause s class))
+          (second-cause (causeOf s) (classCause s class) (first-none (causeOf s) payoffCause before-none)
+          ∙ second-none (orElse (causeOf s) payoffCause) (classCause s class) turn-none)
+
+      -- with a lower and an upper entry for each class
+      pub entries-fit : (s .classes ≤ length (interval .lower)) × (s .classes ≤ length (interval .upper))
+      unfolding rowAt
+      entries-fit =
+          omega (
+            arith,
+            ap (λ r. length (r .lower)) entries-are,
+            ap (λ r. length (r .upper)) entries-are,
+            length-tab 32 (λ j. onlyIf (ltb j (s .classes)) (classRow s class .lower j)),
+            length-tab 32 (λ j. onlyIf (ltb j (s .classes)) (classRow s class .upper j)),
+            ok .size .classes,
+          )
+
+      -- an entry of the 32, which is 0 beyond s, is that of the class
+      entry-is : (f : ℕ → ℕ) (entries : List ℕ) → entries ≡ tab 32 (λ j. onlyIf (ltb j (s .classes)) (f j)) → (j : ℕ) → j < s .classes
+          → at (take (s .classes) entries) j ≡ f j
+      entry-is f entries e j l =
+          getD-take (s .classes) entries j 0 l
+          ∙ ap (λ x. at x j) e
+          ∙ getD-tab 32 (λ j. onlyIf (ltb j (s .classes)) (f j)) j 0 (omega (arith, ok .size .classes))
+          ∙ onlyIf-true (ltb j (s .classes)) (f j) (lt-ltb j (s .classes) l)
+
+      -- so the entries that are lent are the class's interval row
+      same : Agree (s .classes) (listsRow (take (s .classes) (interval .lower)) (take (s .classes) (interval .upper))) (classRow s class)
+      unfolding rowAt
+      same =
+          record {
+            lower = entry-is (classRow s class .lower) (interval .lower) (ap (λ r. r .lower) entries-are);
+            upper = entry-is (classRow s class .upper) (interval .upper) (ap (λ r. r .upper) entries-are);
+          }
+
+      -- of which as many are lent as there are classes
+      lower-count : length (take (s .classes) (interval .lower)) ≡ s .classes
+      lower-count = length-take-le (s .classes) (interval .lower) (entries-fit .0)
+
+      upper-count : length (take (s .classes) (interval .upper)) ≡ s .classes
+      upper-count = length-take-le (s .classes) (interval .upper) (entries-fit .1)
+
+      module _ (enough : s .classes ≤ length payoff) {high : Bool} where
+        -- what the step asks, with the sorted order back in its place
+        pub answer-steps : (order rest : List ℕ) → SortedPermutation (take (s .classes) payoff) high order
+            → StepPre (take (s .classes) (interval .lower)) (take (s .classes) (interval .upper)) (take (s .classes) payoff)
+            (take (s .classes) (order ++ rest)) high (take (s .classes) (replicate 32 0))
+        answer-steps order rest by-payoff =
+            record {
+              uppers = upper-count ∙ sym lower-count;
+              payoffs = pays ∙ sym lower-count;
+              rows = front-lent (s .classes) (ok .size .classes) ∙ sym lower-count;
+              sound =
+                  subst (λ n. SoundRow n (listsRow (take (s .classes) (interval .lower)) (take (s .classes) (interval .upper)))) (sym lower-count)
+                  (sound-agrees (agree-sym same) sound);
+              small = λ j l.
+                  let h : j < s .classes = rw lower-count at l in
+                  omega (arith, getD-take (s .classes) payoff j 0 h, payoff-fits j h);
+              sorted = subst (SortedPermutation (take (s .classes) payoff) high) (sym (take-at order rest (s .classes) (by-payoff .size ∙ pays))) by-payoff;
+            }
+          where
+            pays : length (take (s .classes) payoff) ≡ s .classes
+            pays = length-take-le (s .classes) payoff enough
+
+        -- what it leaves is the answer
+        pub answer-made : (row : List ℕ) {figure : ℕ}
+            → StepPost (take (s .classes) (interval .lower)) (take (s .classes) (interval .upper)) (take (s .classes) payoff) high row figure
+            → StepAnswered high s payoff class (record { number = number; figure = figure; row = row ++ drop (s .classes) (replicate 32 0) })
+        answer-made row {figure} w =
+            record {
+              number = counts;
+              figure =
+                  reached-figure (s .classes) (classRow s class) sound high (at payoff) (at whole) figure reached
+                  ∙ sym (answered (stepCause s payoff class) (stepFigure high (s .classes) (classRow s class) (at payoff)) 0 (sym counts ∙ none));
+              size = whole-size (s .classes) row (ok .size .classes) size;
+              declinedRow = λ h. absurd (h none);
+              beyond = λ z. whole-beyond (s .classes) row (ok .size .classes) size;
+              reaches = λ z. reached;
+            }
+          where
+            whole : List ℕ
+            whole = row ++ drop (s .classes) (replicate 32 0)
+
+            size : length row ≡ s .classes
+            size = w .size ∙ lower-count
+
+            reached : Reaches high (s .classes) (classRow s class) (at payoff) (at whole) figure
+            reached =
+                reaches-agree same (λ j l. getD-take (s .classes) payoff j 0 l) (λ j l. sym (whole-front (s .classes) row (ok .size .classes) size j l))
+                (subst (λ n. Reaches high n (listsRow (take (s .classes) (interval .lower)) (take (s .classes) (interval .upper))) (at (take (s .classes) payoff)) (at row) figure)
+                lower-count (w .reaches))

@@ -1,9 +1,9 @@
 -- The figure of a row: the sum of part times payoff over ONE, rounded away from what it bounds.
-use Prim.Native.Nat.{ℕ, _*_, _≤_, _<_}
+use Prim.Native.Nat.{ℕ, _≤_, _<_}
 use mathlib.Core.Path.{_≡_}
 use mathlib.Core.List.{List}
 use lib.ListN.{length}
-use Rattle.setchain.specs.Sums.{sumTo, dot}
+use Rattle.setchain.specs.Sums.{sumTo}
 use Rattle.setchain.specs.Rows.{ONE}
 use Rattle.step.specs.Lists.{at}
 
@@ -16,8 +16,3 @@ pub record WeighPre (row payoff : List ℕ) : Type 0 where
   pub size : length payoff ≡ length row
   pub sums : sumTo (length row) (at row) ≡ ONE
   pub small : (j : ℕ) → j < length row → at payoff j ≤ LARGEST
-
--- the sum of part times payoff, and that it fits
-pub record WeighPost (row payoff : List ℕ) (r : ℕ) : Type 0 where
-  pub is : r ≡ dot (length row) (at row) (at payoff)
-  pub fits : r ≤ LARGEST * ONE

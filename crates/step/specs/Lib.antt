@@ -3,5 +3,5 @@ pub mod Lists
 pub mod Fill
 pub mod Figure
 pub mod Step
-pub mod Solve
+pub mod Answer
 pub mod Laws

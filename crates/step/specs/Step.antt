@@ -7,7 +7,7 @@ use lib.ListN.{length}
 use Rattle.setchain.specs.Rows.{SoundRow}
 use Rattle.setchain.specs.Step.{Reaches}
 use Rattle.order.specs.Order.{SortedPermutation}
-use Rattle.step.specs.Lists.{at, rowIn}
+use Rattle.step.specs.Lists.{at, listsRow}
 use Rattle.step.specs.Figure.{LARGEST}
 
 -- lists of one length, a sound row, payoffs that are not too large, and an order of the classes by payoff
@@ -15,11 +15,11 @@ pub record StepPre (lower upper payoff order : List ℕ) (high : Bool) (row : Li
   pub uppers : length upper ≡ length lower
   pub payoffs : length payoff ≡ length lower
   pub rows : length row ≡ length lower
-  pub sound : SoundRow (length lower) (rowIn lower upper)
+  pub sound : SoundRow (length lower) (listsRow lower upper)
   pub small : (j : ℕ) → j < length lower → at payoff j ≤ LARGEST
   pub sorted : SortedPermutation payoff high order
 
 -- the row is one that reaches the figure r
 pub record StepPost (lower upper payoff : List ℕ) (high : Bool) (row : List ℕ) (r : ℕ) : Type 0 where
   pub size : length row ≡ length lower
-  pub reaches : Reaches high (length lower) (rowIn lower upper) (at payoff) (at row) r
+  pub reaches : Reaches high (length lower) (listsRow lower upper) (at payoff) (at row) r

@@ -3,49 +3,48 @@ use crate::StepAnswer;
 use crate::step::step;
 use order::identity_order;
 use order::sort;
-use rows::sum_by_target;
 use scheme::Scheme;
+use scheme::or_else;
 ghost use mathlib.Core.Path.{_≡_};
 ghost use Prim.Native.Nat.{_≤_};
-ghost use lib.Dec.{ltb};
 ghost use lib.ListN.{length};
 ghost use Rattle.order.specs.Order.{SortedPermutation};
-ghost use Rattle.scheme.specs.Tables.{anyBelow};
-ghost use Rattle.step.specs.Lists.{at};
-ghost use Rattle.step.specs.Solve.{AnsweredPre, AnsweredPost, SolvePre, SolvePost};
-ghost use Rattle.step_spec.specs.StepAnswer.{StepAnswered, stepCause};
+ghost use Rattle.scheme.specs.Stages.{limitCause};
+ghost use Rattle.step.specs.Answer.{schemeCause, stepRefused};
+ghost use Rattle.step_spec.specs.StepAnswer.{StepAnswered};
 
-// Whether some class's payoff is above 1,000,000,000.
-fn payoff_out(payoff: &[u64; 32], classes: u8) -> bool
+// The scheme's own cause in the row operation's number: any but that of the class.
+fn scheme_cause(number: u8) -> u8
+    ensures { λ r. ⌜ r ≡ schemeCause number ⌝ }
+{
+    if number == scheme::CLASS_OUT { 0 } else { number }
+}
+
+// Cause 10 where some class's payoff is above 1,000,000,000, or 0.
+fn payoff_cause(payoff: &[u64; 32], classes: u8) -> u8
     requires { ⌜ classes ≤ 32 ⌝ }
-    ensures { λ r. ⌜ r ≡ anyBelow classes (λ i. ltb 1000000000 (at (now (payoff .entry)) i)) ⌝ }
+    ensures { λ r. ⌜ r ≡ limitCause 1000000000 (now (payoff .entry)) classes ⌝ }
 {
     let n = classes as usize;
     let mut i: usize = 0;
     while i < n {
         if crate::MOST_PAYOFF < payoff[i] {
-            return true;
+            return scheme::MONEY_OUT;
         }
         i += 1;
     }
-    false
+    0
 }
 
-// The first cause that applies, tests in number order, or 0.
-fn cause(scheme: Scheme, payoff: [u64; 32], class: u64) -> u8
-    ensures { λ r. ⌜ r ≡ stepCause scheme payoff class ⌝ }
+// A refusal number, with 0 everywhere else.
+fn refused(number: u8) -> StepAnswer
+    ensures { λ r. ⌜ r ≡ stepRefused number ⌝ }
 {
-    let number = acceptance::cause(scheme);
-    if number != 0 {
-        return number;
+    StepAnswer {
+        number,
+        figure: 0,
+        row: [0u64; 32],
     }
-    if payoff_out(&payoff, scheme.classes) {
-        return scheme::MONEY_OUT;
-    }
-    if scheme::class_out(scheme.classes, class) {
-        return scheme::CLASS_OUT;
-    }
-    0
 }
 
 // Puts all classes in the order of their payoffs.
@@ -57,85 +56,30 @@ fn sort_classes(payoff: &[u64], high: bool, order: &mut [u8])
     sort(payoff, high, order);
 }
 
-// The figure of a class from its rules and their bands' ends, and in `row` a row that reaches it.
-fn solve(
-    rules: &[u8],
-    lowers: &[u32],
-    uppers: &[u32],
-    payoff: &[u64],
-    high: bool,
-    row: &mut [u64],
-) -> u64
-    requires { ⌜ SolvePre (now rules) (now lowers) (now uppers) (now payoff) (now row) ⌝ }
-    ensures { λ r. ⌜ SolvePost (now (rules .entry)) (now (lowers .entry)) (now (uppers .entry)) (now (payoff .entry)) high (now (row .exit)) r ⌝ }
-{
-    let n = payoff.len();
-    let mut lower = [0u64; 32];
-    sum_by_target(rules, lowers, &mut lower[..n]);
-    let mut upper = [0u64; 32];
-    sum_by_target(rules, uppers, &mut upper[..n]);
-    let mut order = [0u8; 32];
-    sort_classes(payoff, high, &mut order[..n]);
-    step(&lower[..n], &upper[..n], payoff, &order[..n], high, row)
-}
-
-// The answer for a class of a scheme that has no cause, from the scheme's parts.
-fn answered(
-    rules: [u8; 256],
-    lowers: [u32; 8],
-    uppers: [u32; 8],
-    payoff: [u64; 32],
-    columns: u8,
-    classes: u8,
-    class: u64,
-    high: bool,
-) -> StepAnswer
-    requires { ⌜ AnsweredPre rules lowers uppers payoff columns classes class ⌝ }
-    ensures { λ r. ⌜ AnsweredPost rules lowers uppers payoff columns classes class high r ⌝ }
-{
-    let m = columns as usize;
-    let n = classes as usize;
-    let from = (class - 1) as usize * scheme::RULE_STRIDE;
-    let to = from + m;
-    let mut row = [0u64; 32];
-    let figure = solve(
-        &rules[from..to],
-        &lowers[..m],
-        &uppers[..m],
-        &payoff[..n],
-        high,
-        &mut row[..n],
-    );
-    StepAnswer {
-        number: 0,
-        figure,
-        row,
-    }
-}
-
 // The low step's answer, or, where `high` is set, the high step's.
 pub fn answer(scheme: Scheme, payoff: [u64; 32], class: u64, high: bool) -> StepAnswer
     ensures { λ r. ⌜ StepAnswered high scheme payoff class r ⌝ }
 {
-    let number = cause(scheme, payoff, class);
-    if number != 0 {
-        return StepAnswer {
-            number,
-            figure: 0,
-            row: [0u64; 32],
-        };
+    let interval = rows::row(scheme, class);
+    let own = scheme_cause(interval.number);
+    if own != 0 {
+        return refused(own);
     }
-    let rules = scheme.rules;
-    let lowers = scheme.lowers;
-    let uppers = scheme.uppers;
-    answered(
-        rules,
-        lowers,
-        uppers,
-        payoff,
-        scheme.columns,
-        scheme.classes,
-        class,
-        high,
-    )
+    let number = or_else(payoff_cause(&payoff, scheme.classes), interval.number);
+    if number != 0 {
+        return refused(number);
+    }
+    let n = scheme.classes as usize;
+    let lower = interval.lower;
+    let upper = interval.upper;
+    let payoffs = &payoff[..n];
+    let mut order = [0u8; 32];
+    sort_classes(payoffs, high, &mut order[..n]);
+    let mut row = [0u64; 32];
+    let figure = step(&lower[..n], &upper[..n], payoffs, &order[..n], high, &mut row[..n]);
+    StepAnswer {
+        number,
+        figure,
+        row,
+    }
 }

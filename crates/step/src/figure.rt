@@ -1,16 +1,15 @@
 // The figure of a row: the sum of part times payoff over ONE, rounded.
 ghost use mathlib.Core.Path.{_≡_};
-ghost use Prim.Native.Nat.{_*_};
 ghost use lib.ListN.{length};
 ghost use Rattle.setchain.specs.Step.{rounded};
 ghost use Rattle.setchain.specs.Sums.{dot};
 ghost use Rattle.step.specs.Lists.{at};
-ghost use Rattle.step.specs.Figure.{WeighPre, WeighPost};
+ghost use Rattle.step.specs.Figure.{WeighPre};
 
 // The sum of part times payoff.
 fn weigh(row: &[u64], payoff: &[u64]) -> u64
     requires { ⌜ WeighPre (now row) (now payoff) ⌝ }
-    ensures { λ r. ⌜ WeighPost (now (row .entry)) (now (payoff .entry)) r ⌝ }
+    ensures { λ r. ⌜ r ≡ dot (length (now (row .entry))) (at (now (row .entry))) (at (now (payoff .entry))) ⌝ }
 {
     let mut sum: u64 = 0;
     let mut j = 0;

@@ -4,8 +4,7 @@ use mathlib.Core.Path.{_≡_, ap, sym, _∙_}
 use mathlib.Core.Bool.{true, false}
 use mathlib.Core.List.{List, _++_}
 use lib.Dec.{ltb}
-use lib.ListN.{length, getD, take, drop, replicate, length-append, length-drop, length-replicate, getD-replicate, List·getD-append}
-use lib.Seq.{length-take-le, getD-append-add, getD-drop}
+use lib.ListN.{length, getD, take, drop, replicate}
 use native.Mathlib.Decide.{decLt}
 use native.Mathlib.Omega.{arith}
 use borrow.Author.Tests.{lt-ltb, le-ltb}
@@ -21,7 +20,8 @@ use Rattle.scheme.specs.Laws.Judged.{accepted-cause}
 use Rattle.scheme.specs.SumByTarget.{sumByTarget}
 use Rattle.rows.specs.Laws.SumByTarget.{lower-is, upper-is}
 use Rattle.scheme.specs.RowAnswer.{rowCause, rowRefused, rowAt, rowAnswer}
-use Rattle.rows.specs.Rows.{entriesOf, rowFrom}
+use Rattle.rows.specs.Rows.{entriesOf, classRules, rowFrom}
+use Rattle.rows.specs.Laws.Front.{front-lent, whole-size, whole-front, whole-beyond}
 use Rattle.scheme.specs.Laws.Tab.{length-tab, getD-tab, as-tab, tab-eq}
 
 -- summed entries followed by what stood beyond them
@@ -30,36 +30,23 @@ pub entries-joined : (rules ends : List ℕ) (classes : ℕ) (g : List ℕ) → 
     → g ++ drop classes (replicate 32 0) ≡ entriesOf rules ends classes
 unfolding entriesOf
 entries-joined rules ends classes g h e =
-    as-tab 0 (g ++ zeros) 32 (λ j. onlyIf (ltb j classes) (sumByTarget rules ends j))
-    (length-append g zeros ∙ omega (arith, size, length-drop {A = ℕ} classes (replicate 32 0), length-replicate {A = ℕ} 32 0))
-    (λ j l. at j l (decLt j classes))
+    as-tab 0 (g ++ drop classes (replicate 32 0)) 32 (λ j. onlyIf (ltb j classes) (sumByTarget rules ends j)) (whole-size classes g h size) (λ j l. at j (decLt j classes))
   where
-    zeros : List ℕ
-    zeros = drop classes (replicate 32 0)
-
-    count : length (take classes (replicate {A = ℕ} 32 0)) ≡ classes
-    count = length-take-le {A = ℕ} classes (replicate 32 0) (omega (arith, length-replicate {A = ℕ} 32 0))
-
     is : g ≡ tab classes (sumByTarget rules ends)
-    is = e ∙ ap (λ n. tab n (sumByTarget rules ends)) count
+    is = e ∙ ap (λ n. tab n (sumByTarget rules ends)) (front-lent classes h)
 
     size : length g ≡ classes
     size = ap length is ∙ length-tab classes (sumByTarget rules ends)
 
-    beyond : (j : ℕ) → j < 32 → classes ≤ j → getD (g ++ zeros) j 0 ≡ 0
-    beyond j l k =
-        ap (λ n. getD (g ++ zeros) n 0) (omega (arith, size))
-        ∙ getD-append-add g zeros (j - classes) 0
-        ∙ getD-drop classes (replicate 32 0) (j - classes) 0
-        ∙ getD-replicate 32 (classes + (j - classes)) 0 0 (omega arith)
-
-    at : (j : ℕ) → j < 32 → Dec (j < classes) → getD (g ++ zeros) j 0 ≡ onlyIf (ltb j classes) (sumByTarget rules ends j)
-    at j l (yes k) =
-        List·getD-append g zeros 0 j (omega (arith, size))
+    at : (j : ℕ) → Dec (j < classes) → getD (g ++ drop classes (replicate 32 0)) j 0 ≡ onlyIf (ltb j classes) (sumByTarget rules ends j)
+    at j (yes k) =
+        whole-front classes g h size j k
         ∙ ap (λ x. getD x j 0) is
         ∙ getD-tab classes (sumByTarget rules ends) j 0 k
         ∙ sym (onlyIf-true (ltb j classes) (sumByTarget rules ends j) (lt-ltb j classes k))
-    at j l (no k) = beyond j l (omega arith) ∙ sym (onlyIf-false (ltb j classes) (sumByTarget rules ends j) (le-ltb j classes (omega arith)))
+    at j (no k) =
+        whole-beyond classes g h size j (omega arith)
+        ∙ sym (onlyIf-false (ltb j classes) (sumByTarget rules ends j) (le-ltb j classes (omega arith)))
 
 -- for an accepted scheme they are those of its interval row
 module _ (s : Scheme) (ok : Accepted s) (i : ℕ) (l : i < s .classes) where
@@ -75,14 +62,14 @@ module _ (s : Scheme) (ok : Accepted s) (i : ℕ) (l : i < s .classes) where
 
 -- the code's parts of the rules run from i * 8 to i * 8 + columns
 pub row-made : (rules lowers uppers : List ℕ) (columns classes i : ℕ) (lower upper : List ℕ)
-    → lower ≡ entriesOf (take (i * 8 + columns - i * 8) (drop (i * 8) rules)) (take columns lowers) classes
-    → upper ≡ entriesOf (take (i * 8 + columns - i * 8) (drop (i * 8) rules)) (take columns uppers) classes
+    → lower ≡ entriesOf (classRules (i * 8 + columns - i * 8) rules i) (take columns lowers) classes
+    → upper ≡ entriesOf (classRules (i * 8 + columns - i * 8) rules i) (take columns uppers) classes
     → _≡_ {A = RowAnswer} (record { number = 0; lower = lower; upper = upper }) (rowFrom rules lowers uppers columns classes i)
 row-made rules lowers uppers columns classes i lower upper e g =
     λ k. record { number = 0; lower = (e ∙ ap (part lowers) size) k; upper = (g ∙ ap (part uppers) size) k }
   where
     part : List ℕ → ℕ → List ℕ
-    part ends n = entriesOf (take n (drop (i * 8) rules)) (take columns ends) classes
+    part ends n = entriesOf (classRules n rules i) (take columns ends) classes
 
     size : i * 8 + columns - i * 8 ≡ columns
     size = omega arith

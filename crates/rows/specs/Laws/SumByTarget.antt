@@ -18,6 +18,7 @@ use Rattle.scheme.specs.declared.Scheme.{Scheme}
 use Rattle.scheme.specs.Access.{ruleAt, lowerAt, upperAt}
 use Rattle.scheme.specs.Accepted.{Accepted}
 use Rattle.scheme.specs.Rows.{cellsOf, chainOf}
+use Rattle.rows.specs.Rows.{classRules}
 use Rattle.scheme.specs.Laws.Sound.{accepted-cells}
 use Rattle.scheme.specs.SumByTarget.{sumByTarget}
 
@@ -79,11 +80,11 @@ module _ (s : Scheme) (ok : Accepted s) (i : ℕ) (l : i < s .classes) where
       sumTo-eq (s .columns) (λ k. onlyIf (eqb (ruleAt s i k) (suc j)) (band k)) (λ k. onlyIf (eqb (ruleAt s i k - 1) j) (band k))
       (λ k g. ap (λ b. onlyIf b (band k)) (same-test (ruleAt s i k) j (ok .rules .positive i k l g)))
 
-  pub lower-is : (j : ℕ) → sumByTarget (take (s .columns) (drop (i * 8) (s .rules))) (take (s .columns) (s .lowers)) j ≡ chainOf s .row i .lower j
+  pub lower-is : (j : ℕ) → sumByTarget (classRules (s .columns) (s .rules) i) (take (s .columns) (s .lowers)) j ≡ chainOf s .row i .lower j
   lower-is j =
       summed-part (s .rules) (s .lowers) (s .columns) (i * 8) j
       ∙ ap (min ONE) (into (lowerAt s i) j)
       ∙ omega (arith, into-all (s .classes) (cellsOf s i) (accepted-cells s ok i l) j, ok .sums .lowers i l)
 
-  pub upper-is : (j : ℕ) → sumByTarget (take (s .columns) (drop (i * 8) (s .rules))) (take (s .columns) (s .uppers)) j ≡ chainOf s .row i .upper j
+  pub upper-is : (j : ℕ) → sumByTarget (classRules (s .columns) (s .rules) i) (take (s .columns) (s .uppers)) j ≡ chainOf s .row i .upper j
   upper-is j = summed-part (s .rules) (s .uppers) (s .columns) (i * 8) j ∙ ap (min ONE) (into (upperAt s i) j)

@@ -15,7 +15,7 @@ use Rattle.setchain.specs.Laws.Step.{certified-reaches, reached-figure}
 use Rattle.order.specs.Order.{NotAfter, payoffAt, Occurs}
 use Rattle.order.specs.Laws.Insertion.{not-after-refl}
 use Rattle.order.specs.Laws.Permutations.{sorted-permutation}
-use Rattle.step.specs.Lists.{at, rowIn}
+use Rattle.step.specs.Lists.{at, listsRow}
 use Rattle.step.specs.Fill.{FillPre, FillPost}
 use Rattle.step.specs.Figure.{WeighPre}
 use Rattle.step.specs.Step.{StepPre, StepPost}
@@ -73,7 +73,7 @@ module _ {lower upper payoff order : List ℕ} {high : Bool} {row₀ row : List 
       (w .rest j l)
 
   -- so a filled row has a certificate
-  certificate : Certificate high (length lower) (rowIn lower upper) (at payoff) (at row)
+  certificate : Certificate high (length lower) (listsRow lower upper) (at payoff) (at row)
   certificate =
       record {
         threshold = payoffAt payoff order stop;
@@ -82,12 +82,12 @@ module _ {lower upper payoff order : List ℕ} {high : Bool} {row₀ row : List 
       }
 
   -- it reaches its figure
-  filled-reaches : Reaches high (length lower) (rowIn lower upper) (at payoff) (at row) (rounded high (dot (length lower) (at row) (at payoff)))
-  filled-reaches = certified-reaches (length lower) (rowIn lower upper) (s .sound) high (at payoff) (at row) (w .parts) certificate
+  filled-reaches : Reaches high (length lower) (listsRow lower upper) (at payoff) (at row) (rounded high (dot (length lower) (at row) (at payoff)))
+  filled-reaches = certified-reaches (length lower) (listsRow lower upper) (s .sound) high (at payoff) (at row) (w .parts) certificate
 
   -- which is the step's
-  pub step-reached : rounded high (dot (length lower) (at row) (at payoff)) ≡ stepFigure high (length lower) (rowIn lower upper) (at payoff)
-  step-reached = reached-figure (length lower) (rowIn lower upper) (s .sound) high (at payoff) (at row) _ filled-reaches
+  pub step-reached : rounded high (dot (length lower) (at row) (at payoff)) ≡ stepFigure high (length lower) (listsRow lower upper) (at payoff)
+  step-reached = reached-figure (length lower) (listsRow lower upper) (s .sound) high (at payoff) (at row) _ filled-reaches
 
   -- what the step leaves
   pub stepped : {r : ℕ} → r ≡ rounded high (dot (length row) (at row) (at payoff)) → StepPost lower upper payoff high row r
@@ -95,5 +95,5 @@ module _ {lower upper payoff order : List ℕ} {high : Bool} {row₀ row : List 
       let figure : r ≡ rounded high (dot (length lower) (at row) (at payoff)) = rw (w .size) at e in
       record {
         size = w .size;
-        reaches = subst (Reaches high (length lower) (rowIn lower upper) (at payoff) (at row)) (sym figure) filled-reaches;
+        reaches = subst (Reaches high (length lower) (listsRow lower upper) (at payoff) (at row)) (sym figure) filled-reaches;
       }

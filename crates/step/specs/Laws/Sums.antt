@@ -3,7 +3,7 @@
 use Prim.Native.Nat.{ℕ, _+_, _*_, _≤_, _<_}
 use mathlib.Core.Path.{_≡_, ap, _∙_}
 use mathlib.Core.List.{List}
-use native.Mathlib.Nat.{le-refl, mul-le-mul-left}
+use native.Mathlib.Nat.{mul-le-mul-left}
 use native.Mathlib.Omega.{arith}
 use lib.ListN.{length, set}
 use lib.Seq.{getD-set-same, getD-set-other}
@@ -11,7 +11,7 @@ use Rattle.setchain.specs.Sums.{sumTo, dot}
 use Rattle.setchain.specs.Rows.{ONE}
 use Rattle.setchain.specs.Laws.Sums.{sumTo-le, sumTo-scale, sumTo-more, sumTo-front, sumTo-change}
 use Rattle.step.specs.Lists.{at}
-use Rattle.step.specs.Figure.{LARGEST, WeighPre, WeighPost}
+use Rattle.step.specs.Figure.{LARGEST, WeighPre}
 
 -- a store changes the sum by what it changes at its place
 pub sumTo-set : (n : ℕ) (l : List ℕ) (j v : ℕ) → j < n → length l ≡ n → sumTo n (at (set l j v)) + at l j ≡ sumTo n (at l) + v
@@ -20,7 +20,7 @@ sumTo-set n l j v h e =
     ∙ ap (λ x. sumTo n (at l) + x) (getD-set-same l j v 0 (omega arith))
 
 -- the sum of part times payoff over a front fits
-pub weighed-front : (row payoff : List ℕ) (i : ℕ) → WeighPre row payoff → i ≤ length row
+weighed-front : (row payoff : List ℕ) (i : ℕ) → WeighPre row payoff → i ≤ length row
     → sumTo i (λ j. at row j * at payoff j) ≤ LARGEST * ONE
 weighed-front row payoff i w h =
     omega (
@@ -37,10 +37,3 @@ pub weighed-more : (row payoff : List ℕ) (i sum : ℕ) → WeighPre row payoff
 weighed-more row payoff i sum w h e =
     omega
     (arith, sumTo-more (λ j. at row j * at payoff j) i, weighed-front row payoff (i + 1) w (omega arith))
-
--- and all of them
-pub weighed-all : (row payoff : List ℕ) (i sum : ℕ) → WeighPre row payoff → i ≡ length row → sum ≡ dot i (at row) (at payoff)
-    → WeighPost row payoff sum
-weighed-all row payoff i sum w h e =
-    let g : sum ≡ dot (length row) (at row) (at payoff) = rw h at e in
-    record { is = g; fits = omega (arith, weighed-front row payoff (length row) w (le-refl (length row))) }

@@ -1,8 +1,7 @@
 -- `entries` meets its contract.
-use lib.ListN.{replicate}
-use lib.Seq.{length-take-le}
 use mathlib.Core.Path.{sym}
 use native.Mathlib.Omega.{arith}
+use Rattle.rows.specs.Laws.Front.{front-lent}
 use Rattle.rows.specs.Laws.Entries.{entries-joined}
 use borrow.Author.Needs.{needs}
 use Rattle.rows.proofs.rows.entries.Statement.{statement}
@@ -12,7 +11,9 @@ array-borrow-prefix-out : tie.Need-array-borrow-prefix-out
 array-borrow-prefix-out c = search needs
 
 slice-aggregate-sum-by-target : tie.Need-slice-aggregate-sum-by-target
-slice-aggregate-sum-by-target c = sym (length-take-le (c .before .before .before .args .classes) (replicate 32 0) (omega arith))
+slice-aggregate-sum-by-target c =
+    let start = c .before .before .before in
+    sym (front-lent (start .args .classes) (omega arith))
 
 sum-by-target-requires : tie.Need-sum-by-target-requires
 sum-by-target-requires c κs = search needs

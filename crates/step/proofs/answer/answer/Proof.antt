@@ -1,27 +1,206 @@
--- `answer` declines with the first cause, and otherwise answers from the scheme's parts.
+-- `answer` takes the class's interval row and its cause from the row operation, and the step over the row's entries.
 -- Assumes nothing.
-use Rattle.step.proofs.AnswerLaws.{step-declined, step-answerable, step-answered}
+use Prim.Native.Nat.{_≤_}
+use mathlib.Core.Path.{_≡_, ap, sym, _∙_}
+use native.Mathlib.Omega.{arith}
+use lib.ListN.{length}
+use lib.Seq.{length-take-le}
+use Rattle.scheme.specs.Cause.{orElse}
+use Rattle.rows.specs.Laws.Front.{front-fits, front-size, front-lent}
+use Rattle.step_spec.specs.StepAnswer.{stepCause}
+use Rattle.step.proofs.AnswerLaws.{step-declined, cause-scheme, classes-fit, cause-later, entries-fit, answer-steps, answer-made}
 use borrow.Author.Needs.{needs}
 use Rattle.step.proofs.answer.answer.Statement.{statement}
 use Rattle.step.proofs.answer.answer.Tie as tie
 
-cause-requires : tie.Need-cause-requires
-cause-requires c κs = search needs
+row-requires : tie.Need-row-requires
+row-requires c κs = search needs
+
+scheme-cause-requires : tie.Need-scheme-cause-requires
+scheme-cause-requires c κs = search needs
+
+refused-requires : tie.Need-refused-requires
+refused-requires c κs = search needs
 
 returns : tie.Need-returns
-returns c = step-declined _ _ _ _ (c .before .cause .ensures) (c .if1 .taken)
+returns c =
+    let at-scheme-cause = c .before .before in
+    let at-row = at-scheme-cause .before in
+    let a = at-row .before .args in
+    step-declined (a .scheme) (a .t2) (a .class) _ (c .refused .ensures)
+    (cause-scheme (a .scheme) (a .t2) (a .class) (at-row .row .ensures) (at-scheme-cause .scheme-cause .ensures) (c .before .if1 .taken)) (c .before .if1 .taken)
 
-answered-requires : tie.Need-answered-requires
-answered-requires c κs =
-    let at-if1 = c .before .before .before in
-    let at-cause = at-if1 .before in
-    step-answerable _ _ _ _ (at-cause .cause .ensures) (at-if1 .if1 .left)
+-- a scheme without a cause of its own has 32 classes at most
+few : (c : tie.Else1) → let start = c .before .before .before in
+    start .args .scheme .classes ≤ 32
+few c =
+    let at-row = c .before .before in
+    let a = at-row .before .args in
+    classes-fit (a .scheme) (a .t2) (a .class) (at-row .row .ensures) (c .before .scheme-cause .ensures) (c .if1 .left)
+
+-- each with a payoff
+enough : (c : tie.Else1) → let start = c .before .before .before in
+    start .args .scheme .classes ≤ length (start .args .t2)
+enough c = omega (arith, few c)
+
+payoff-cause-requires : tie.Need-payoff-cause-requires
+payoff-cause-requires c κs = few (c .before)
+
+or-else-requires : tie.Need-or-else-requires
+or-else-requires c κs = search needs
+
+-- the first cause of all
+cause : (c : tie.After-or-else) → let start = c .before .before .before .before .before .before in
+    c .or-else .result ≡ stepCause (start .args .scheme) (start .args .t2) (start .args .class)
+cause c =
+    let at-else1 = c .before .before .before in
+    let at-row = at-else1 .before .before in
+    let a = at-row .before .args in
+    c .or-else .ensures
+    ∙ ap (λ n. orElse n (at-row .row .result .number)) (c .before .payoff-cause .ensures)
+    ∙ cause-later (a .scheme) (a .t2) (a .class) (at-row .row .ensures) (at-else1 .before .scheme-cause .ensures) (at-else1 .if1 .left)
+
+refused-requires-2 : tie.Need-refused-requires-2
+refused-requires-2 c κs = search needs
 
 returns-2 : tie.Need-returns-2
 returns-2 c =
-    let at-if1 = c .before .before .before .before in
-    let at-cause = at-if1 .before in
-    step-answered _ _ _ _ (at-cause .cause .ensures) (at-if1 .if1 .left) (c .answered .ensures)
+    let at-or-else = c .before .before in
+    let start = at-or-else .before .before .before .before .before .before in
+    step-declined (start .args .scheme) (start .args .t2) (start .args .class) _ (c .refused2 .ensures) (cause at-or-else) (c .before .if2 .taken)
+
+cast-n : tie.Need-cast-n
+cast-n c = search needs
+
+array-share-prefix-payoff : tie.Need-array-share-prefix-payoff
+array-share-prefix-payoff c =
+    let at-else1 = c .before .before .before .before .before .before .before in
+    enough at-else1
+
+slice-aggregate-payoffs : tie.Need-slice-aggregate-payoffs
+slice-aggregate-payoffs c =
+    let at-else1 = c .before .before .before .before .before .before .before .before in
+    let start = at-else1 .before .before .before in
+    sym (length-take-le (start .args .scheme .classes) (start .args .t2) (enough at-else1))
+
+array-borrow-prefix-order : tie.Need-array-borrow-prefix-order
+array-borrow-prefix-order c =
+    let at-else1 = c .before .before .before .before .before .before .before .before in
+    few at-else1
+
+slice-aggregate-sort-classes : tie.Need-slice-aggregate-sort-classes
+slice-aggregate-sort-classes c =
+    let at-else1 = c .before .before .before .before .before .before .before .before .before in
+    sym (front-lent _ (few at-else1))
+
+sort-classes-requires : tie.Need-sort-classes-requires
+sort-classes-requires c κs =
+    let at-else1 = c .before .before .before .before .before .before .before .before .before in
+    let start = at-else1 .before .before .before in
+    let count = length-take-le (start .args .scheme .classes) (start .args .t2) (enough at-else1) in
+    (front-lent _ (few at-else1) ∙ sym count, omega (arith, count, few at-else1))
+
+-- without a cause the row has entries for each class
+entries : (c : tie.Else2) → let at-row = c .before .before .before .before .before .before in
+    let classes = at-row .before .args .scheme .classes in
+    (classes ≤ length (at-row .row .result .lower)) × (classes ≤ length (at-row .row .result .upper))
+entries c =
+    let at-row = c .before .before .before .before .before .before in
+    let a = at-row .before .args in
+    entries-fit (a .scheme) (a .t2) (a .class) (at-row .row .ensures) (cause (c .before)) (c .if2 .left)
+
+array-share-prefix-lower : tie.Need-array-share-prefix-lower
+array-share-prefix-lower c =
+    let at-else2 = c .before .before .before .before .before .before .before in
+    entries at-else2 .0
+
+slice-aggregate-step : tie.Need-slice-aggregate-step
+slice-aggregate-step c =
+    let at-else2 = c .before .before .before .before .before .before .before .before in
+    sym (length-take-le _ _ (entries at-else2 .0))
+
+array-share-prefix-upper : tie.Need-array-share-prefix-upper
+array-share-prefix-upper c =
+    let at-else2 = c .before .before .before .before .before .before .before .before in
+    entries at-else2 .1
+
+slice-aggregate-step-2 : tie.Need-slice-aggregate-step-2
+slice-aggregate-step-2 c =
+    let at-else2 = c .before .before .before .before .before .before .before .before .before in
+    sym (length-take-le _ _ (entries at-else2 .1))
+
+-- the sorted order has each class
+order-size : (c : tie.After-sort-classes) → let start = c .before .before .before .before .before .before .before .before .before .before .before .before .before in
+    length (c .sort-classes .last .1 .1 .0) ≡ start .args .scheme .classes
+order-size c =
+    let at-else1 = c .before .before .before .before .before .before .before .before .before .before in
+    c .sort-classes .kept .1 .1 .0 ∙ front-lent _ (few at-else1)
+
+array-share-prefix-order : tie.Need-array-share-prefix-order
+array-share-prefix-order c =
+    let at-sort-classes = c .before .before .before in
+    front-fits _ (at-sort-classes .sort-classes .last .1 .1 .0) _ (order-size at-sort-classes)
+
+slice-aggregate-step-3 : tie.Need-slice-aggregate-step-3
+slice-aggregate-step-3 c =
+    let at-sort-classes = c .before .before .before .before in
+    front-size _ (at-sort-classes .sort-classes .last .1 .1 .0) _ (order-size at-sort-classes)
+
+array-borrow-prefix-row : tie.Need-array-borrow-prefix-row
+array-borrow-prefix-row c =
+    let at-else1 = c .before .before .before .before .before .before .before .before .before .before .before .before .before .before in
+    few at-else1
+
+slice-aggregate-step-4 : tie.Need-slice-aggregate-step-4
+slice-aggregate-step-4 c =
+    let at-else1 = c .before .before .before .before .before .before .before .before .before .before .before .before .before .before .before in
+    sym (front-lent _ (few at-else1))
+
+step-requires : tie.Need-step-requires
+step-requires c κs =
+    let at-sort-classes = c .before .before .before .before .before in
+    let at-else2 = at-sort-classes .before .before .before .before .before .before in
+    let at-else1 = at-else2 .before .before .before .before in
+    let at-row = at-else1 .before .before in
+    let a = at-row .before .args in
+    answer-steps (a .scheme) (a .t2) (a .class) (at-row .row .ensures) (cause (at-else2 .before)) (at-else2 .if2 .left) (enough at-else1) _ _
+    (at-sort-classes .sort-classes .ensures)
+
+returns-3 : tie.Need-returns-3
+returns-3 c =
+    let at-step = c .before in
+    let at-sort-classes = at-step .before .before .before .before .before .before in
+    let at-else2 = at-sort-classes .before .before .before .before .before .before in
+    let at-else1 = at-else2 .before .before .before .before in
+    let at-row = at-else1 .before .before in
+    let a = at-row .before .args in
+    answer-made (a .scheme) (a .t2) (a .class) (at-row .row .ensures) (cause (at-else2 .before)) (at-else2 .if2 .left) (enough at-else1) _ (at-step .step .ensures)
 
 pub answer-spec : {M : Type 1} → statement M
-answer-spec = tie.close (tie.spec cause-requires returns answered-requires returns-2)
+answer-spec =
+    tie.close
+    (tie.spec
+    row-requires
+    scheme-cause-requires
+    refused-requires
+    returns
+    payoff-cause-requires
+    or-else-requires
+    refused-requires-2
+    returns-2
+    cast-n
+    array-share-prefix-payoff
+    slice-aggregate-payoffs
+    array-borrow-prefix-order
+    slice-aggregate-sort-classes
+    sort-classes-requires
+    array-share-prefix-lower
+    slice-aggregate-step
+    array-share-prefix-upper
+    slice-aggregate-step-2
+    array-share-prefix-order
+    slice-aggregate-step-3
+    array-borrow-prefix-row
+    slice-aggregate-step-4
+    step-requires
+    returns-3)

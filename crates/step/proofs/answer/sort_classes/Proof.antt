@@ -1,7 +1,7 @@
 -- `sort_classes` writes the classes in the order of their numbers and sorts them.
 -- Assumes nothing.
 use borrow.Author.Needs.{needs}
-use Rattle.step.proofs.SolveLaws.{numbers-sorted}
+use Rattle.step.proofs.AnswerLaws.{numbers-sorted}
 use Rattle.step.proofs.answer.sort_classes.Statement.{statement}
 use Rattle.step.proofs.answer.sort_classes.Tie as tie
 

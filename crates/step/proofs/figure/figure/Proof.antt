@@ -16,7 +16,7 @@ returns : tie.Need-returns
 returns c =
     let start = c .before .before .before .before in
     let a = start .args in
-    c .round .ensures ∙ ap (λ x. rounded (a .high) x) (c .before .weigh .ensures .is)
+    c .round .ensures ∙ ap (λ x. rounded (a .high) x) (c .before .weigh .ensures)
 
 pub figure-spec : {M : Type 1} → statement M
 figure-spec = tie.close (tie.spec weigh-requires round-requires returns)

@@ -9,7 +9,7 @@ use Rattle.setchain.specs.Rows.{ONE}
 use Rattle.setchain.specs.Laws.Sums.{total-start}
 use Rattle.step.specs.Lists.{at}
 use Rattle.step.specs.Figure.{LARGEST}
-use Rattle.step.specs.Laws.Sums.{weighed-more, weighed-all}
+use Rattle.step.specs.Laws.Sums.{weighed-more}
 use Rattle.step.proofs.figure.weigh.Statement.{statement}
 use Rattle.step.proofs.figure.weigh.Tie as tie
 
@@ -21,14 +21,16 @@ abbrev μ-loop : tie.MeasureT-loop
 
 -- one more term keeps the sum, and fits
 one-more : (c : tie.In-loop Inv-loop μ-loop)
-    → let a = c .before .before .args in
-    let l = c .before .loop in
+    → let at-loop = c .before in
+    let a = at-loop .before .args in
+    let l = at-loop .loop in
     let t = l .sum + at (a .row .now) (l .j) * at (a .payoff .now) (l .j) in
     (t ≡ dot (l .j + 1) (at (a .row .now)) (at (a .payoff .now))) × (t ≤ LARGEST * ONE)
 one-more c =
-    let s = c .before .before in
-    let l = c .before .loop in
-    weighed-more (s .args .row .now) (s .args .payoff .now) (l .j) (l .sum) (s .pre) (omega arith) (l .inv .1)
+    let at-loop = c .before in
+    let start = at-loop .before in
+    let l = at-loop .loop in
+    weighed-more (start .args .row .now) (start .args .payoff .now) (l .j) (l .sum) (start .pre) (omega arith) (l .inv .1)
 
 loop-holds : tie.Need-loop-holds Inv-loop μ-loop
 loop-holds c = omega (arith, total-start (λ j. at (c .args .row .now) j * at (c .args .payoff .now) j))
@@ -62,9 +64,10 @@ loop-again c = omega (arith, one-more (c .before .before))
 
 returns : tie.Need-returns Inv-loop μ-loop
 returns c =
-    let s = c .before .before in
-    let l = c .before .loop in
-    weighed-all (s .args .row .now) (s .args .payoff .now) (l .j) (l .sum) (s .pre) (omega arith) (l .inv .1)
+    let at-loop = c .before in
+    let start = at-loop .before in
+    let end : at-loop .loop .j ≡ length (start .args .row .now) = omega arith in
+    rw end at (at-loop .loop .inv .1)
 
 pub weigh-spec : {M : Type 1} → statement M
 weigh-spec =
