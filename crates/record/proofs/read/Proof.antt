@@ -22,7 +22,9 @@ next c =
 
 returns : tie.Need-returns
 returns c =
-    let first = frame-first (c .before .before .before .before .args .bytes .now) (c .before .before .frame .ensures) (c .before .if1 .taken) in
+    let at-frame = c .before .before in
+    let start = at-frame .before .before in
+    let first = frame-first (start .args .bytes .now) (at-frame .frame .ensures) (c .before .if1 .taken) in
     answer-declined _ first (c .before .if1 .taken) (c .declined .ensures)
 
 parsed-requires : tie.Need-parsed-requires

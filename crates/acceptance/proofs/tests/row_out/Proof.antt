@@ -29,7 +29,9 @@ outside-requires : tie.Need-outside-requires Inv-loop μ-loop
 outside-requires c κs = tt
 
 returns : tie.Need-returns Inv-loop μ-loop
-returns c = sym (any-hit _ (c .before .before .before .before .loop .k) _ (omega arith) (sym (c .before .outside .ensures) ∙ c .if1 .taken))
+returns c =
+    let at-loop = c .before .before .before .before in
+    sym (any-hit _ (at-loop .loop .k) _ (omega arith) (sym (c .before .outside .ensures) ∙ c .if1 .taken))
 
 add-k : tie.Need-add-k Inv-loop μ-loop
 add-k c = omega arith
@@ -38,7 +40,9 @@ loop-less : tie.Need-loop-less Inv-loop μ-loop
 loop-less c = omega arith
 
 loop-again : tie.Need-loop-again Inv-loop μ-loop
-loop-again c = (omega arith, any-more _ _ (c .before .before .before .before .loop .inv .1) (sym (c .before .outside .ensures) ∙ c .if1 .left))
+loop-again c =
+    let at-loop = c .before .before .before .before in
+    (omega arith, any-more _ _ (at-loop .loop .inv .1) (sym (c .before .outside .ensures) ∙ c .if1 .left))
 
 returns-2 : tie.Need-returns-2 Inv-loop μ-loop
 returns-2 c = any-end _ _ _ (omega arith) (c .before .loop .inv .1)

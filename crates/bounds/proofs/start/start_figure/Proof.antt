@@ -46,13 +46,15 @@ array-borrow-prefix-order-2 : tie.Need-array-borrow-prefix-order-2
 array-borrow-prefix-order-2 c =
     let at-identity-order = c .before .before .before in
     let enter = at-identity-order .before .before .before in
-    order-fits (enter .args .scheme) (enter .pre .0) (enter .pre .1) (stored enter) (at-identity-order .identity-order .last .0) (drop (enter .args .scheme .classes) zeros) (at-identity-order .identity-order .ensures)
+    order-fits (enter .args .scheme) (enter .pre .0) (enter .pre .1) (stored enter) (at-identity-order .identity-order .last .0)
+    (drop (enter .args .scheme .classes) zeros) (at-identity-order .identity-order .ensures)
 
 slice-aggregate-years-2 : tie.Need-slice-aggregate-years-2
 slice-aggregate-years-2 c =
     let at-identity-order = c .before .before .before .before in
     let enter = at-identity-order .before .before .before in
-    order-size (enter .args .scheme) (enter .pre .0) (enter .pre .1) (stored enter) (at-identity-order .identity-order .last .0) (drop (enter .args .scheme .classes) zeros) (at-identity-order .identity-order .ensures)
+    order-size (enter .args .scheme) (enter .pre .0) (enter .pre .1) (stored enter) (at-identity-order .identity-order .last .0)
+    (drop (enter .args .scheme .classes) zeros) (at-identity-order .identity-order .ensures)
 
 slice-aggregate-years-3 : tie.Need-slice-aggregate-years-3
 slice-aggregate-years-3 c = search needs
@@ -62,7 +64,8 @@ years-requires c κs =
     let at-state = c .before .before .before .before in
     let at-identity-order = at-state .before .before in
     let enter = at-identity-order .before .before .before in
-    start-runs (enter .args .scheme) (enter .pre .0) (enter .pre .1) (stored enter) (at-identity-order .identity-order .last .0) (drop (enter .args .scheme .classes) zeros) (at-identity-order .identity-order .ensures)
+    start-runs (enter .args .scheme) (enter .pre .0) (enter .pre .1) (stored enter) (at-identity-order .identity-order .last .0)
+    (drop (enter .args .scheme .classes) zeros) (at-identity-order .identity-order .ensures)
     (at-state .state .result) (at-state .state .ensures ∙ state-of _ (enter .pre .0 .accepted .start .positive)) 1 (omega arith) (omega arith)
 
 -- the start class's state

@@ -43,13 +43,15 @@ array-borrow-prefix-order-2 : tie.Need-array-borrow-prefix-order-2
 array-borrow-prefix-order-2 c =
     let at-identity-order = c .before .before in
     let enter = at-identity-order .before .before .before .before in
-    order-fits (enter .args .scheme) (enter .pre .0 .ready) (enter .pre .1) (stored enter) (at-identity-order .identity-order .last .0) (drop (enter .args .scheme .classes) zeros) (at-identity-order .identity-order .ensures)
+    order-fits (enter .args .scheme) (enter .pre .0 .ready) (enter .pre .1) (stored enter) (at-identity-order .identity-order .last .0)
+    (drop (enter .args .scheme .classes) zeros) (at-identity-order .identity-order .ensures)
 
 slice-aggregate-years-2 : tie.Need-slice-aggregate-years-2
 slice-aggregate-years-2 c =
     let at-identity-order = c .before .before .before in
     let enter = at-identity-order .before .before .before .before in
-    order-size (enter .args .scheme) (enter .pre .0 .ready) (enter .pre .1) (stored enter) (at-identity-order .identity-order .last .0) (drop (enter .args .scheme .classes) zeros) (at-identity-order .identity-order .ensures)
+    order-size (enter .args .scheme) (enter .pre .0 .ready) (enter .pre .1) (stored enter) (at-identity-order .identity-order .last .0)
+    (drop (enter .args .scheme .classes) zeros) (at-identity-order .identity-order .ensures)
 
 cast-years : tie.Need-cast-years
 cast-years c = search needs

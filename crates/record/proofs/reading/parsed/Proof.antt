@@ -18,8 +18,11 @@ use Rattle.record.proofs.reading.parsed.Tie as tie
 
 -- s × m is within the rules' places
 places : (c : tie.After-shared-slice-known4)
-    → classesIn (c .before .before .before .before .args .bytes .now) * columnsIn (c .before .before .before .before .args .bytes .now) ≤ 32 * 8
-places c = let framed = c .before .before .before .before .pre in mul-le-mul (framed .classes) (framed .columns)
+    → let start = c .before .before .before .before in
+    classesIn (start .args .bytes .now) * columnsIn (start .args .bytes .now) ≤ 32 * 8
+places c =
+    let start = c .before .before .before .before in
+    let framed = start .pre in mul-le-mul (framed .classes) (framed .columns)
 
 -- an upper end stands 4 bytes past the lower end
 upper-places : (bytes : List ℕ) (p n : ℕ)
