@@ -17,7 +17,11 @@ ghost use Rattle.step_spec.specs.StepAnswer.{StepAnswered};
 fn scheme_cause(number: u8) -> u8
     ensures { λ r. ⌜ r ≡ schemeCause number ⌝ }
 {
-    if number == scheme::CLASS_OUT { 0 } else { number }
+    if number == scheme::CLASS_OUT {
+        0
+    } else {
+        number
+    }
 }
 
 // Cause 10 where some class's payoff is above 1,000,000,000, or 0.
@@ -76,7 +80,14 @@ pub fn answer(scheme: Scheme, payoff: [u64; 32], class: u64, high: bool) -> Step
     let mut order = [0u8; 32];
     sort_classes(payoffs, high, &mut order[..n]);
     let mut row = [0u64; 32];
-    let figure = step(&lower[..n], &upper[..n], payoffs, &order[..n], high, &mut row[..n]);
+    let figure = step(
+        &lower[..n],
+        &upper[..n],
+        payoffs,
+        &order[..n],
+        high,
+        &mut row[..n],
+    );
     StepAnswer {
         number,
         figure,

@@ -14,7 +14,11 @@ refused-requires : tie.Need-refused-requires
 refused-requires c κs = search needs
 
 returns : tie.Need-returns
-returns c = c .refused .ensures ∙ row-declined (c .before .before .before .args .scheme) (c .before .before .before .args .class) _ (c .before .before .cause .ensures) (c .before .if1 .taken)
+returns c =
+    let at-if1 = c .before in
+    let at-cause = at-if1 .before in
+    let start = at-cause .before in
+    c .refused .ensures ∙ row-declined (start .args .scheme) (start .args .class) _ (at-cause .cause .ensures) (at-if1 .if1 .taken)
 
 class-out-requires : tie.Need-class-out-requires
 class-out-requires c κs = search needs
@@ -24,11 +28,13 @@ refused-requires-2 c κs = search needs
 
 returns-2 : tie.Need-returns-2
 returns-2 c =
-    let at-class-out = c .before .before in
+    let at-if2 = c .before in
+    let at-class-out = at-if2 .before in
     let at-if1 = at-class-out .before in
     let at-cause = at-if1 .before in
     let start = at-cause .before in
-    c .refused2 .ensures ∙ row-no-class (start .args .scheme) (start .args .class) _ (at-cause .cause .ensures) (at-if1 .if1 .left) (sym (at-class-out .class-out .ensures) ∙ c .before .if2 .taken)
+    c .refused2 .ensures
+    ∙ row-no-class (start .args .scheme) (start .args .class) _ (at-cause .cause .ensures) (at-if1 .if1 .left) (sym (at-class-out .class-out .ensures) ∙ at-if2 .if2 .taken)
 
 answered-requires : tie.Need-answered-requires
 answered-requires c κs =
@@ -48,7 +54,8 @@ returns-3 c =
     let at-if1 = at-class-out .before in
     let at-cause = at-if1 .before in
     let start = at-cause .before in
-    c .answered .ensures ∙ row-answered (start .args .scheme) (start .args .class) _ (at-cause .cause .ensures) (at-if1 .if1 .left) (sym (at-class-out .class-out .ensures) ∙ at-if2 .if2 .left)
+    c .answered .ensures
+    ∙ row-answered (start .args .scheme) (start .args .class) _ (at-cause .cause .ensures) (at-if1 .if1 .left) (sym (at-class-out .class-out .ensures) ∙ at-if2 .if2 .left)
 
 pub row-spec : {M : Type 1} → statement M
 row-spec =

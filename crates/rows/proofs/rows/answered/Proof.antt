@@ -29,7 +29,9 @@ array-share-prefix-lowers : tie.Need-array-share-prefix-lowers
 array-share-prefix-lowers c = omega arith
 
 slice-aggregate-entries : tie.Need-slice-aggregate-entries
-slice-aggregate-entries c = sym (length-take-le (c .before .before .before .args .columns) (c .before .before .before .args .t2) (omega arith))
+slice-aggregate-entries c =
+    let start = c .before .before .before in
+    sym (length-take-le (start .args .columns) (start .args .t2) (omega arith))
 
 entries-requires : tie.Need-entries-requires
 entries-requires c κs = omega arith
@@ -49,7 +51,8 @@ returns : tie.Need-returns
 returns c =
     let at-entries = c .before .before in
     let start = at-entries .before .before .before .before in
-    row-made (start .args .t1) (start .args .t2) (start .args .t3) (start .args .columns) (start .args .classes) (start .args .class - 1) _ _ (at-entries .entries .ensures) (c .entries2 .ensures)
+    let a = start .args in
+    row-made (a .t1) (a .t2) (a .t3) (a .columns) (a .classes) (a .class - 1) _ _ (at-entries .entries .ensures) (c .entries2 .ensures)
 
 pub answered-spec : {M : Type 1} → statement M
 answered-spec =

@@ -17,8 +17,8 @@ same-length c = search needs
 returns : tie.Need-returns
 returns c =
     let at-sort = c .before .before in
-    let at-identity-order = c .before .before .before .before .before .before in
-    let start = c .before .before .before .before .before .before .before .before .before .before in
+    let at-identity-order = at-sort .before .before .before .before in
+    let start = at-identity-order .before .before .before .before in
     numbers-sorted _ (start .args .order .now) _ (start .pre .0) (start .pre .1) (at-identity-order .identity-order .ensures) (at-sort .sort .ensures)
 
 pub sort-classes-spec : {M : Type 1} → statement M

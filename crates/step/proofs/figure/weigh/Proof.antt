@@ -48,10 +48,14 @@ shared-slice-read-sum-2 : tie.Need-shared-slice-read-sum-2 Inv-loop μ-loop
 shared-slice-read-sum-2 c = omega arith
 
 mul-sum-3 : tie.Need-mul-sum-3 Inv-loop μ-loop
-mul-sum-3 c = omega (arith, one-more (c .before .before))
+mul-sum-3 c =
+    let in-loop = c .before .before in
+    omega (arith, one-more in-loop)
 
 add-sum : tie.Need-add-sum Inv-loop μ-loop
-add-sum c = omega (arith, one-more (c .before .before))
+add-sum c =
+    let in-loop = c .before .before in
+    omega (arith, one-more in-loop)
 
 add-j : tie.Need-add-j Inv-loop μ-loop
 add-j c = omega arith
@@ -60,7 +64,9 @@ loop-less : tie.Need-loop-less Inv-loop μ-loop
 loop-less c = omega arith
 
 loop-again : tie.Need-loop-again Inv-loop μ-loop
-loop-again c = omega (arith, one-more (c .before .before))
+loop-again c =
+    let in-loop = c .before .before in
+    omega (arith, one-more in-loop)
 
 returns : tie.Need-returns Inv-loop μ-loop
 returns c =

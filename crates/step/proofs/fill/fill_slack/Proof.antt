@@ -39,7 +39,9 @@ here c =
     shift-inside (start .pre) (at-loop .loop .inv) (named c)
 
 loop-holds : tie.Need-loop-holds Inv-loop μ-loop
-loop-holds c = filling-none (c .before .before .before .pre)
+loop-holds c =
+    let start = c .before .before .before in
+    filling-none (start .pre)
 
 shared-slice-read-state : tie.Need-shared-slice-read-state Inv-loop μ-loop
 shared-slice-read-state c = omega arith
@@ -57,13 +59,19 @@ mul-capacity-2 : tie.Need-mul-capacity-2 Inv-loop μ-loop
 mul-capacity-2 c = omega (arith, here (c .before))
 
 slice-read-capacity : tie.Need-slice-read-capacity Inv-loop μ-loop
-slice-read-capacity c = omega (arith, here (c .before .before))
+slice-read-capacity c =
+    let at-state = c .before .before in
+    omega (arith, here at-state)
 
 sub-capacity : tie.Need-sub-capacity Inv-loop μ-loop
-sub-capacity c = omega (arith, here (c .before .before))
+sub-capacity c =
+    let at-state = c .before .before in
+    omega (arith, here at-state)
 
 mul-row : tie.Need-mul-row Inv-loop μ-loop
-mul-row c = omega (arith, here (c .before .before .before))
+mul-row c =
+    let at-state = c .before .before .before in
+    omega (arith, here at-state)
 
 slice-read-row : tie.Need-slice-read-row Inv-loop μ-loop
 slice-read-row c =
@@ -85,11 +93,15 @@ same-length c = simp length-set (omega arith)
 
 returns : tie.Need-returns Inv-loop μ-loop
 returns c =
-    let t = c .before .before .before .before in
-    filling-last (t .before .before .before .before .before .before .pre) (t .before .before .loop .inv) (named t) (omega arith)
+    let at-state = c .before .before .before .before in
+    let at-loop = at-state .before .before in
+    let start = at-loop .before .before .before .before in
+    filling-last (start .pre) (at-loop .loop .inv) (named at-state) (omega arith)
 
 mul-row-2 : tie.Need-mul-row-2 Inv-loop μ-loop
-mul-row-2 c = omega (arith, here (c .before .before .before))
+mul-row-2 c =
+    let at-state = c .before .before .before in
+    omega (arith, here at-state)
 
 slice-read-row-2 : tie.Need-slice-read-row-2 Inv-loop μ-loop
 slice-read-row-2 c =
@@ -117,8 +129,10 @@ loop-less c = omega arith
 
 loop-again : tie.Need-loop-again Inv-loop μ-loop
 loop-again c =
-    let t = c .before .before .before .before in
-    filling-more (t .before .before .before .before .before .before .pre) (t .before .before .loop .inv) (named t) (omega arith)
+    let at-state = c .before .before .before .before in
+    let at-loop = at-state .before .before in
+    let start = at-loop .before .before .before .before in
+    filling-more (start .pre) (at-loop .loop .inv) (named at-state) (omega arith)
 
 pub fill-slack-spec : {M : Type 1} → statement M
 fill-slack-spec =
