@@ -24,8 +24,8 @@ abbrev pub stepBuffers : (payoff figure row : List ℕ) → ℕ
 stepBuffers payoff figure row = orElse (bufferCause 32 payoff) (orElse (bufferCause 1 figure) (bufferCause 32 row))
 
 -- what is answered and left for a step's figure and row: its cause, then 13
-abbrev pub StepPost : StepAnswer → (payoff figure row : List ℕ) (number : ℕ) (figure′ row′ : List ℕ) → Type 0
-StepPost answer payoff figure row = BuffersPost (orElse (answer .number) (stepBuffers payoff figure row)) (answer .figure ∷ []) (answer .row) figure row
+abbrev pub StepBuffersPost : StepAnswer → (payoff figure row : List ℕ) (number : ℕ) (figure′ row′ : List ℕ) → Type 0
+StepBuffersPost answer payoff figure row = BuffersPost (orElse (answer .number) (stepBuffers payoff figure row)) (answer .figure ∷ []) (answer .row) figure row
 
 -- the number for a record's step: the cause of reading, then that of the step, where 10 is for the payoff and 11 for the class, then 13
 abbrev pub stepNumber : List ℕ → (payoff : List ℕ) (class : ℕ) (figure row : List ℕ) → ℕ

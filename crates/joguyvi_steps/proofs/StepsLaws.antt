@@ -14,7 +14,7 @@ use Rattle.record_spec.specs.Laws.Read.{read-in}
 use Rattle.step_spec.specs.declared.StepAnswer.{StepAnswer}
 use Rattle.step_spec.specs.StepAnswer.{StepAnswered}
 use Rattle.joguyvi_spec.specs.Buffers.{bufferCause}
-use Rattle.joguyvi_spec.specs.Steps.{payoffRead, stepBuffers, StepPost, StepCall}
+use Rattle.joguyvi_spec.specs.Steps.{payoffRead, stepBuffers, StepBuffersPost, StepCall}
 use Rattle.joguyvi_spec.specs.Laws.Buffers.{buffer-size, unfilled}
 use Rattle.joguyvi_spec.specs.Laws.Causes.{stopped-number, passed-number}
 use Rattle.joguyvi_spec.specs.Laws.Steps.{step-call}
@@ -38,7 +38,7 @@ module _ (high : Bool) (bytes payoff : List ℕ) (class : ℕ) (figure row : Lis
       }
 
   pub step-passed : {numbers : List ℕ} {answer : StepAnswer} {n : ℕ} {figure′ row′ : List ℕ} → a .number ≡ 0 → numbers ≡ payoffRead payoff
-      → StepAnswered high (a .scheme) numbers class answer → StepPost answer payoff figure row n figure′ row′
+      → StepAnswered high (a .scheme) numbers class answer → StepBuffersPost answer payoff figure row n figure′ row′
       → StepCall high bytes payoff class figure row n figure′ row′
   step-passed {numbers} {answer} none same step put =
       let found : StepAnswered high (schemeIn version1 bytes) (payoffRead payoff) class answer =

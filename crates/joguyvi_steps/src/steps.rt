@@ -8,7 +8,7 @@ ghost use lib.ListN.{getD};
 ghost use Rattle.scheme.specs.Cause.{orElse, sliceCause};
 ghost use Rattle.step_spec.specs.StepAnswer.{StepAnswered};
 ghost use Rattle.joguyvi_spec.specs.Buffers.{bufferCause};
-ghost use Rattle.joguyvi_spec.specs.Steps.{StepCall, StepPost, payoffRead};
+ghost use Rattle.joguyvi_spec.specs.Steps.{StepCall, StepBuffersPost, payoffRead};
 
 // The number at a place of a buffer, or 0 past its end.
 fn number_at(numbers: &[u64], place: usize) -> u64
@@ -43,7 +43,7 @@ fn buffers_cause(payoff: &[u64], figure: usize, row: usize) -> u8
 
 // Puts a step's figure into a buffer of 1 number and its row into one of 32, and answers the cause, or 0; the payoff was lent as `payoff`.
 fn put_step(answer: StepAnswer, payoff: &[u64], figure: &mut [u64], row: &mut [u64]) -> u8
-    ensures { λ r. ⌜ StepPost answer (now (payoff .entry)) (now (figure .entry)) (now (row .entry)) r (now (figure .exit)) (now (row .exit)) ⌝ }
+    ensures { λ r. ⌜ StepBuffersPost answer (now (payoff .entry)) (now (figure .entry)) (now (row .entry)) r (now (figure .exit)) (now (row .exit)) ⌝ }
 {
     let sizes = buffers_cause(payoff, figure.len(), row.len());
     let number = or_else(answer.number, sizes);

@@ -125,7 +125,7 @@ pub answer-made : (number base : ℕ) → readyCause number base ≡ 0 → ready
 unfolding readyAnswer
 answer-made number base e = rw e
 
-pub answer-none : (number base : ℕ) → (readyCause number base ≡ 0 → ⊥)
+pub answer-declined : (number base : ℕ) → (readyCause number base ≡ 0 → ⊥)
     → readyAnswer number base ≡ record { number = readyCause number base; scheme = noScheme }
 unfolding readyAnswer
-answer-none number base d = rw (ne-eqb (readyCause number base) 0 d)
+answer-declined number base d = rw (ne-eqb (readyCause number base) 0 d)

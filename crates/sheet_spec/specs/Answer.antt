@@ -22,25 +22,25 @@ unfoldable pub spaceFor : List ℕ → ℕ
 spaceFor bytes = cond (eqb (readCause bytes) 0) (spaceOf (schemeIn version1 bytes)) 11
 
 -- a text into a slice of at least `space` bytes: its length, and 13 for a shorter slice
-abbrev pub answerBy : (space : ℕ) (text out : List ℕ) → WriteAnswer
-answerBy space text out = cond (ltb (length out) space) (Declined 13) (Written (length text))
+abbrev pub textAnswer : (space : ℕ) (text out : List ℕ) → WriteAnswer
+textAnswer space text out = cond (ltb (length out) space) (Declined 13) (Written (length text))
 
 -- the text from the front on, and bytes past it unchanged; declined, all of them
-abbrev pub leavesBy : (space : ℕ) (text out : List ℕ) → List ℕ
-leavesBy space text out = cond (ltb (length out) space) out (text ++ drop (length text) out)
+abbrev pub textLeaves : (space : ℕ) (text out : List ℕ) → List ℕ
+textLeaves space text out = cond (ltb (length out) space) out (text ++ drop (length text) out)
 
 -- what is answered for a text that takes so much space, and what the slice holds afterwards
-pub record Told (space : ℕ) (text before after : List ℕ) (r : WriteAnswer) : Type 0 where
-  pub answer : r ≡ answerBy space text before
-  pub leaves : after ≡ leavesBy space text before
+pub record TextAnswered (space : ℕ) (text before after : List ℕ) (r : WriteAnswer) : Type 0 where
+  pub answer : r ≡ textAnswer space text before
+  pub leaves : after ≡ textLeaves space text before
 
 -- the answer for any bytes
 unfoldable pub sheetAnswer : List ℕ → List ℕ → WriteAnswer
-sheetAnswer bytes out = answerBy (spaceFor bytes) (sheetText bytes) out
+sheetAnswer bytes out = textAnswer (spaceFor bytes) (sheetText bytes) out
 
 -- the slice after it
 unfoldable pub sheetLeaves : List ℕ → List ℕ → List ℕ
-sheetLeaves bytes out = leavesBy (spaceFor bytes) (sheetText bytes) out
+sheetLeaves bytes out = textLeaves (spaceFor bytes) (sheetText bytes) out
 
 -- what the answer promises: the first bytes of the slice, as many as it says, are the sheet of all the bytes
 abbrev pub TextPromise : (bytes after : List ℕ) → WriteAnswer → Type 0

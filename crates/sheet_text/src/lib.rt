@@ -5,7 +5,7 @@ ghost use mathlib.Core.Path.{_≡_};
 ghost use Prim.Native.Nat.{_≤_};
 ghost use Rattle.scheme.specs.Accepted.{Accepted};
 ghost use Rattle.sheet_spec.specs.Sheet.{refusedLine, sheetOf};
-ghost use Rattle.sheet_spec.specs.Answer.{spaceOf, Told, sheetAnswer, sheetLeaves, TextPromise};
+ghost use Rattle.sheet_spec.specs.Answer.{spaceOf, TextAnswered, sheetAnswer, sheetLeaves, TextPromise};
 
 mod lines;
 mod tables;
@@ -16,7 +16,7 @@ mod years;
 // Writes the line of a refusal.
 fn refused(out: &mut [u8], number: u8) -> WriteAnswer
     requires { ⌜ number ≤ 99 ⌝ }
-    ensures { λ r. ⌜ Told 11 (refusedLine number) (now (out .entry)) (now (out .exit)) r ⌝ }
+    ensures { λ r. ⌜ TextAnswered 11 (refusedLine number) (now (out .entry)) (now (out .exit)) r ⌝ }
 {
     if out.len() < 11 {
         return WriteAnswer::Declined(scheme::SLICE_OUT);
@@ -27,7 +27,7 @@ fn refused(out: &mut [u8], number: u8) -> WriteAnswer
 // Writes the sheet of an accepted scheme.
 fn accepted(out: &mut [u8], scheme: Scheme) -> WriteAnswer
     requires { ⌜ Accepted scheme ⌝ }
-    ensures { λ r. ⌜ Told (spaceOf scheme) (sheetOf scheme) (now (out .entry)) (now (out .exit)) r ⌝ }
+    ensures { λ r. ⌜ TextAnswered (spaceOf scheme) (sheetOf scheme) (now (out .entry)) (now (out .exit)) r ⌝ }
 {
     let years = (scheme.horizon as usize) + 1;
     let space = 19 + years * ((scheme.classes as usize) * 40 + 35) + 28;

@@ -1,7 +1,7 @@
 -- `accepted` meets its contract: declined for want of space, or the sheet.
 use native.Mathlib.Omega.{arith}
 use Rattle.sheet_spec.specs.Laws.Space.{sheet-within, space-at-most, space-coded}
-use Rattle.sheet_text.specs.Laws.Answer.{told-declined, told-written, told-space}
+use Rattle.sheet_text.specs.Laws.Answer.{answered-declined, answered-written, answered-space}
 use borrow.Author.Needs.{needs}
 use Rattle.sheet_text.proofs.accepted.Statement.{statement}
 use Rattle.sheet_text.proofs.accepted.Tie as tie
@@ -39,12 +39,12 @@ add-space-3 c =
 returns : tie.Need-returns
 returns c =
     let start = c .before .before .before .before in
-    told-declined (omega (arith, space-coded (start .args .scheme) (start .pre)))
+    answered-declined (omega (arith, space-coded (start .args .scheme) (start .pre)))
 
 put-sheet-requires : tie.Need-put-sheet-requires
 put-sheet-requires c κs =
     let start = c .before .before .before .before .before in
-    (told-space (omega (arith, space-coded (start .args .scheme) (start .pre))) (sheet-within (start .args .scheme) (start .pre) .fits), start .pre)
+    (answered-space (omega (arith, space-coded (start .args .scheme) (start .pre))) (sheet-within (start .args .scheme) (start .pre) .fits), start .pre)
 
 same-length : tie.Need-same-length
 same-length c = search needs
@@ -53,7 +53,7 @@ returns-2 : tie.Need-returns-2
 returns-2 c =
     let at-put-sheet = c .before .before in
     let start = at-put-sheet .before .before .before .before .before .before in
-    told-written (omega (arith, space-coded (start .args .scheme) (start .pre))) (sheet-within (start .args .scheme) (start .pre) .fits) (at-put-sheet .put-sheet .ensures)
+    answered-written (omega (arith, space-coded (start .args .scheme) (start .pre))) (sheet-within (start .args .scheme) (start .pre) .fits) (at-put-sheet .put-sheet .ensures)
 
 pub accepted-spec : {M : Type 1} → statement M
 accepted-spec =

@@ -20,23 +20,23 @@ use Rattle.record_spec.specs.declared.WriteAnswer.the-variants.{Written, Declin
 use Rattle.sheet_spec.specs.Sheet.{sheetOf, refusedLine, sheetText}
 use Rattle.sheet_text.specs.Put.{Space, Put}
 use Rattle.record_spec.specs.Write.{writeNumber, writtenLength}
-use Rattle.sheet_spec.specs.Answer.{spaceOf, spaceFor, Told, sheetAnswer, sheetLeaves, TextPromise}
+use Rattle.sheet_spec.specs.Answer.{spaceOf, spaceFor, TextAnswered, sheetAnswer, sheetLeaves, TextPromise}
 use Rattle.sheet_spec.specs.Laws.Space.{text-accepted, space-accepted, text-refused, space-refused, text-kept}
 
 -- a slice that is too short, and one that is not
-pub told-declined : {space : ℕ} {text out : List ℕ} → length out < space → Told space text out out (Declined 13)
-told-declined {space} {text} {out} short = record { answer = rw (lt-ltb (length out) space short); leaves = rw (lt-ltb (length out) space short) }
+pub answered-declined : {space : ℕ} {text out : List ℕ} → length out < space → TextAnswered space text out out (Declined 13)
+answered-declined {space} {text} {out} short = record { answer = rw (lt-ltb (length out) space short); leaves = rw (lt-ltb (length out) space short) }
 
-pub told-written : {space : ℕ} {text out after : List ℕ} {to : ℕ} → space ≤ length out → length text ≤ space → Put out 0 text after to → Told space text out after (Written to)
-told-written {space} {text} {out} {after} {to} enough fits p =
+pub answered-written : {space : ℕ} {text out after : List ℕ} {to : ℕ} → space ≤ length out → length text ≤ space → Put out 0 text after to → TextAnswered space text out after (Written to)
+answered-written {space} {text} {out} {after} {to} enough fits p =
     let place : to ≡ length text = omega (arith, p .place) in
     record {
       answer = rw (le-ltb (length out) space enough, place);
       leaves = rw (le-ltb (length out) space enough) (p .holds ∙ sets-front out text (omega arith));
     }
 
-pub told-space : {space : ℕ} {text out : List ℕ} → space ≤ length out → length text ≤ space → Space out 0 text
-told-space enough fits = record { fits = omega arith }
+pub answered-space : {space : ℕ} {text out : List ℕ} → space ≤ length out → length text ≤ space → Space out 0 text
+answered-space enough fits = record { fits = omega arith }
 
 -- any bytes
 module _ (bytes : List ℕ) where
@@ -48,14 +48,14 @@ module _ (bytes : List ℕ) where
   keeps out e f = (e, (f, rw (e, f) (text-kept bytes out)))
 
   -- the answer for bytes with a cause, and without
-  pub sheet-refused : {n : ℕ} {out after : List ℕ} {r : WriteAnswer} → n ≡ readCause bytes → (n ≡ 0 → ⊥) → Told 11 (refusedLine n) out after r
+  pub sheet-refused : {n : ℕ} {out after : List ℕ} {r : WriteAnswer} → n ≡ readCause bytes → (n ≡ 0 → ⊥) → TextAnswered 11 (refusedLine n) out after r
       → Ensured out after r
   unfolding sheetAnswer sheetLeaves
   sheet-refused {out = out} e some told =
       let cause : readCause bytes ≡ 0 → ⊥ = λ z. some (e ∙ z) in
       keeps out (rw (text-refused bytes cause, space-refused bytes cause, ← e) (told .answer)) (rw (text-refused bytes cause, space-refused bytes cause, ← e) (told .leaves))
 
-  pub sheet-accepted : {s : Scheme} {out after : List ℕ} {r : WriteAnswer} → readCause bytes ≡ 0 → s ≡ schemeIn version1 bytes → Told (spaceOf s) (sheetOf s) out after r
+  pub sheet-accepted : {s : Scheme} {out after : List ℕ} {r : WriteAnswer} → readCause bytes ≡ 0 → s ≡ schemeIn version1 bytes → TextAnswered (spaceOf s) (sheetOf s) out after r
       → Ensured out after r
   unfolding sheetAnswer sheetLeaves
   sheet-accepted {out = out} none e told =
