@@ -24,7 +24,7 @@ fn checksum_of(figures: &[u64]) -> u64 {
 }
 
 // Whether a call was answered, or the number of its cause.
-fn told(cause: u8) {
+fn show_cause(cause: u8) {
     if cause == 0 {
         console::bytes(b" OK");
     } else {
@@ -34,7 +34,7 @@ fn told(cause: u8) {
 
 // Two figures or the cause, and the end of the line.
 fn pair(cause: u8, low: u64, high: u64) {
-    told(cause);
+    show_cause(cause);
     if cause == 0 {
         console::number(low);
         console::number(high);
@@ -132,7 +132,7 @@ fn wrote(answer: WriteAnswer) -> usize {
             length
         }
         WriteAnswer::Declined(cause) => {
-            told(cause);
+            show_cause(cause);
             0
         }
     }
@@ -233,7 +233,7 @@ fn of_class(scheme: Scheme, number: u64, class: u64) {
 // A share sheet into two slices.
 fn share_sheet(scheme: Scheme, year: u64, low: &mut [u64], high: &mut [u64]) {
     console::word(b"SHARES", year);
-    told(bounds::share_sheet(scheme, year, low, high));
+    show_cause(bounds::share_sheet(scheme, year, low, high));
     console::number(checksum_of(low));
     console::number(checksum_of(high));
     console::end();
@@ -301,7 +301,7 @@ fn one(number: u64, bytes: &[u8]) {
     console::word(b"RECORD", number);
     console::number(bytes.len() as u64);
     let read = record::read(bytes);
-    told(read.number);
+    show_cause(read.number);
     console::end();
     rules(bytes, 0);
     rules(bytes, 1);
@@ -342,7 +342,7 @@ fn ready(number: u64, base: u64) {
     if answer.number == 0 {
         of_ready(answer.scheme);
     } else {
-        told(answer.number);
+        show_cause(answer.number);
         console::end();
     }
 }

@@ -7,7 +7,7 @@ use Rattle.record_spec.specs.Frame.{Framed}
 use Rattle.record_spec.specs.Reader.{stored}
 use Rattle.record_spec.specs.Laws.Read.{read-framed}
 use Rattle.big_endian_spec.specs.Laws.{read-held}
-use Rattle.record_parts.specs.Laws.Reader.{told, stored-read, band-within, answer-none, answer-ends}
+use Rattle.record_parts.specs.Laws.Reader.{band-answered, stored-read, band-within, answer-none, answer-ends}
 use borrow.Author.Needs.{needs}
 use Rattle.record_parts.proofs.band_at.Statement.{statement}
 use Rattle.record_parts.proofs.band_at.Tie as tie
@@ -23,7 +23,7 @@ framed : (c : tie.Else1) → Framed (c .before .before .before .args .bytes .now
 framed c = read-framed _ (stored-read _ _ (stood c))
 
 returns : tie.Need-returns
-returns c = told _ _ (answer-none _ _ (sym (c .before .stored .ensures) ∙ not-true (c .before .stored .result) (c .if1 .taken)))
+returns c = band-answered _ _ (answer-none _ _ (sym (c .before .stored .ensures) ∙ not-true (c .before .stored .result) (c .if1 .taken)))
 
 shared-slice-read-classes : tie.Need-shared-slice-read-classes
 shared-slice-read-classes c = omega (arith, framed (c .before) .header)
@@ -63,7 +63,7 @@ returns-2 c =
     let stands = c .before .before .before .before in
     let start = stands .before .before .before .args in
     let within = band-within (start .bytes .now) (start .column) (stood stands) in
-    told _ _
+    band-answered _ _
     (answer-ends _ _
     (c .before .number-at .ensures ∙ read-held 4 (start .bytes .now) _ (omega arith) (omega (arith, within)))
     (c .number-at2 .ensures ∙ read-held 4 (start .bytes .now) _ (omega arith) (omega (arith, within))) (stood stands))

@@ -41,7 +41,7 @@ use denote.Triple.Clauses.{ensured, lasts}
 use denote.Exit.{yes}
 use Rattle.record_spec.specs.Read.{readCause}
 use Rattle.record_spec.specs.Reader.{bandAt, BandAnswered, openPart}
-use Rattle.record_parts.specs.Laws.Reader.{told, part-answer}
+use Rattle.record_parts.specs.Laws.Reader.{band-answered, part-answer}
 use Rattle.record_spec.specs.declared.Band.{Band}
 use Rattle.record_parts.specs.declared.Reader.{Reader}
 use Rattle.record_parts.specs.declared.Opened.{Opened}
@@ -88,7 +88,7 @@ module _ {M : Type 1} (𝓤 : URA M) (H : Heap 𝓤) (A : Atoms 𝓤) (W : Given
   -- the answer is that at column 0 of the record
   answers-first : (r : Opened) (t : Band) (g′ : Reader) → Is-open r → Is-next (r .reader) t g′ → BandAnswered (now s) 0 t
   answers-first r t g′ e e′ =
-      told (now s) 0 (e′ .0 .answer ∙ ap (λ l. bandAt l (r .reader .at)) (e .1) ∙ ap (bandAt (openPart (now s))) (e .3) ∙ part-answer (now s) 0)
+      band-answered (now s) 0 (e′ .0 .answer ∙ ap (λ l. bandAt l (r .reader .at)) (e .1) ∙ ap (bandAt (openPart (now s))) (e .3) ∙ part-answer (now s) 0)
 
   exits : (t : Band) (u : Val) → BandAnswered (now s) 0 t → ent 𝓤 (⋆ 𝓤 H A (‵ (OwnB t u) ∷ Token κ q ∷ ‵ (Own κ s) ∷ [])) (Post u)
   exits t u e =

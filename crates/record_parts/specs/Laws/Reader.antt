@@ -38,9 +38,9 @@ second-fails true b e = e
 second-fails false b e = refl
 
 -- the answer's number and values follow from the answer
-pub told : (bytes : List ℕ) (cursor : ℕ) {b : Band} → b ≡ bandAt bytes cursor → BandAnswered bytes cursor b
+pub band-answered : (bytes : List ℕ) (cursor : ℕ) {b : Band} → b ≡ bandAt bytes cursor → BandAnswered bytes cursor b
 unfolding bandAt
-told bytes cursor e = record { answer = e; number = ap handedOut e ∙ number (stored bytes cursor); ends = ap endsOf e ∙ ends (stored bytes cursor) }
+band-answered bytes cursor e = record { answer = e; number = ap handedOut e ∙ number (stored bytes cursor); ends = ap endsOf e ∙ ends (stored bytes cursor) }
   where
     number : (is : Bool) → handedOut (cond is (bandIn bytes cursor) NoMore) ≡ cond is 1 0
     number true = refl

@@ -51,15 +51,15 @@ module _ (bytes : List ℕ) where
   pub sheet-refused : {n : ℕ} {out after : List ℕ} {r : WriteAnswer} → n ≡ readCause bytes → (n ≡ 0 → ⊥) → TextAnswered 11 (refusedLine n) out after r
       → Ensured out after r
   unfolding sheetAnswer sheetLeaves
-  sheet-refused {out = out} e some told =
+  sheet-refused {out = out} e some answered =
       let cause : readCause bytes ≡ 0 → ⊥ = λ z. some (e ∙ z) in
-      keeps out (rw (text-refused bytes cause, space-refused bytes cause, ← e) (told .answer)) (rw (text-refused bytes cause, space-refused bytes cause, ← e) (told .leaves))
+      keeps out (rw (text-refused bytes cause, space-refused bytes cause, ← e) (answered .answer)) (rw (text-refused bytes cause, space-refused bytes cause, ← e) (answered .leaves))
 
   pub sheet-accepted : {s : Scheme} {out after : List ℕ} {r : WriteAnswer} → readCause bytes ≡ 0 → s ≡ schemeIn version1 bytes → TextAnswered (spaceOf s) (sheetOf s) out after r
       → Ensured out after r
   unfolding sheetAnswer sheetLeaves
-  sheet-accepted {out = out} none e told =
-      keeps out (rw (text-accepted bytes none, space-accepted bytes none, ← e) (told .answer)) (rw (text-accepted bytes none, space-accepted bytes none, ← e) (told .leaves))
+  sheet-accepted {out = out} none e answered =
+      keeps out (rw (text-accepted bytes none, space-accepted bytes none, ← e) (answered .answer)) (rw (text-accepted bytes none, space-accepted bytes none, ← e) (answered .leaves))
 
   -- the number and the value of the answer
   pub answer-written : (out : List ℕ) → spaceFor bytes ≤ length out → (writeNumber (sheetAnswer bytes out) ≡ 0) × (writtenLength (sheetAnswer bytes out) ≡ length (sheetText bytes))
