@@ -4,23 +4,20 @@ use Prim.Native.Nat.{ℕ, _+_, _-_, _*_, _≤_, _<_}
 use mathlib.Core.Path.{_≡_, refl, ap, ap₂, _∙_}
 use mathlib.Core.Logic.{_⊎_, inl, inr, ⊎-elim}
 use mathlib.Core.List.{List}
-use native.Mathlib.Decide.{ℕ-discrete}
+use native.Mathlib.Decide.{ℕ-discrete, decLt}
 use native.Mathlib.Omega.{arith}
 use lib.Dec.{eqb}
 use lib.ListN.{length, set, length-set}
 use lib.Seq.{getD-set-same, getD-set-other}
 use borrow.Author.Count.{below-none, below-more}
 use Rattle.setchain.specs.Sums.{onlyIf}
-use Rattle.setchain.specs.Rows.{ONE}
+use Rattle.setchain.specs.Rows.{ONE, IntervalRow}
+use Rattle.setchain.specs.Step.{capacity}
 use Rattle.setchain.specs.Laws.Sums.{sumTo-eq, onlyIf-zero, sumTo-more}
 use Rattle.step.specs.Lists.{at}
-use Rattle.bounds.specs.Entries.{lowerEnds, capacities, counts, sumOf, AddRowPre, AddRowPost}
+use Rattle.bounds.specs.Entries.{lowerEnds, capacities, counts, sumOf, listSum, AddRowPre, AddRowPost}
 
--- what list k has for row q
-abbrev pub listSum : List ℕ → ℕ → ℕ → ℕ → ℕ
-listSum entries ends k q = sumOf entries ends (k * 32) (at entries (counts + k)) q
-
--- two tables that differ in one entry, and in no other of the same ends
+-- the lists before and after one entry is stored, of the lower ends or of the capacities
 record Stored (entries entries′ : List ℕ) (ends place a v : ℕ) : Type 0 where
   row : at entries′ place ≡ a
   end : at entries′ (ends + place) ≡ v
@@ -43,12 +40,12 @@ store-after first count q w f =
     (store-outside w first count q (omega arith) (λ e l z. omega arith))
     (ap₂ (λ x y. onlyIf (eqb x q) y) (w .row) (w .end))
 
--- the table with an entry of row i more at a place, and a count that says so
-abbrev pub listed : List ℕ → (place i low capacity j count : ℕ) → List ℕ
-listed entries place i low capacity j count =
-    set (set (set (set entries place i) (lowerEnds + place) low) (capacities + place) capacity) (counts + j) count
+-- the lists with an entry of row i more at a place, and a count that says so
+abbrev pub listed : List ℕ → (place i low rise j count : ℕ) → List ℕ
+listed entries place i low rise j count =
+    set (set (set (set entries place i) (lowerEnds + place) low) (capacities + place) rise) (counts + j) count
 
-module _ (entries : List ℕ) (size : length entries ≡ 3104) (place i low capacity j count : ℕ) (p : place < 1024) (q : j < 32) where
+module _ (entries : List ℕ) (size : length entries ≡ 3104) (place i low rise j count : ℕ) (p : place < 1024) (q : j < 32) where
   abbrev first : List ℕ
   first = set entries place i
 
@@ -56,7 +53,7 @@ module _ (entries : List ℕ) (size : length entries ≡ 3104) (place i low capa
   second = set first (lowerEnds + place) low
 
   abbrev third : List ℕ
-  third = set second (capacities + place) capacity
+  third = set second (capacities + place) rise
 
   first-size : length first ≡ 3104
   first-size = length-set entries place i ∙ size
@@ -65,210 +62,197 @@ module _ (entries : List ℕ) (size : length entries ≡ 3104) (place i low capa
   second-size = length-set first (lowerEnds + place) low ∙ first-size
 
   third-size : length third ≡ 3104
-  third-size = length-set second (capacities + place) capacity ∙ second-size
+  third-size = length-set second (capacities + place) rise ∙ second-size
 
-  listed-size : length (listed entries place i low capacity j count) ≡ 3104
+  listed-size : length (listed entries place i low rise j count) ≡ 3104
   listed-size = length-set third (counts + j) count ∙ third-size
 
-  listed-count : at (listed entries place i low capacity j count) (counts + j) ≡ count
+  listed-count : at (listed entries place i low rise j count) (counts + j) ≡ count
   listed-count = getD-set-same third (counts + j) count 0 (omega (arith, third-size))
 
   -- what stands at no place of this entry
   listed-other : (e : ℕ) → (e ≡ place → ⊥) → (e ≡ lowerEnds + place → ⊥) → (e ≡ capacities + place → ⊥) → (e ≡ counts + j → ⊥)
-      → at (listed entries place i low capacity j count) e ≡ at entries e
+      → at (listed entries place i low rise j count) e ≡ at entries e
   listed-other e a b c d =
       getD-set-other third (counts + j) e count 0 d
-      ∙ getD-set-other second (capacities + place) e capacity 0 c
+      ∙ getD-set-other second (capacities + place) e rise 0 c
       ∙ getD-set-other first (lowerEnds + place) e low 0 b
       ∙ getD-set-other entries place e i 0 a
 
-  listed-row : at (listed entries place i low capacity j count) place ≡ i
+  listed-row : at (listed entries place i low rise j count) place ≡ i
   listed-row =
       getD-set-other third (counts + j) place count 0 (λ z. omega arith)
-      ∙ getD-set-other second (capacities + place) place capacity 0 (λ z. omega arith)
+      ∙ getD-set-other second (capacities + place) place rise 0 (λ z. omega arith)
       ∙ getD-set-other first (lowerEnds + place) place low 0 (λ z. omega arith)
       ∙ getD-set-same entries place i 0 (omega arith)
 
-  listed-lows : Stored entries (listed entries place i low capacity j count) lowerEnds place i low
-  listed-lows =
+  listed-lower : Stored entries (listed entries place i low rise j count) lowerEnds place i low
+  listed-lower =
       record {
         row = listed-row;
         end =
             getD-set-other third (counts + j) (lowerEnds + place) count 0 (λ z. omega arith)
-            ∙ getD-set-other second (capacities + place) (lowerEnds + place) capacity 0 (λ z. omega arith)
+            ∙ getD-set-other second (capacities + place) (lowerEnds + place) rise 0 (λ z. omega arith)
             ∙ getD-set-same first (lowerEnds + place) low 0 (omega (arith, first-size));
         rows = λ e l d. listed-other e d (λ z. omega arith) (λ z. omega arith) (λ z. omega arith);
         others = λ e l d. listed-other (lowerEnds + e) (λ z. omega arith) (λ z. d (omega arith)) (λ z. omega arith) (λ z. omega arith);
       }
 
-  listed-capacities : Stored entries (listed entries place i low capacity j count) capacities place i capacity
-  listed-capacities =
+  listed-capacity : Stored entries (listed entries place i low rise j count) capacities place i rise
+  listed-capacity =
       record {
         row = listed-row;
         end =
             getD-set-other third (counts + j) (capacities + place) count 0 (λ z. omega arith)
-            ∙ getD-set-same second (capacities + place) capacity 0 (omega (arith, second-size));
+            ∙ getD-set-same second (capacities + place) rise 0 (omega (arith, second-size));
         rows = λ e l d. listed-other e d (λ z. omega arith) (λ z. omega arith) (λ z. omega arith);
         others = λ e l d. listed-other (capacities + e) (λ z. omega arith) (λ z. omega arith) (λ z. d (omega arith)) (λ z. omega arith);
       }
 
--- the lists at state j: those of the states passed have the row's entries, the others what they had
-pub record Adding (lower upper : List ℕ) (i : ℕ) (entries entries′ : List ℕ) (j : ℕ) : Type 0 where
-  pub table : length entries′ ≡ 3104
-  pub inside : j ≤ length upper
-  pub within : (e : ℕ) → e < 1024 → at entries′ e < length upper
-  pub short : (k : ℕ) → k < j → at entries′ (counts + k) ≤ i + 1
-  pub lowers : (k : ℕ) → k < j → (q : ℕ) → listSum entries′ lowerEnds k q ≡ listSum entries lowerEnds k q + onlyIf (eqb i q) (at lower k)
-  pub rises : (k : ℕ) → k < j → (q : ℕ)
-      → listSum entries′ capacities k q ≡ listSum entries capacities k q + onlyIf (eqb i q) (at upper k - at lower k)
-  pub shortLater : (k : ℕ) → j ≤ k → k < length upper → at entries′ (counts + k) ≤ i
-  pub lowersLater : (k : ℕ) → j ≤ k → k < length upper → (q : ℕ) → listSum entries′ lowerEnds k q ≡ listSum entries lowerEnds k q
-  pub risesLater : (k : ℕ) → j ≤ k → k < length upper → (q : ℕ) → listSum entries′ capacities k q ≡ listSum entries capacities k q
+-- what the lists have at state j, of the lower ends or of the capacities: those of the states passed the row's ends more, the others what they had
+pub record Sums (n : ℕ) (v : ℕ → ℕ) (i ends : ℕ) (entries entries′ : List ℕ) (j : ℕ) : Type 0 where
+  pub passed : (k : ℕ) → k < j → (q : ℕ) → listSum entries′ ends k q ≡ listSum entries ends k q + onlyIf (eqb i q) (v k)
+  pub later : (k : ℕ) → j ≤ k → k < n → (q : ℕ) → listSum entries′ ends k q ≡ listSum entries ends k q
 
-module _ {lower upper : List ℕ} {i : ℕ} {entries : List ℕ} (able : AddRowPre lower upper i entries) where
-  pub adding-none : Adding lower upper i entries entries 0
+sums-none : {n : ℕ} {v : ℕ → ℕ} {i ends : ℕ} {entries : List ℕ} → Sums n v i ends entries entries 0
+sums-none = record { passed = below-none _; later = λ k h l q. refl }
+
+-- a state to which the row has no entry
+sums-skip : {n : ℕ} {v : ℕ → ℕ} {i ends : ℕ} {entries entries′ : List ℕ} {j : ℕ} → j < n → v j ≡ 0
+    → Sums n v i ends entries entries′ j → Sums n v i ends entries entries′ (j + 1)
+sums-skip {v = v} {i = i} {j = j} here z w =
+    record {
+      passed = below-more _ j (w .passed) (λ q. omega (arith, w .later j (omega arith) here q, ap (onlyIf (eqb i q)) z, onlyIf-zero (eqb i q)));
+      later = λ k h l. w .later k (omega arith) l;
+    }
+
+-- the lists at state j: those of the states passed have the row's entries, the others what they had
+pub record Adding (n : ℕ) (r : IntervalRow) (i : ℕ) (entries entries′ : List ℕ) (j : ℕ) : Type 0 where
+  pub size : length entries′ ≡ 3104
+  pub inside : j ≤ n
+  pub rows : (e : ℕ) → e < 1024 → at entries′ e < n
+  pub short : (k : ℕ) → k < j → at entries′ (counts + k) ≤ i + 1
+  pub shortLater : (k : ℕ) → j ≤ k → k < n → at entries′ (counts + k) ≤ i
+  pub lowers : Sums n (r .lower) i lowerEnds entries entries′ j
+  pub rises : Sums n (capacity r) i capacities entries entries′ j
+
+module _ {n : ℕ} {r : IntervalRow} {i : ℕ} {entries : List ℕ} (able : AddRowPre n r i entries) where
+  pub adding-none : Adding n r i entries entries 0
   adding-none =
       record {
-        table = able .table;
+        size = able .lists .size;
         inside = omega arith;
-        within = able .within;
+        rows = able .lists .rows;
         short = below-none _;
-        lowers = below-none _;
-        rises = below-none _;
-        shortLater = λ k h l. able .short k l;
-        lowersLater = λ k h l q. refl;
-        risesLater = λ k h l q. refl;
+        shortLater = λ k h l. able .lists .short k l;
+        lowers = sums-none;
+        rises = sums-none;
       }
 
-  module _ {entries′ : List ℕ} {j : ℕ} (w : Adding lower upper i entries entries′ j) (here : j < length upper) where
+  module _ {entries′ : List ℕ} {j : ℕ} (w : Adding n r i entries entries′ j) (here : j < n) where
     -- the list of state j has a free place, and the entry fits
-    pub adding-here : (at entries′ (counts + j) ≤ i) × (i < 32) × (j < 32) × (at lower j ≤ at upper j) × (at upper j ≤ ONE) × (j < length lower)
-    adding-here =
-        omega (
-          arith,
-          w .shortLater j (omega arith) here,
-          able .inside,
-          able .few,
-          able .ordered j here,
-          able .capped j here,
-          able .size,
-        )
+    pub adding-here : (at entries′ (counts + j) ≤ i) × (i < 32) × (j < 32) × (r .lower j ≤ r .upper j) × (r .upper j ≤ ONE)
+    adding-here = omega (arith, w .shortLater j (omega arith) here, able .inside, able .states, able .sound .ordered j here, able .sound .capped j here)
 
     -- no entry of this row
-    pub adding-skip : at upper j ≡ 0 → Adding lower upper i entries entries′ (j + 1)
+    pub adding-skip : r .upper j ≡ 0 → Adding n r i entries entries′ (j + 1)
     adding-skip e =
         record {
-          table = w .table;
+          size = w .size;
           inside = omega arith;
-          within = w .within;
+          rows = w .rows;
           short = below-more _ j (w .short) (omega (arith, w .shortLater j (omega arith) here));
-          lowers = below-more _ j (w .lowers) (λ q. nothing (at lower j) (omega (arith, able .ordered j here)) q (w .lowersLater j (omega arith) here q));
-          rises = below-more _ j (w .rises) (λ q. nothing (at upper j - at lower j) (omega arith) q (w .risesLater j (omega arith) here q));
           shortLater = λ k h l. w .shortLater k (omega arith) l;
-          lowersLater = λ k h l. w .lowersLater k (omega arith) l;
-          risesLater = λ k h l. w .risesLater k (omega arith) l;
+          lowers = sums-skip here (omega (arith, able .sound .ordered j here)) (w .lowers);
+          rises = sums-skip here (omega arith) (w .rises);
         }
-      where
-        nothing : (v : ℕ) → v ≡ 0 → (q : ℕ) {x y : ℕ} → x ≡ y → x ≡ y + onlyIf (eqb i q) v
-        nothing v z q g = omega (arith, ap (onlyIf (eqb i q)) z, onlyIf-zero (eqb i q))
 
     -- an entry of this row, with its ends
-    place : ℕ
+    abbrev place : ℕ
     place = j * 32 + at entries′ (counts + j)
 
-    abbrev after : List ℕ
-    after = listed entries′ (j * 32 + at entries′ (counts + j)) i (at lower j) (at upper j - at lower j) j (at entries′ (counts + j) + 1)
+    abbrev pub added : List ℕ
+    added = listed entries′ (j * 32 + at entries′ (counts + j)) i (r .lower j) (capacity r j) j (at entries′ (counts + j) + 1)
 
     place-inside : place < 1024
-    unfolding place
     place-inside = omega (arith, adding-here)
 
-    count-inside : j < 32
-    count-inside = adding-here .2
+    counted : at added (counts + j) ≡ at entries′ (counts + j) + 1
+    counted = listed-count entries′ (w .size) place i (r .lower j) (capacity r j) j (at entries′ (counts + j) + 1) place-inside (adding-here .2)
 
-    counted : at after (counts + j) ≡ at entries′ (counts + j) + 1
-    unfolding place
-    counted = listed-count entries′ (w .table) place i (at lower j) (at upper j - at lower j) j (at entries′ (counts + j) + 1) place-inside count-inside
-
-    uncounted : (k : ℕ) → (k < j) ⊎ (j < k) → at after (counts + k) ≡ at entries′ (counts + k)
-    unfolding place
+    uncounted : (k : ℕ) → (k < j) ⊎ (j < k) → at added (counts + k) ≡ at entries′ (counts + k)
     uncounted k h =
-        listed-other entries′ (w .table) place i (at lower j) (at upper j - at lower j) j (at entries′ (counts + j) + 1) place-inside count-inside (counts + k)
+        listed-other entries′ (w .size) place i (r .lower j) (capacity r j) j (at entries′ (counts + j) + 1) place-inside (adding-here .2) (counts + k)
         (λ e. omega (arith, place-inside))
         (λ e. omega (arith, place-inside))
         (λ e. omega (arith, place-inside))
         (λ e. ⊎-elim (λ l. omega arith) (λ l. omega arith) h)
 
-    low-stored : Stored entries′ after lowerEnds (j * 32 + at entries′ (counts + j)) i (at lower j)
-    unfolding place
-    low-stored = listed-lows entries′ (w .table) place i (at lower j) (at upper j - at lower j) j (at entries′ (counts + j) + 1) place-inside count-inside
+    lower-stored : Stored entries′ added lowerEnds place i (r .lower j)
+    lower-stored = listed-lower entries′ (w .size) place i (r .lower j) (capacity r j) j (at entries′ (counts + j) + 1) place-inside (adding-here .2)
 
-    capacity-stored : Stored entries′ after capacities (j * 32 + at entries′ (counts + j)) i (at upper j - at lower j)
-    unfolding place
-    capacity-stored = listed-capacities entries′ (w .table) place i (at lower j) (at upper j - at lower j) j (at entries′ (counts + j) + 1) place-inside count-inside
+    capacity-stored : Stored entries′ added capacities place i (capacity r j)
+    capacity-stored = listed-capacity entries′ (w .size) place i (r .lower j) (capacity r j) j (at entries′ (counts + j) + 1) place-inside (adding-here .2)
 
-    here-sum : (ends v q : ℕ) → Stored entries′ after ends (j * 32 + at entries′ (counts + j)) i v
-        → listSum after ends j q ≡ listSum entries′ ends j q + onlyIf (eqb i q) v
-    unfolding place
-    here-sum ends v q s =
-        ap (λ c. sumOf after ends (j * 32) c q) counted ∙ store-after (j * 32) (at entries′ (counts + j)) q s place-inside
-
-    other-sum : (ends v k q : ℕ) → Stored entries′ after ends (j * 32 + at entries′ (counts + j)) i v → k < 32 → at entries′ (counts + k) ≤ 32 → (k < j) ⊎ (j < k)
-        → listSum after ends k q ≡ listSum entries′ ends k q
-    other-sum ends v k q s m h d =
-        ap (λ c. sumOf after ends (k * 32) c q) (uncounted k d)
-        ∙ store-outside s (k * 32) (at entries′ (counts + k)) q (omega arith)
-        (λ e l z. ⊎-elim (λ g. omega (arith, adding-here)) (λ g. omega (arith, adding-here)) d)
-
-    entry-within : (e : ℕ) → e < 1024 → at after e < length upper
-    entry-within e l = by (ℕ-discrete e (j * 32 + at entries′ (counts + j)))
+    -- no list has more than 32 entries
+    short : (k : ℕ) → k < n → at entries′ (counts + k) ≤ 32
+    short k l = by (decLt k j)
       where
-        by : Dec (e ≡ j * 32 + at entries′ (counts + j)) → at after e < length upper
-        by (yes z) = omega (arith, ap (at after) z, low-stored .row, able .inside)
-        by (no ne) = omega (arith, low-stored .rows e l ne, w .within e l)
+        by : Dec (k < j) → at entries′ (counts + k) ≤ 32
+        by (yes g) = omega (arith, w .short k g, adding-here)
+        by (no g) = omega (arith, w .shortLater k (omega arith) l, adding-here)
 
-    below : (k : ℕ) → k < length upper → k < 32
-    below k l = omega (arith, able .few)
+    -- what the lists have with the entry stored
+    sums-more : (v : ℕ → ℕ) (ends : ℕ) → Stored entries′ added ends place i (v j) → Sums n v i ends entries entries′ j → Sums n v i ends entries added (j + 1)
+    sums-more v ends s t =
+        record {
+          passed =
+              below-more (λ k. (q : ℕ) → listSum added ends k q ≡ listSum entries ends k q + onlyIf (eqb i q) (v k)) j
+              (λ k l q. other k (omega arith) (inl l) q ∙ t .passed k l q)
+              (λ q. own q ∙ ap (λ x. x + onlyIf (eqb i q) (v j)) (t .later j (omega arith) here q));
+          later = λ k h l q. other k l (inr (omega arith)) q ∙ t .later k (omega arith) l q;
+        }
+      where
+        own : (q : ℕ) → listSum added ends j q ≡ listSum entries′ ends j q + onlyIf (eqb i q) (v j)
+        own q = ap (λ c. sumOf added ends (j * 32) c q) counted ∙ store-after (j * 32) (at entries′ (counts + j)) q s place-inside
 
-    pub adding-more : Adding lower upper i entries
-        (listed entries′ (j * 32 + at entries′ (counts + j)) i (at lower j) (at upper j - at lower j) j (at entries′ (counts + j) + 1))
-        (j + 1)
-    unfolding place
+        other : (k : ℕ) → k < n → (k < j) ⊎ (j < k) → (q : ℕ) → listSum added ends k q ≡ listSum entries′ ends k q
+        other k m d q =
+            ap (λ c. sumOf added ends (k * 32) c q) (uncounted k d)
+            ∙ store-outside s (k * 32) (at entries′ (counts + k)) q (omega (arith, short k m, able .states))
+            (λ e l z. ⊎-elim (λ g. omega (arith, short k m, adding-here)) (λ g. omega (arith, short k m, adding-here)) d)
+
+    entry-row : (e : ℕ) → e < 1024 → at added e < n
+    entry-row e l = by (ℕ-discrete e place)
+      where
+        by : Dec (e ≡ place) → at added e < n
+        by (yes z) = omega (arith, ap (at added) z, lower-stored .row, able .inside)
+        by (no ne) = omega (arith, lower-stored .rows e l ne, w .rows e l)
+
+    pub adding-more : Adding n r i entries added (j + 1)
     adding-more =
         record {
-          table = listed-size entries′ (w .table) place i (at lower j) (at upper j - at lower j) j (at entries′ (counts + j) + 1) place-inside count-inside;
+          size = listed-size entries′ (w .size) place i (r .lower j) (capacity r j) j (at entries′ (counts + j) + 1) place-inside (adding-here .2);
           inside = omega arith;
-          within = entry-within;
+          rows = entry-row;
           short =
-              below-more (λ k. at after (counts + k) ≤ i + 1) j
+              below-more (λ k. at added (counts + k) ≤ i + 1) j
               (λ k l. omega (arith, uncounted k (inl l), w .short k l))
               (omega (arith, counted, adding-here));
-          lowers =
-              below-more (λ k. (q : ℕ) → listSum after lowerEnds k q ≡ listSum entries lowerEnds k q + onlyIf (eqb i q) (at lower k)) j
-              (λ k l q. other-sum lowerEnds (at lower j) k q low-stored (below k (omega arith)) (omega (arith, w .short k l, adding-here)) (inl l) ∙ w .lowers k l q)
-              (λ q. here-sum lowerEnds (at lower j) q low-stored ∙ ap (λ x. x + onlyIf (eqb i q) (at lower j)) (w .lowersLater j (omega arith) here q));
-          rises =
-              below-more (λ k. (q : ℕ) → listSum after capacities k q ≡ listSum entries capacities k q + onlyIf (eqb i q) (at upper k - at lower k)) j
-              (λ k l q. other-sum capacities (at upper j - at lower j) k q capacity-stored (below k (omega arith)) (omega (arith, w .short k l, adding-here)) (inl l) ∙ w .rises k l q)
-              (λ q. here-sum capacities (at upper j - at lower j) q capacity-stored ∙ ap (λ x. x + onlyIf (eqb i q) (at upper j - at lower j)) (w .risesLater j (omega arith) here q));
           shortLater = λ k h l. omega (arith, uncounted k (inr (omega arith)), w .shortLater k (omega arith) l);
-          lowersLater = λ k h l q. other-sum lowerEnds (at lower j) k q low-stored (below k l) (omega (arith, w .shortLater k (omega arith) l, adding-here)) (inr (omega arith)) ∙ w .lowersLater k (omega arith) l q;
-          risesLater = λ k h l q. other-sum capacities (at upper j - at lower j) k q capacity-stored (below k l) (omega (arith, w .shortLater k (omega arith) l, adding-here)) (inr (omega arith)) ∙ w .risesLater k (omega arith) l q;
+          lowers = sums-more (r .lower) lowerEnds lower-stored (w .lowers);
+          rises = sums-more (capacity r) capacities capacity-stored (w .rises);
         }
 
--- the same of a table that is equal
-pub adding-as : {lower upper : List ℕ} {i : ℕ} {entries a a′ : List ℕ} {j : ℕ} → a′ ≡ a → Adding lower upper i entries a j → Adding lower upper i entries a′ j
+-- the same of lists that are equal
+pub adding-as : {n : ℕ} {r : IntervalRow} {i : ℕ} {entries a a′ : List ℕ} {j : ℕ} → a′ ≡ a → Adding n r i entries a j → Adding n r i entries a′ j
 adding-as e w = rw e w
 
 -- when all states are passed
-pub adding-all : {lower upper : List ℕ} {i : ℕ} {entries entries′ : List ℕ} {j : ℕ} → length upper ≤ j
-    → Adding lower upper i entries entries′ j
-    → AddRowPost lower upper i entries entries′
+pub adding-all : {n : ℕ} {r : IntervalRow} {i : ℕ} {entries entries′ : List ℕ} {j : ℕ} → n ≤ j → Adding n r i entries entries′ j → AddRowPost n r i entries entries′
 adding-all h w =
     record {
-      table = w .table;
-      within = w .within;
-      short = λ j l. w .short j (omega arith);
-      lowers = λ j k l. w .lowers j (omega arith) k;
-      rises = λ j k l. w .rises j (omega arith) k;
+      lists = record { size = w .size; rows = w .rows; short = λ j l. w .short j (omega arith) };
+      lowers = λ j k l. w .lowers .passed j (omega arith) k;
+      rises = λ j k l. w .rises .passed j (omega arith) k;
     }

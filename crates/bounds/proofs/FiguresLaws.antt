@@ -1,58 +1,37 @@
 -- The call for all figures: what a cause of 0 tells of its slices, and what it leaves in each case.
 -- Assumes nothing.
 use Prim.Native.Nat.{ℕ}
-use mathlib.Core.Path.{_≡_, sym, _∙_, subst, subst₂}
+use mathlib.Core.Path.{_≡_, sym, _∙_}
 use mathlib.Core.List.{List}
 use lib.ListN.{length}
 use Rattle.scheme.specs.declared.Scheme.{Scheme}
-use Rattle.scheme.specs.Accepted.{Accepted}
-use Rattle.scheme.specs.Cause.{causeOf, orElse, slicesCause}
-use Rattle.scheme.specs.Laws.Cause.{declined, first-none, second-none, slices-fit}
+use Rattle.scheme.specs.Cause.{causeOf, slicesCause}
+use Rattle.scheme.specs.Laws.Cause.{first-none, second-none}
 use Rattle.scheme.specs.Laws.Judged.{accepted-cause}
-use Rattle.bounds_spec.specs.Answers.{sheetSlice}
+use Rattle.bounds_spec.specs.Causes.{tableLengthsCause}
 use Rattle.bounds_spec.specs.Table.{tableSize, lowTable, highTable, tableCause}
-use Rattle.bounds.specs.Columns.{WriteTablePre}
 use Rattle.bounds_spec.specs.Promises.{FiguresPromise}
 use Rattle.bounds_spec.specs.Laws.Kept.{figures-kept}
+use Rattle.bounds.specs.Sheets.{WritePre}
+use Rattle.bounds.proofs.SlicesLaws.{slices-ready, SlicesLeft, slices-declined, slices-written}
 
--- the code's cause is the definition's
-pub table-cause : (s : Scheme) (low high : List ℕ) {n : ℕ}
-    → n ≡ orElse (causeOf s) (slicesCause (tableSize s) (length low) (length high))
-    → n ≡ tableCause s low high
-unfolding tableCause
-table-cause s low high e = e
-
-module _ (s : Scheme) (low high : List ℕ) {n : ℕ} (e : n ≡ tableCause s low high) where
-  -- what a cause of 0 tells of the slices
-  pub tables-ready : n ≡ 0 → WriteTablePre s low × WriteTablePre s high
+module _ (s : Scheme) (low high : List ℕ) {n : ℕ} (e : n ≡ tableLengthsCause s (length low) (length high)) where
+  -- the code's cause is the definition's
+  is : n ≡ tableCause s low high
   unfolding tableCause
-  tables-ready z =
-      let accepted : Accepted s = accepted-cause s (first-none (causeOf s) (slicesCause (tableSize s) (length low) (length high)) (sym e ∙ z)) in
-      let sizes = slices-fit (tableSize s) (length low) (length high) (second-none (causeOf s) (slicesCause (tableSize s) (length low) (length high)) (sym e ∙ z)) in
-      (record { accepted = accepted; size = sizes .0 }, record { accepted = accepted; size = sizes .1 })
+  is = e
 
-  -- what the whole call ensures, of its number and the slices that it leaves
-  abbrev FiguresLeft : ℕ → List ℕ → List ℕ → Type 0
-  FiguresLeft m low′ high′ =
-      (m ≡ tableCause s low high)
-      × ((low′ ≡ sheetSlice m (lowTable s) low)
-      × ((high′ ≡ sheetSlice m (highTable s) high)
-      × FiguresPromise s m low′ high′))
+  abbrev Left : ℕ → List ℕ → List ℕ → Type 0
+  Left = SlicesLeft (FiguresPromise s) (tableCause s low high) (lowTable s) (highTable s) low high (figures-kept s low high)
 
-  -- the promise follows from the rest
-  figures-all : (m : ℕ) (low′ high′ : List ℕ) → m ≡ tableCause s low high
-      → low′ ≡ sheetSlice m (lowTable s) low
-      → high′ ≡ sheetSlice m (highTable s) high
-      → FiguresLeft m low′ high′
-  figures-all m low′ high′ g p q =
-      (g, (p, (q, subst₂ (λ a b. FiguresPromise s m a b) (sym p) (sym q) kept)))
-    where
-      kept : FiguresPromise s m (sheetSlice m (lowTable s) low) (sheetSlice m (highTable s) high)
-      kept = subst (λ k. FiguresPromise s k (sheetSlice k (lowTable s) low) (sheetSlice k (highTable s) high)) (sym g) (figures-kept s low high)
+  pub figures-ready : n ≡ 0 → WritePre s (tableSize s) low × WritePre s (tableSize s) high
+  figures-ready z =
+      slices-ready (tableSize s) low high
+      (accepted-cause s (first-none (causeOf s) (slicesCause (tableSize s) (length low) (length high)) (sym e ∙ z)))
+      (second-none (causeOf s) (slicesCause (tableSize s) (length low) (length high)) (sym e ∙ z))
 
-  pub figures-declined : (n ≡ 0 → ⊥) → FiguresLeft n low high
-  figures-declined h =
-      figures-all n low high e (sym (declined n (lowTable s) low h)) (sym (declined n (highTable s) high h))
+  pub figures-declined : (n ≡ 0 → ⊥) → Left n low high
+  figures-declined = slices-declined (FiguresPromise s) (tableCause s low high) (lowTable s) (highTable s) low high (figures-kept s low high) is
 
-  pub figures-written : (low′ high′ : List ℕ) → n ≡ 0 → low′ ≡ lowTable s → high′ ≡ highTable s → FiguresLeft 0 low′ high′
-  figures-written low′ high′ z p q = figures-all 0 low′ high′ (sym z ∙ e) p q
+  pub figures-written : {low′ high′ : List ℕ} → n ≡ 0 → low′ ≡ lowTable s → high′ ≡ highTable s → Left 0 low′ high′
+  figures-written = slices-written (FiguresPromise s) (tableCause s low high) (lowTable s) (highTable s) low high (figures-kept s low high) is

@@ -1,4 +1,4 @@
--- The entries to one state given to their rows: what each row has left, what its sum comes to, and that it fits.
+-- One state filled, entry by entry: what slack each row has left, what its sum comes to, and that it fits.
 -- Assumes nothing.
 use Prim.Native.Nat.{ℕ, suc, min, _+_, _-_, _*_, _≤_, _<_}
 use mathlib.Core.Path.{_≡_, refl, ap, sym, _∙_}
@@ -42,19 +42,19 @@ entry-in entries ends first count e h l =
     ∙ onlyIf-true (eqb (at entries e) (at entries e)) (at entries (ends + e)) (eq-eqb (at entries e) (at entries e) refl) in
     omega (arith, term, term-le count f (e - first) (omega arith))
 
--- the entries below place e are given
-pub record FillingState (entries : List ℕ) (first end value : ℕ) (left sums left′ sums′ : List ℕ) (e : ℕ) : Type 0 where
+-- the entries below place e are taken
+pub record EntriesTaken (entries : List ℕ) (first end payoff : ℕ) (left sums left′ sums′ : List ℕ) (e : ℕ) : Type 0 where
   pub begun : first ≤ e
   pub inside : e ≤ end
-  pub given : FillStatePost entries first e value left sums left′ sums′
+  pub filled : FillStatePost entries first e payoff left sums left′ sums′
 
-module _ {entries : List ℕ} {first end value : ℕ} {left sums : List ℕ} (able : FillStatePre entries first end value left sums) where
-  pub filling-none : FillingState entries first end value left sums left sums first
-  filling-none =
+module _ {entries : List ℕ} {first end payoff : ℕ} {left sums : List ℕ} (able : FillStatePre entries first end payoff left sums) where
+  pub entries-none : EntriesTaken entries first end payoff left sums left sums first
+  entries-none =
       record {
         begun = le-refl first;
-        inside = able .rises;
-        given =
+        inside = able .ordered;
+        filled =
             record {
               lefts = refl;
               size = able .size;
@@ -63,19 +63,24 @@ module _ {entries : List ℕ} {first end value : ℕ} {left sums : List ℕ} (ab
             };
       }
     where
-      more : (i : ℕ) → at sums i ≡ at sums i + taken entries first first left i * value
+      more : (i : ℕ) → at sums i ≡ at sums i + taken entries first first left i * payoff
       more i =
           let z : taken entries first first left i ≡ 0 = omega (arith, sum-none entries lowerEnds first i, sum-none entries capacities first i) in
-          omega (arith, ap (λ x. x * value) z)
+          omega (arith, ap (λ x. x * payoff) z)
 
-  module _ {left′ sums′ : List ℕ} {e : ℕ} (w : FillingState entries first end value left sums left′ sums′ e) (further : e < end)
+  module _ {left′ sums′ : List ℕ} {e : ℕ} (w : EntriesTaken entries first end payoff left sums left′ sums′ e) (further : e < end)
       {i : ℕ} (row : i ≡ at entries e) {given : ℕ} (is : given ≡ min (at entries (capacities + e)) (at left′ i)) where
     pub row-inside : i < length left
-    row-inside = rw row (able .within e (omega (arith, able .ends)))
+    row-inside = rw row (able .rows e (omega (arith, able .inside)))
 
     -- the row's own entry counts, and no other row's does
     own : (ends : ℕ) → sumOf entries ends first (e + 1 - first) i ≡ sumOf entries ends first (e - first) i + at entries (ends + e)
-    own ends = sum-more entries ends first e i (w .begun) ∙ ap (λ x. sumOf entries ends first (e - first) i + x) (onlyIf-true (eqb (at entries e) i) (at entries (ends + e)) (eq-eqb (at entries e) i (sym row)))
+    own ends =
+        omega (
+          arith,
+          sum-more entries ends first e i (w .begun),
+          onlyIf-true (eqb (at entries e) i) (at entries (ends + e)) (eq-eqb (at entries e) i (sym row)),
+        )
 
     others : (ends : ℕ) (k : ℕ) → (k ≡ i → ⊥) → sumOf entries ends first (e + 1 - first) k ≡ sumOf entries ends first (e - first) k
     others ends k ne =
@@ -87,10 +92,10 @@ module _ {entries : List ℕ} {first end value : ℕ} {left sums : List ℕ} (ab
 
     -- what the row has taken with this entry
     taken-more : taken entries first (e + 1) left i ≡ taken entries first e left i + (at entries (lowerEnds + e) + given)
-    taken-more = omega (arith, own lowerEnds, own capacities, is, w .given .rest i row-inside)
+    taken-more = omega (arith, own lowerEnds, own capacities, is, w .filled .rest i row-inside)
 
-    sums-now : at sums′ i + (at entries (lowerEnds + e) + given) * value ≡ at sums i + taken entries first (e + 1) left i * value
-    sums-now = omega (arith, w .given .more i row-inside, ap (λ x. x * value) taken-more)
+    sums-now : at sums′ i + (at entries (lowerEnds + e) + given) * payoff ≡ at sums i + taken entries first (e + 1) left i * payoff
+    sums-now = omega (arith, w .filled .more i row-inside, ap (λ x. x * payoff) taken-more)
 
     taken-front : taken entries first (e + 1) left i ≤ taken entries first end left i
     taken-front =
@@ -100,18 +105,19 @@ module _ {entries : List ℕ} {first end value : ℕ} {left sums : List ℕ} (ab
           sumTo-front (λ k. onlyIf (eqb (at entries (first + k)) i) (at entries (capacities + (first + k)))) (end - first) (e + 1 - first) (omega (arith, w .begun)),
         )
 
-    pub filling-fits : at sums′ i + (at entries (lowerEnds + e) + given) * value ≤ LARGEST * ONE
-    filling-fits = omega (arith, sums-now, mul-le-mul-right value taken-front, able .fits i row-inside)
+    pub entry-fits : at sums′ i + (at entries (lowerEnds + e) + given) * payoff ≤ LARGEST * ONE
+    entry-fits = omega (arith, sums-now, mul-le-mul-right payoff taken-front, able .fits i row-inside)
 
-    pub filling-more : FillingState entries first end value left sums (set left′ i (at left′ i - given)) (set sums′ i (at sums′ i + (at entries (lowerEnds + e) + given) * value)) (e + 1)
-    filling-more =
+    pub entries-more : EntriesTaken entries first end payoff left sums
+        (set left′ i (at left′ i - given)) (set sums′ i (at sums′ i + (at entries (lowerEnds + e) + given) * payoff)) (e + 1)
+    entries-more =
         record {
           begun = omega (arith, w .begun);
           inside = omega arith;
-          given =
+          filled =
               record {
-                lefts = length-set left′ i (at left′ i - given) ∙ w .given .lefts;
-                size = length-set sums′ i (at sums′ i + (at entries (lowerEnds + e) + given) * value) ∙ w .given .size;
+                lefts = length-set left′ i (at left′ i - given) ∙ w .filled .lefts;
+                size = length-set sums′ i (at sums′ i + (at entries (lowerEnds + e) + given) * payoff) ∙ w .filled .size;
                 rest = λ k l. rest k l (ℕ-discrete k i);
                 more = λ k l. more k l (ℕ-discrete k i);
               };
@@ -120,21 +126,21 @@ module _ {entries : List ℕ} {first end value : ℕ} {left sums : List ℕ} (ab
         rest : (k : ℕ) → k < length left → Dec (k ≡ i) → at (set left′ i (at left′ i - given)) k ≡ at left k - sumOf entries capacities first (e + 1 - first) k
         rest k l (yes g) =
             rw g
-            (getD-set-same left′ i (at left′ i - given) 0 (omega (arith, row-inside, w .given .lefts))
-            ∙ omega (arith, own capacities, is, w .given .rest i row-inside))
-        rest k l (no ne) = getD-set-other left′ i k (at left′ i - given) 0 ne ∙ omega (arith, others capacities k ne, w .given .rest k l)
+            (getD-set-same left′ i (at left′ i - given) 0 (omega (arith, row-inside, w .filled .lefts))
+            ∙ omega (arith, own capacities, is, w .filled .rest i row-inside))
+        rest k l (no ne) = getD-set-other left′ i k (at left′ i - given) 0 ne ∙ omega (arith, others capacities k ne, w .filled .rest k l)
 
         more : (k : ℕ) → k < length left → Dec (k ≡ i)
-            → at (set sums′ i (at sums′ i + (at entries (lowerEnds + e) + given) * value)) k ≡ at sums k + taken entries first (e + 1) left k * value
+            → at (set sums′ i (at sums′ i + (at entries (lowerEnds + e) + given) * payoff)) k ≡ at sums k + taken entries first (e + 1) left k * payoff
         more k l (yes g) =
             rw g
-            (getD-set-same sums′ i (at sums′ i + (at entries (lowerEnds + e) + given) * value) 0 (omega (arith, row-inside, w .given .size)) ∙ sums-now)
+            (getD-set-same sums′ i (at sums′ i + (at entries (lowerEnds + e) + given) * payoff) 0 (omega (arith, row-inside, w .filled .size)) ∙ sums-now)
         more k l (no ne) =
             let t : taken entries first (e + 1) left k ≡ taken entries first e left k = omega (arith, others lowerEnds k ne, others capacities k ne) in
-            getD-set-other sums′ i k (at sums′ i + (at entries (lowerEnds + e) + given) * value) 0 ne
-            ∙ w .given .more k l
-            ∙ ap (λ x. at sums k + x * value) (sym t)
+            getD-set-other sums′ i k (at sums′ i + (at entries (lowerEnds + e) + given) * payoff) 0 ne
+            ∙ w .filled .more k l
+            ∙ ap (λ x. at sums k + x * payoff) (sym t)
 
-  pub filling-all : {left′ sums′ : List ℕ} {e : ℕ} → end ≤ e → FillingState entries first end value left sums left′ sums′ e
-      → FillStatePost entries first end value left sums left′ sums′
-  filling-all {e = e} h w = let g : e ≡ end = omega (arith, w .inside) in rw g at (w .given)
+  pub entries-all : {left′ sums′ : List ℕ} {e : ℕ} → end ≤ e → EntriesTaken entries first end payoff left sums left′ sums′ e
+      → FillStatePost entries first end payoff left sums left′ sums′
+  entries-all {e = e} h w = let g : e ≡ end = omega (arith, w .inside) in rw g at (w .filled)

@@ -25,7 +25,7 @@ use Rattle.setchain.specs.Laws.Agreeing.{Agree, sound-agrees, step-agrees}
 use Rattle.step.specs.Fill.{FillPost, FillSlackPre}
 use Rattle.step.specs.Step.{StepPre}
 use Rattle.step.specs.Figure.{LARGEST}
-use Rattle.bounds.specs.Fill.{leftAt, sumAt}
+use Rattle.bounds.specs.Fill.{Small, leftAt, sumAt}
 use Rattle.step.specs.Laws.Fill.{Filling, filling-none, filling-more, filling-last}
 use Rattle.step.specs.Laws.Extreme.{step-reached}
 
@@ -87,7 +87,7 @@ module _ (n : ℕ) (order : List ℕ) (p : Permutation n order) where
       whole : sumTo n times ≡ n
       whole = sym (along (λ j. 1)) ∙ count n
 
-  pub sum-along : (g : ℕ → ℕ) → sumTo n (λ q. g (at order q - 1)) ≡ sumTo n g
+  sum-along : (g : ℕ → ℕ) → sumTo n (λ q. g (at order q - 1)) ≡ sumTo n g
   sum-along g =
       along g
       ∙ sumTo-eq n (λ j. sumTo n (λ q. onlyIf (eqb (at order q - 1) j) (g j))) g
@@ -97,7 +97,7 @@ module _ (n : ℕ) (order : List ℕ) (p : Permutation n order) where
       one x = omega arith
 
   -- no state occurs at two places
-  pub places-apart : (a b : ℕ) → a < b → b < n → at order a ≡ at order b → ⊥
+  places-apart : (a b : ℕ) → a < b → b < n → at order a ≡ at order b → ⊥
   unfolding times sumTo
   places-apart a b l m e =
       let j : ℕ = at order b - 1 in
@@ -128,7 +128,8 @@ module _ (n : ℕ) (r : IntervalRow) (f : ℕ → ℕ) (order : List ℕ) (slack
         arith,
         sum-parts k (omega arith),
         left-le k,
-        mul-le-mul-left (r .lower (at order k - 1) + min (leftAt r order slack k) (capacity r (at order k - 1))) (small (at order k - 1) (omega (arith, p .within k h))),
+        mul-le-mul-left (r .lower (at order k - 1) + min (leftAt r order slack k) (capacity r (at order k - 1)))
+            (small (at order k - 1) (omega (arith, p .within k h))),
       )
 
   pub sum-fits : (k : ℕ) → k ≤ n → sumAt r f order slack k ≤ LARGEST * ONE
@@ -171,8 +172,8 @@ dot-set n row f j given l e =
     )
 
 -- the figure: each row is filled as by the step
-module _ (high : Bool) (r : IntervalRow) (payoff order : List ℕ) (slack : ℕ) (sound : SoundRow (length payoff) r) (sorted : SortedPermutation payoff high order)
-    (small : (j : ℕ) → j < length payoff → at payoff j ≤ LARGEST) (whole : sumTo (length payoff) (r .lower) + slack ≡ ONE) where
+module _ (high : Bool) (r : IntervalRow) (payoff order : List ℕ) (slack : ℕ)
+    (sound : SoundRow (length payoff) r) (sorted : SortedPermutation payoff high order) (small : Small (length payoff) payoff) (whole : sumTo (length payoff) (r .lower) + slack ≡ ONE) where
   abbrev n : ℕ
   n = length payoff
 
@@ -227,15 +228,15 @@ module _ (high : Bool) (r : IntervalRow) (payoff order : List ℕ) (slack : ℕ)
     filled : FillPost lower upper order row stop
     none : left ≡ 0
 
-  -- the row as the fill has it at place k, or when it is done
-  record FillingSlack (k : ℕ) : Type 0 where
+  -- the row as the step's fill has it at place k, or when it is done
+  record RowAt (k : ℕ) : Type 0 where
     row : List ℕ
     sums : sumAt r (at payoff) order slack k + dot n (r .lower) (at payoff) ≡ bare k + dot n (at row) (at payoff)
     state : Filling lower upper order row (leftAt r order slack k) k ⊎ Done row (leftAt r order slack k)
 
-  pouring-none : FillingSlack 0
+  row-none : RowAt 0
   unfolding leftAt sumAt bare sumTo
-  pouring-none =
+  row-none =
       record {
         row = lower;
         sums = omega (arith, sumTo-eq n (λ j. r .lower j * at payoff j) (λ j. at lower j * at payoff j) (λ j l. ap (λ x. x * at payoff j) (sym (low-at j l))));
@@ -251,7 +252,9 @@ module _ (high : Bool) (r : IntervalRow) (payoff order : List ℕ) (slack : ℕ)
 
     -- a state that the fill has not passed is bare
     still : {row : List ℕ} {left : ℕ} → Filling lower upper order row left k → at row j ≡ r .lower j
-    still w = ⊎-elim (λ b. b ∙ low-at j here) (λ s. absurd (places-apart n order permutation (s .place) k (s .early) more (s .held ∙ held))) (w .rest j (omega (arith, here, lower-size)))
+    still w =
+        ⊎-elim (λ b. b ∙ low-at j here) (λ s. absurd (places-apart n order permutation (s .place) k (s .early) more (s .held ∙ held)))
+        (w .rest j (omega (arith, here, lower-size)))
       where
         held : suc j ≡ at order k
         held = omega (arith, permutation .within k more)
@@ -264,14 +267,14 @@ module _ (high : Bool) (r : IntervalRow) (payoff order : List ℕ) (slack : ℕ)
     sums-more row given e g h =
         omega (arith, h, dot-set n row (at payoff) j given here e, ap (λ x. (r .lower j + x) * at payoff j) g)
 
-    pouring-more : FillingSlack k → FillingSlack (suc k)
+    row-more : RowAt k → RowAt (suc k)
     unfolding leftAt
-    pouring-more w = ⊎-elim (λ s. by s (decLe left (at upper j - at (w .row) j))) done (w .state)
+    row-more w = ⊎-elim (λ s. by s (decLe left (at upper j - at (w .row) j))) done (w .state)
       where
         left : ℕ
         left = leftAt r order slack k
 
-        by : Filling lower upper order (w .row) left k → Dec (left ≤ at upper j - at (w .row) j) → FillingSlack (suc k)
+        by : Filling lower upper order (w .row) left k → Dec (left ≤ at upper j - at (w .row) j) → RowAt (suc k)
         by s (yes h) =
             record {
               row = set (w .row) j (at (w .row) j + left);
@@ -288,26 +291,32 @@ module _ (high : Bool) (r : IntervalRow) (payoff order : List ℕ) (slack : ℕ)
               state = inl (rw (e, o) at (filling-more fillable s refl more′));
             }
 
-        done : Done (w .row) left → FillingSlack (suc k)
+        done : Done (w .row) left → RowAt (suc k)
         done s =
             let e : at (w .row) j + 0 ≡ at (w .row) j = omega arith in
             record {
               row = set (w .row) j (at (w .row) j + 0);
               sums = sums-more (w .row) 0 (s .filled .size ∙ lower-size) (omega (arith, s .none)) (w .sums);
-              state = inr (record { stop = s .stop; filled = rw (e, same-set (w .row) j (omega (arith, here, lower-size, s .filled .size))) (s .filled); none = omega (arith, s .none) });
+              state =
+                  inr
+                  (record {
+                    stop = s .stop;
+                    filled = rw (e, same-set (w .row) j (omega (arith, here, lower-size, s .filled .size))) (s .filled);
+                    none = omega (arith, s .none);
+                  });
             }
 
-  filled : (k : ℕ) → k ≤ n → FillingSlack k
-  filled zero h = pouring-none
-  filled (suc k) h = pouring-more h (filled k (omega arith))
+  row-at : (k : ℕ) → k ≤ n → RowAt k
+  row-at zero h = row-none
+  row-at (suc k) h = row-more h (row-at k (omega arith))
 
   -- the sum at the end is the filled row's
-  pub fill-states-figure : rounded high (sumAt r (at payoff) order slack n) ≡ stepFigure high n r (at payoff)
+  pub filled-figure : rounded high (sumAt r (at payoff) order slack n) ≡ stepFigure high n r (at payoff)
   unfolding bare
-  fill-states-figure = ⊎-elim (λ s. absurd (omega (arith, s .inside, lower-size))) by (w .state)
+  filled-figure = ⊎-elim (λ s. absurd (omega (arith, s .inside, lower-size))) by (w .state)
     where
-      w : FillingSlack n
-      w = filled n (le-refl n)
+      w : RowAt n
+      w = row-at n (le-refl n)
 
       sums-are : sumAt r (at payoff) order slack n ≡ dot n (at (w .row)) (at payoff)
       sums-are = omega (arith, w .sums, sum-along n order permutation (λ j. r .lower j * at payoff j))

@@ -6,70 +6,58 @@ use mathlib.Core.List.{List}
 use native.Mathlib.Omega.{arith}
 use lib.ListN.{length, take, replicate, length-replicate, getD-replicate}
 use lib.Seq.{length-take-le}
-use Rattle.setchain.specs.Rows.{SoundRow, IntervalRow}
+use Rattle.setchain.specs.Rows.{IntervalRow, SetChain}
 use Rattle.scheme.specs.declared.Scheme.{Scheme}
 use Rattle.scheme.specs.Accepted.{Accepted}
 use Rattle.scheme.specs.Rows.{chainOf}
 use Rattle.scheme.specs.Laws.Sound.{accepted-sound}
-use Rattle.rows.specs.Laws.SumByTarget.{lower-is, upper-is}
 use Rattle.rows.specs.Rows.{classRules}
-use Rattle.setchain.specs.Laws.Agreeing.{Agree, sound-agrees}
-use Rattle.bounds.specs.Entries.{counts, listedRow, rulesRow, Empty, ListRowsPre, ListRowsPost}
-use Rattle.bounds.specs.Start.{ListSchemePost}
+use Rattle.bounds.specs.Entries.{rulesRow, counts, rulesChain, EmptyLists, ListRowsPre, ListRowsPost}
+use Rattle.rows.specs.Laws.SumByTarget.{lower-is, upper-is}
+use Rattle.setchain.specs.Laws.Agreeing.{Agree, agree-sym, sound-agrees}
 
 -- arrays of zeros hold lists with no entry
-pub empty-listed : Empty (replicate 3104 0) (replicate 32 0)
-empty-listed =
+pub lists-empty : EmptyLists (replicate 3104 0) (replicate 32 0)
+lists-empty =
     record {
-      table = length-replicate {A = ℕ} 3104 0;
+      size = length-replicate {A = ℕ} 3104 0;
       slacks = length-replicate {A = ℕ} 32 0;
-      froms = λ e l. getD-replicate 3104 e 0 0 (omega arith);
+      rows = λ e l. getD-replicate 3104 e 0 0 (omega arith);
       none = λ j l. getD-replicate 3104 (counts + j) 0 0 (omega arith);
     }
 
 -- from a scheme's parts to its chain
-module _ (s : Scheme) (accepted : Accepted s) where
-  stored : ℕ → ℕ → IntervalRow
-  stored columns i = rulesRow (classRules columns (s .rules) i) (take (s .columns) (s .lowers)) (take (s .columns) (s .uppers))
+module _ (s : Scheme) (accepted : Accepted s) (rulesStored : length (s .rules) ≡ 256) (lowersStored : length (s .lowers) ≡ 8) where
+  abbrev lowers : List ℕ
+  lowers = take (s .columns) (s .lowers)
 
-  rows-back : (i : ℕ) → i < s .classes → Agree (s .classes) (chainOf s .row i) (stored (s .columns) i)
-  unfolding stored
-  rows-back i l =
+  abbrev uppers : List ℕ
+  uppers = take (s .columns) (s .uppers)
+
+  abbrev parts : SetChain
+  parts = rulesChain (s .classes) (s .rules) lowers uppers
+
+  count : length lowers ≡ s .columns
+  count = length-take-le (s .columns) (s .lowers) (omega (arith, accepted .size .columns))
+
+  agree : (i : ℕ) → i < s .classes → Agree (s .classes) (parts .row i) (chainOf s .row i)
+  agree i l =
+      subst (λ k. Agree (s .classes) (rulesRow (classRules k (s .rules) i) lowers uppers) (chainOf s .row i)) (sym count)
+      (record { lower = λ j g. lower-is s accepted i l j; upper = λ j g. upper-is s accepted i l j })
+
+  pub scheme-lists : {entries slack : List ℕ} → EmptyLists entries slack → ListRowsPre (s .classes) (s .rules) lowers uppers entries slack
+  scheme-lists empty =
       record {
-        lower = λ j g. sym (lower-is s accepted i l j);
-        upper = λ j g. sym (upper-is s accepted i l j);
+        positive = accepted .size .someClass;
+        states = accepted .size .classes;
+        columns = omega (arith, count, accepted .size .columns);
+        stored = omega (arith, accepted .size .classes);
+        sound = λ i l. sound-agrees (agree-sym (agree i l)) (accepted-sound s accepted i l);
+        empty = empty;
       }
 
-  module _ (rulesStored : length (s .rules) ≡ 256) (lowersStored : length (s .lowers) ≡ 8) where
-    count : length (take (s .columns) (s .lowers)) ≡ s .columns
-    count = length-take-le (s .columns) (s .lowers) (omega (arith, accepted .size .columns))
-
-    pub scheme-lists : {entries slack : List ℕ} → Empty entries slack
-        → ListRowsPre (s .classes) (s .rules) (take (s .columns) (s .lowers)) (take (s .columns) (s .uppers)) entries slack
-    unfolding stored
-    scheme-lists empty =
-        record {
-          positive = accepted .size .someClass;
-          few = accepted .size .classes;
-          columns = omega (arith, count, accepted .size .columns);
-          stored = omega (arith, accepted .size .classes);
-          sound = λ i l.
-              subst (λ k. SoundRow (s .classes) (stored k i)) (sym count)
-              (sound-agrees (rows-back i l) (accepted-sound s accepted i l));
-          empty = empty;
-        }
-
-    pub scheme-listed : {entries slack : List ℕ}
-        → ListRowsPost (s .classes) (s .rules) (take (s .columns) (s .lowers)) (take (s .columns) (s .uppers)) entries slack
-        → ListSchemePost s entries slack
-    unfolding stored
-    scheme-listed {entries} w =
-        record {
-          held = w .held;
-          agrees = λ i l.
-              let g : Agree (s .classes) (listedRow entries i) (stored (s .columns) i) = subst (λ k. Agree (s .classes) (listedRow entries i) (stored k i)) count (w .agrees i l) in
-              record {
-                lower = λ j h. g .lower j h ∙ lower-is s accepted i l j;
-                upper = λ j h. g .upper j h ∙ upper-is s accepted i l j;
-              };
-        }
+  pub scheme-listed : {entries slack : List ℕ} → ListRowsPost parts entries slack → ListRowsPost (chainOf s) entries slack
+  scheme-listed w = record { lists = w .lists; agrees = λ i l. agree-trans (w .agrees i l) (agree i l) }
+    where
+      agree-trans : {n : ℕ} {r q p : IntervalRow} → Agree n r q → Agree n q p → Agree n r p
+      agree-trans a b = record { lower = λ j h. a .lower j h ∙ b .lower j h; upper = λ j h. a .upper j h ∙ b .upper j h }

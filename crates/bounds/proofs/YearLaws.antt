@@ -1,4 +1,4 @@
--- The states of a year filled, and the figures that are made of its sums.
+-- A year: its states filled along the order, and the figures that the sums make.
 -- Assumes nothing.
 use Prim.Native.Nat.{ℕ, suc, min, _+_, _-_, _*_, _≤_, _<_}
 use mathlib.Core.Path.{_≡_, refl, ap, sym, _∙_, subst}
@@ -17,31 +17,31 @@ use Rattle.order.specs.Laws.Written.{Rewritten}
 use Rattle.order.specs.Laws.Permutations.{sorted-permutation, sorted-holds}
 use Rattle.step.specs.Lists.{at}
 use Rattle.step.specs.Figure.{LARGEST}
-use Rattle.bounds.specs.Entries.{lowerEnds, capacities, counts, sumOf, listedRow, chainListed, SoundTable}
-use Rattle.bounds.specs.Fill.{leftAt, sumAt, taken, FillStatePre, FillStatePost, FillStatesPre, FillStatesPost, RoundSumsPre, RoundSumsPost}
+use Rattle.bounds.specs.Entries.{lowerEnds, capacities, counts, sumOf, listSum, listedRow, chainListed, SoundLists}
+use Rattle.bounds.specs.Fill.{Small, leftAt, sumAt, taken, FillStatePre, FillStatePost, FillStatesPre, FillStatesPost, RoundSumsPre, RoundSumsPost}
 use Rattle.bounds.specs.Years.{YearPre, YearPost}
 use Rattle.setchain.specs.Laws.Agreeing.{agree-refl, step-agrees}
 use Rattle.setchain.specs.Laws.Step.{rounded-at-most}
 use Rattle.bounds.proofs.FillStateLaws.{entry-in}
-use Rattle.bounds.proofs.FillStatesLaws.{sum-fits, fill-states-figure}
+use Rattle.bounds.proofs.FillStatesLaws.{sum-fits, filled-figure}
 use Rattle.bounds.proofs.FrontLaws.{zeros}
 
 -- what a figure is made of: the gain, and the sum rounded
-abbrev pub settled : (gain : List ℕ) → (high : Bool) → ℕ → ℕ → ℕ
-settled gain high k sum = at gain k + rounded high sum
+abbrev pub roundedSum : (gain : List ℕ) → (high : Bool) → ℕ → ℕ → ℕ
+roundedSum gain high k sum = at gain k + rounded high sum
 
 module _ {gain : List ℕ} (high : Bool) {sums figures : List ℕ} {i : ℕ} (able : RoundSumsPre gain sums)
-    (w : Rewritten (length gain) (settled gain high) sums figures i) where
-  pub rounding-fits : {r : ℕ} → i < length gain → r ≡ rounded high (at figures i) → Fits w64 (at gain i + r)
-  rounding-fits more is =
+    (w : Rewritten (length gain) (roundedSum gain high) sums figures i) where
+  pub figure-fits : {r : ℕ} → i < length gain → r ≡ rounded high (at figures i) → Fits w64 (at gain i + r)
+  figure-fits more is =
       let sum : at figures i ≤ LARGEST * ONE = omega (arith, w .rest i (omega arith), able .fits i more) in
-      omega (arith, is, able .small i more, rounded-at-most high (at figures i) LARGEST sum)
+      omega (arith, is, able .gains i more, rounded-at-most high (at figures i) LARGEST sum)
 
-  pub rounding-all : length gain ≤ i → RoundSumsPost gain high sums figures
-  rounding-all h = record { size = w .size; each = λ k l. w .done k (omega arith) }
+  pub figures-all : length gain ≤ i → RoundSumsPost gain high sums figures
+  figures-all h = record { size = w .size; each = λ k l. w .done k (omega arith) }
 
--- the entries to the states at the places below k are given
-pub record Passing (entries payoff order left left′ sums : List ℕ) (k : ℕ) : Type 0 where
+-- the states at the places below k are filled
+pub record StatesFilled (entries payoff order left left′ sums : List ℕ) (k : ℕ) : Type 0 where
   pub inside : k ≤ length payoff
   pub lefts : length left′ ≡ length payoff
   pub size : length sums ≡ length payoff
@@ -49,20 +49,20 @@ pub record Passing (entries payoff order left left′ sums : List ℕ) (k : ℕ)
   pub sum : (i : ℕ) → i < length payoff → at sums i ≡ sumAt (listedRow entries i) (at payoff) order (at left i) k
 
 module _ {entries payoff order left sums₀ : List ℕ} (able : FillStatesPre entries payoff order left sums₀) where
-  pub filling-states-none : Passing entries payoff order left left sums₀ 0
+  pub states-none : StatesFilled entries payoff order left left sums₀ 0
   unfolding leftAt sumAt
-  filling-states-none = record { inside = omega arith; lefts = able .lefts; size = able .size; rest = λ i l. refl; sum = able .none }
+  states-none = record { inside = omega arith; lefts = able .lefts; size = able .size; rest = λ i l. refl; sum = able .none }
 
   fits : (i : ℕ) → i < length payoff → (k : ℕ) → k ≤ length payoff → sumAt (listedRow entries i) (at payoff) order (at left i) k ≤ LARGEST * ONE
-  fits i l k h = sum-fits (length payoff) (listedRow entries i) (at payoff) order (at left i) (able .permutation) (able .held .whole i l) (able .small) k h
+  fits i l = sum-fits (length payoff) (listedRow entries i) (at payoff) order (at left i) (able .permutation) (able .lists .whole i l) (able .small)
 
-  module _ {left′ sums : List ℕ} {k : ℕ} (w : Passing entries payoff order left left′ sums k) (more : k < length payoff)
+  module _ {left′ sums : List ℕ} {k : ℕ} (w : StatesFilled entries payoff order left left′ sums k) (more : k < length payoff)
       {j : ℕ} (here : j ≡ at order k - 1) where
     pub state-inside : j < length payoff
     state-inside = omega (arith, able .permutation .within k more)
 
     pub list-short : at entries (counts + j) ≤ 32
-    list-short = able .held .short j state-inside
+    list-short = able .lists .lists .short j state-inside
 
     count-is : j * 32 + at entries (counts + j) - j * 32 ≡ at entries (counts + j)
     count-is = omega arith
@@ -74,7 +74,7 @@ module _ {entries payoff order left sums₀ : List ℕ} (able : FillStatesPre en
     one-more i l =
         rw (count-is, here)
         (let r : IntervalRow = listedRow entries i in
-        let m : capacity r (at order k - 1) ≡ sumOf entries capacities ((at order k - 1) * 32) (at entries (counts + (at order k - 1))) i = omega arith in
+        let m : capacity r (at order k - 1) ≡ listSum entries capacities (at order k - 1) i = omega arith in
         omega (
           arith,
           w .sum i l,
@@ -89,28 +89,28 @@ module _ {entries payoff order left sums₀ : List ℕ} (able : FillStatesPre en
 
     entry-small : (e : ℕ) → j * 32 ≤ e → e < j * 32 + at entries (counts + j) → at entries (lowerEnds + e) + at entries (capacities + e) ≤ ONE
     entry-small e a b =
-        let i : at entries e < length payoff = able .held .within e (omega (arith, state-inside, list-short, able .held .few)) in
+        let i : at entries e < length payoff = able .lists .lists .rows e (omega (arith, state-inside, list-short, able .lists .states)) in
         omega (
           arith,
           entry-in entries lowerEnds (j * 32) (at entries (counts + j)) e a b,
           entry-in entries capacities (j * 32) (at entries (counts + j)) e a b,
-          able .held .sound (at entries e) i .capped j state-inside,
+          able .lists .sound (at entries e) i .capped j state-inside,
         )
 
-    pub fill-states-fills : FillStatePre entries (j * 32) (j * 32 + at entries (counts + j)) (at payoff j) left′ sums
-    fill-states-fills =
+    pub state-fills : FillStatePre entries (j * 32) (j * 32 + at entries (counts + j)) (at payoff j) left′ sums
+    state-fills =
         record {
           size = w .size ∙ sym (w .lefts);
-          within = λ e l. omega (arith, able .held .within e l, w .lefts);
-          rises = omega arith;
-          ends = omega (arith, state-inside, list-short, able .held .few);
+          rows = λ e l. omega (arith, able .lists .lists .rows e l, w .lefts);
+          ordered = omega arith;
+          inside = omega (arith, state-inside, list-short, able .lists .states);
           small = entry-small;
           fits = λ i l. omega (arith, one-more i (omega (arith, w .lefts)), fits i (omega (arith, w .lefts)) (suc k) more);
         }
 
-    pub filling-states-more : {left″ sums″ : List ℕ} → FillStatePost entries (j * 32) (j * 32 + at entries (counts + j)) (at payoff j) left′ sums left″ sums″
-        → Passing entries payoff order left left″ sums″ (k + 1)
-    filling-states-more {left″} {sums″} g =
+    pub states-more : {left″ sums″ : List ℕ} → FillStatePost entries (j * 32) (j * 32 + at entries (counts + j)) (at payoff j) left′ sums left″ sums″
+        → StatesFilled entries payoff order left left″ sums″ (k + 1)
+    states-more {left″} {sums″} g =
         record {
           inside = omega arith;
           lefts = g .lefts ∙ w .lefts;
@@ -119,9 +119,9 @@ module _ {entries payoff order left sums₀ : List ℕ} (able : FillStatesPre en
           sum = λ i l. rw add-one (g .more i (omega (arith, w .lefts)) ∙ sym (one-more i l));
         }
 
-  pub filling-states-all : {left′ sums : List ℕ} {k : ℕ} → length payoff ≤ k → Passing entries payoff order left left′ sums k
+  pub states-all : {left′ sums : List ℕ} {k : ℕ} → length payoff ≤ k → StatesFilled entries payoff order left left′ sums k
       → FillStatesPost entries payoff order left sums
-  filling-states-all {k = k} h w =
+  states-all {k = k} h w =
       let e : k ≡ length payoff = omega (arith, w .inside) in
       let s = rw e at (w .sum) in
       record {
@@ -137,10 +137,10 @@ module _ {entries slack gain order before : List ℕ} (w : YearPre entries slack
   front-count = length-take-le (length gain) before fits
 
   pub slack-count : length (take (length gain) slack) ≡ length gain
-  slack-count = length-take-le (length gain) slack (w .held .stored)
+  slack-count = length-take-le (length gain) slack (w .lists .slacks)
 
   zero-count : length (take (length gain) zeros) ≡ length gain
-  zero-count = length-take-le (length gain) zeros (w .held .few)
+  zero-count = length-take-le (length gain) zeros (w .lists .states)
 
   slack-at : (i : ℕ) → i < length gain → at (take (length gain) slack) i ≡ at slack i
   slack-at i l = getD-take (length gain) slack i 0 l
@@ -150,32 +150,33 @@ module _ {entries slack gain order before : List ℕ} (w : YearPre entries slack
     by-payoff : SortedPermutation (take (length gain) before) high order′
     by-payoff =
         subst (SortedPermutation (take (length gain) before) high) (sym is)
-        (sorted-holds (take (length gain) before) high order (subst (λ n. Permutation n order) (sym front-count) (w .permutation)) (omega (arith, front-count, w .held .few)))
+        (sorted-holds (take (length gain) before) high order
+        (subst (λ n. Permutation n order) (sym front-count) (w .permutation)) (omega (arith, front-count, w .lists .states)))
 
-    small : (j : ℕ) → j < length gain → at (take (length gain) before) j ≤ LARGEST
+    small : Small (length gain) (take (length gain) before)
     small j l = subst (λ x. x ≤ LARGEST) (sym (getD-take (length gain) before j 0 l)) (w .small j l)
 
     pub year-permutation : Permutation (length gain) order′
     year-permutation = subst (λ n. Permutation n order′) front-count (sorted-permutation by-payoff)
 
-    pub year-fills-states : FillStatesPre entries (take (length gain) before) order′ (take (length gain) slack) (take (length gain) zeros)
-    year-fills-states =
+    pub year-fills : FillStatesPre entries (take (length gain) before) order′ (take (length gain) slack) (take (length gain) zeros)
+    year-fills =
         record {
-          held =
-              subst (λ n. SoundTable n entries (take (length gain) slack)) (sym front-count)
+          lists =
+              subst (λ n. SoundLists n entries (take (length gain) slack)) (sym front-count)
               (record {
-                few = w .held .few;
-                within = w .held .within;
-                short = w .held .short;
-                stored = omega (arith, slack-count);
-                sound = w .held .sound;
-                whole = λ i l. omega (arith, w .held .whole i l, slack-at i l);
+                states = w .lists .states;
+                lists = w .lists .lists;
+                slacks = omega (arith, slack-count);
+                sound = w .lists .sound;
+                whole = λ i l. omega (arith, w .lists .whole i l, slack-at i l);
               });
           permutation = sorted-permutation by-payoff;
           small = λ j l. small j (omega (arith, front-count));
           lefts = slack-count ∙ sym front-count;
           size = zero-count ∙ sym front-count;
-          none = λ i l. getD-take (length gain) zeros i 0 (omega (arith, front-count)) ∙ getD-replicate 32 i 0 0 (omega (arith, front-count, w .held .few));
+          none = λ i l.
+              getD-take (length gain) zeros i 0 (omega (arith, front-count)) ∙ getD-replicate 32 i 0 0 (omega (arith, front-count, w .lists .states));
         }
 
     module _ {sums : List ℕ} (k : FillStatesPost entries (take (length gain) before) order′ (take (length gain) slack) sums) (rest : List ℕ) where
@@ -196,7 +197,7 @@ module _ {entries slack gain order before : List ℕ} (w : YearPre entries slack
           rw lent
           (record {
             size = sums-count;
-            small = w .rises;
+            gains = w .gains;
             fits = λ i l. k .fits i (omega (arith, front-count));
           })
 
@@ -216,9 +217,9 @@ module _ {entries slack gain order before : List ℕ} (w : YearPre entries slack
               → rounded high (sumAt (listedRow entries i) (at (take (length gain) before)) order′ (at (take (length gain) slack) i) (length (take (length gain) before)))
               ≡ stepFigure high (length gain) (listedRow entries i) (at before)
           figure i l =
-              fill-states-figure high (listedRow entries i) (take (length gain) before) order′ (at (take (length gain) slack) i)
-              (subst (λ n. SoundRow n (listedRow entries i)) (sym front-count) (w .held .sound i l)) by-payoff
+              filled-figure high (listedRow entries i) (take (length gain) before) order′ (at (take (length gain) slack) i)
+              (subst (λ n. SoundRow n (listedRow entries i)) (sym front-count) (w .lists .sound i l)) by-payoff
               (λ j m. small j (omega (arith, front-count)))
-              (year-fills-states .held .whole i (omega (arith, front-count)))
+              (year-fills .lists .whole i (omega (arith, front-count)))
               ∙ ap (λ n. stepFigure high n (listedRow entries i) (at (take (length gain) before))) front-count
               ∙ step-agrees (agree-refl (length gain) (listedRow entries i)) (λ j m. getD-take (length gain) before j 0 m) high

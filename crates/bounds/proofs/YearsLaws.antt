@@ -17,7 +17,7 @@ use Rattle.order.specs.Order.{Permutation}
 use Rattle.step.specs.Lists.{at}
 use Rattle.step.specs.Figure.{LARGEST}
 use Rattle.bounds.specs.Entries.{chainListed}
-use Rattle.bounds.specs.Years.{yearFigure, YearPre, YearPost, Capacious, YearsPre, SeriesStored, YearsPost}
+use Rattle.bounds.specs.Years.{yearFigure, YearPre, YearPost, FiguresFit, YearsPre, SeriesStored, YearsPost}
 
 -- a year's figure from figures that are known
 years-next : (high : Bool) (c : SetChain) (payoff gain f : ℕ → ℕ) (t i : ℕ) → ((j : ℕ) → j < c .states → f j ≡ yearsFigure high c payoff gain t j)
@@ -26,28 +26,28 @@ unfolding yearsFigure
 years-next high c payoff gain f t i h = ap (λ x. gain i + x) (step-agrees (agree-refl (c .states) (c .row i)) h high)
 
 -- one figure more
-stored-more : {figure : ℕ → ℕ} {first stride t v : ℕ} {before : List ℕ} (out : List ℕ) (place : ℕ) → place ≡ first + t * stride → 1 ≤ stride → v ≡ figure t
-    → SeriesStored figure first stride t before out → SeriesStored figure first stride (t + 1) before (set out place v)
-stored-more {figure} {first} {stride} {t} {v} {before} out place here apart e w =
+series-more : {figure : ℕ → ℕ} {stride t v : ℕ} {before : List ℕ} (out : List ℕ) → 1 ≤ stride → v ≡ figure t
+    → SeriesStored figure stride t before out → SeriesStored figure stride (t + 1) before (set out (t * stride) v)
+series-more {figure} {stride} {t} {v} {before} out apart e w =
     record {
-      size = length-set out place v ∙ w .size;
+      size = length-set out (t * stride) v ∙ w .size;
       done =
-          below-more (λ u. first + u * stride < length before → at (set out place v) (first + u * stride) ≡ figure u) t
-          (λ u l i. getD-set-other out place (first + u * stride) v 0 (λ g. omega (arith, here, apart, mul-le-mul-right stride l)) ∙ w .done u l i)
-          (λ i. ap (at (set out place v)) (sym here) ∙ getD-set-same out place v 0 (omega (arith, here, w .size)) ∙ e);
-      other = λ p o. getD-set-other out place p v 0 (λ g. o t (g ∙ here)) ∙ w .other p o;
+          below-more (λ u. u * stride < length before → at (set out (t * stride) v) (u * stride) ≡ figure u) t
+          (λ u l i. getD-set-other out (t * stride) (u * stride) v 0 (λ g. omega (arith, apart, mul-le-mul-right stride l)) ∙ w .done u l i)
+          (λ i. getD-set-same out (t * stride) v 0 (omega (arith, w .size)) ∙ e);
+      other = λ p o. getD-set-other out (t * stride) p v 0 (o t) ∙ w .other p o;
     }
 
 -- what fits for t years fits for fewer
-roomy-less : {n : ℕ} {gain payoff : List ℕ} {t : ℕ} → Capacious n gain payoff t → (u : ℕ) → u ≤ t → Capacious n gain payoff u
-roomy-less w u fewer =
+fits-less : {n : ℕ} {gain payoff : List ℕ} {t : ℕ} → FiguresFit n gain payoff t → (u : ℕ) → u ≤ t → FiguresFit n gain payoff u
+fits-less w u fewer =
     record {
-      top = w .top;
-      rise = w .rise;
+      payoffMost = w .payoffMost;
+      gainMost = w .gainMost;
       payoffs = w .payoffs;
       gains = w .gains;
-      capacity = omega (arith, w .capacity, mul-le-mul-right (w .rise) fewer);
-      rises = w .rises;
+      figures = omega (arith, w .figures, mul-le-mul-right (w .gainMost) fewer);
+      small = w .small;
     }
 
 module _ {entries slack gain order payoff : List ℕ} {t state stride : ℕ} (w : YearsPre entries slack gain order payoff t state stride) where
@@ -55,62 +55,63 @@ module _ {entries slack gain order payoff : List ℕ} {t state stride : ℕ} (w 
   chain = chainListed (length gain) entries
 
   -- in no years the figures are the payoff, and none is written yet
-  pub run-none : {high : Bool} {before : List ℕ} → t ≡ 0 → YearsPost entries gain payoff high t state stride t order payoff before before
+  pub years-none : {high : Bool} {before : List ℕ} → t ≡ 0 → YearsPost entries gain payoff high t state stride t order payoff before before
   unfolding yearsFigure
-  run-none {high} e =
+  years-none {high} e =
       record {
         permutation = w .permutation;
         each = λ i l. sym (ap (λ k. yearsFigure high chain (at payoff) (at gain) k i) e);
-        stored-series = record { size = refl; done = λ u l. absurd (omega arith); other = λ p o. refl };
+        series = record { size = refl; done = λ u l. absurd (omega arith); other = λ p o. refl };
       }
 
   -- with the figure of year t written
-  pub run-stored : {high : Bool} {order′ figures before out : List ℕ}
+  pub years-stored : {high : Bool} {order′ figures before out : List ℕ}
       → YearsPost entries gain payoff high t state stride t order′ figures before out
       → YearsPost entries gain payoff high t state stride (t + 1) order′ figures before (set out (t * stride) (at figures state))
-  run-stored {high} {order′} {figures} {before} {out} i =
-      record { permutation = i .permutation; each = i .each; stored-series = stored-more out (t * stride) (omega arith) (w .apart) (i .each state (w .within)) (i .stored-series) }
+  years-stored {high} {order′} {figures} {before} {out} i =
+      record { permutation = i .permutation; each = i .each; series = series-more out (w .apart) (i .each state (w .inside)) (i .series) }
 
   -- from t years to fewer, and from the figures of u years to those of one more
   module _ (u : ℕ) (fewer : u ≤ t) where
-    pub run-less : YearsPre entries slack gain order payoff u state stride
-    run-less =
+    pub years-less : YearsPre entries slack gain order payoff u state stride
+    years-less =
         record {
-          held = w .held;
+          lists = w .lists;
           permutation = w .permutation;
-          capacious = roomy-less (w .capacious) u fewer;
-          within = w .within;
+          fits = fits-less (w .fits) u fewer;
+          inside = w .inside;
           apart = w .apart;
           counted = omega (arith, mul-le-mul-right stride fewer, w .counted);
         }
 
     module _ {high : Bool} {order′ figures before out : List ℕ}
         (r : YearsPost entries gain payoff high u state stride (u + 1) order′ figures before out) where
-      pub run-year : YearPre entries slack gain order′ figures
-      unfolding run-less roomy-less
-      run-year =
+      pub years-step : YearPre entries slack gain order′ figures
+      unfolding years-less fits-less
+      years-step =
           record {
-            held = w .held;
+            lists = w .lists;
             permutation = r .permutation;
             small = λ j l.
                 subst (λ x. x ≤ LARGEST) (sym (r .each j l))
                 (le-trans
-                (years-at-most high chain (w .held .sound) (at payoff) (at gain) (w .capacious .top) (w .capacious .rise) (w .capacious .payoffs) (w .capacious .gains) u j l)
-                (run-less .capacious .capacity));
-            rises = λ j l. le-trans (w .capacious .gains j l) (w .capacious .rises);
+                (years-at-most high chain (w .lists .sound) (at payoff) (at gain)
+                (w .fits .payoffMost) (w .fits .gainMost) (w .fits .payoffs) (w .fits .gains) u j l)
+                (years-less .fits .figures));
+            gains = λ j l. le-trans (w .fits .gains j l) (w .fits .small);
           }
 
-      pub run-more : {order″ after : List ℕ} {flag : Bool} → suc u ≡ t → high ≡ flag
+      pub years-more : {order″ after : List ℕ} {flag : Bool} → suc u ≡ t → high ≡ flag
           → YearPost (chainListed (length gain) entries) gain figures flag after → Permutation (length gain) order″
           → YearsPost entries gain payoff high t state stride t order″ after before out
-      run-more {order″} {after} next is f permutation =
+      years-more {order″} {after} next is f permutation =
           record {
             permutation = permutation;
             each = λ i l.
                 subst (λ x. at after i ≡ yearFigure x chain (at gain) (at figures) i) (sym is) (f .each i l)
                 ∙ years-next high chain (at payoff) (at gain) (at figures) u i (r .each)
                 ∙ ap (λ k. yearsFigure high chain (at payoff) (at gain) k i) next;
-            stored-series = subst (λ k. SeriesStored (λ v. yearsFigure high chain (at payoff) (at gain) v state) 0 stride k before out) again (r .stored-series);
+            series = subst (λ k. SeriesStored (λ v. yearsFigure high chain (at payoff) (at gain) v state) stride k before out) again (r .series);
           }
         where
           again : u + 1 ≡ t

@@ -9,9 +9,13 @@ use Rattle.setchain.specs.Step.{rounded, capacity}
 use Rattle.order.specs.Order.{Permutation}
 use Rattle.step.specs.Lists.{at}
 use Rattle.step.specs.Figure.{LARGEST}
-use Rattle.bounds.specs.Entries.{lowerEnds, capacities, sumOf, listedRow, SoundTable}
+use Rattle.bounds.specs.Entries.{lowerEnds, capacities, sumOf, listedRow, SoundLists}
 
--- the slack that a row has left when the states at the first k places of the order had theirs
+-- no number of the first n is so large that a sum does not fit
+abbrev pub Small : ℕ → List ℕ → Type 0
+Small n l = (j : ℕ) → j < n → at l j ≤ LARGEST
+
+-- the slack that a row has left when the states at the first k places of the order are filled
 unfoldable pub leftAt : IntervalRow → List ℕ → ℕ → ℕ → ℕ
 leftAt r order slack zero = slack
 leftAt r order slack (suc k) = leftAt r order slack k - capacity r (at order k - 1)
@@ -26,27 +30,27 @@ sumAt r f order slack (suc k) =
 abbrev pub taken : (entries : List ℕ) → (first end : ℕ) → List ℕ → ℕ → ℕ
 taken entries first end left i = sumOf entries lowerEnds first (end - first) i + min (at left i) (sumOf entries capacities first (end - first) i)
 
--- what it takes to give the entries to one state: rows that all have a place, entries of at most ONE, and sums that fit
-pub record FillStatePre (entries : List ℕ) (first end value : ℕ) (left sums : List ℕ) : Type 0 where
+-- what it takes to fill one state: entries of rows that have a place, each of at most ONE, and sums that fit
+pub record FillStatePre (entries : List ℕ) (first end payoff : ℕ) (left sums : List ℕ) : Type 0 where
   pub size : length sums ≡ length left
-  pub within : (e : ℕ) → e < 1024 → at entries e < length left
-  pub rises : first ≤ end
-  pub ends : end ≤ 1024
+  pub rows : (e : ℕ) → e < 1024 → at entries e < length left
+  pub ordered : first ≤ end
+  pub inside : end ≤ 1024
   pub small : (e : ℕ) → first ≤ e → e < end → at entries (lowerEnds + e) + at entries (capacities + e) ≤ ONE
-  pub fits : (i : ℕ) → i < length left → at sums i + taken entries first end left i * value ≤ LARGEST * ONE
+  pub fits : (i : ℕ) → i < length left → at sums i + taken entries first end left i * payoff ≤ LARGEST * ONE
 
--- what it leaves
-pub record FillStatePost (entries : List ℕ) (first end value : ℕ) (left sums left′ sums′ : List ℕ) : Type 0 where
+-- what it leaves: each row's slack less what it took of it, and its sum with the parts that it took
+pub record FillStatePost (entries : List ℕ) (first end payoff : ℕ) (left sums left′ sums′ : List ℕ) : Type 0 where
   pub lefts : length left′ ≡ length left
   pub size : length sums′ ≡ length left
   pub rest : (i : ℕ) → i < length left → at left′ i ≡ at left i - sumOf entries capacities first (end - first) i
-  pub more : (i : ℕ) → i < length left → at sums′ i ≡ at sums i + taken entries first end left i * value
+  pub more : (i : ℕ) → i < length left → at sums′ i ≡ at sums i + taken entries first end left i * payoff
 
--- what the fill takes: lists that hold sound rows, an order, payoffs that are not too large, the rows' slack, and sums of 0
+-- what it takes to fill all states: lists that hold sound rows, an order, payoffs that are not too large, the rows' slack, and sums of 0
 pub record FillStatesPre (entries payoff order left sums : List ℕ) : Type 0 where
-  pub held : SoundTable (length payoff) entries left
+  pub lists : SoundLists (length payoff) entries left
   pub permutation : Permutation (length payoff) order
-  pub small : (j : ℕ) → j < length payoff → at payoff j ≤ LARGEST
+  pub small : Small (length payoff) payoff
   pub lefts : length left ≡ length payoff
   pub size : length sums ≡ length payoff
   pub none : (i : ℕ) → i < length payoff → at sums i ≡ 0
@@ -60,7 +64,7 @@ pub record FillStatesPost (entries payoff order left sums : List ℕ) : Type 0 w
 -- sums and gains that make figures
 pub record RoundSumsPre (gain sums : List ℕ) : Type 0 where
   pub size : length sums ≡ length gain
-  pub small : (i : ℕ) → i < length gain → at gain i ≤ LARGEST
+  pub gains : Small (length gain) gain
   pub fits : (i : ℕ) → i < length gain → at sums i ≤ LARGEST * ONE
 
 -- the figures that they make

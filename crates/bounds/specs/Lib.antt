@@ -1,7 +1,7 @@
 -- Read after crate `bounds_spec`, whose definitions the public contracts name, and crate `step`. These are of the private functions, in this order:
--- the entries of all rows, the fill along an order, a year, the start class's figures, columns of a table.
+-- the entries of all rows, the fill along an order, a year and years, the start class's figures, the slices of a sheet.
 pub mod Entries
 pub mod Fill
 pub mod Years
-pub mod Start
-pub mod Columns
+pub mod Series
+pub mod Sheets

@@ -1,9 +1,9 @@
 // The causes for which a query of a scheme is declined, tests in number order (document 01, "When a call is declined").
+use crate::table_size;
 use scheme::Scheme;
 use scheme::or_else;
 use scheme::slices_cause;
 ghost use mathlib.Core.Path.{_≡_};
-ghost use Prim.Native.Nat.{_+_, _*_};
 ghost use mathlib.Core.Bool.{cond};
 ghost use lib.Dec.{ltb};
 ghost use Rattle.scheme.specs.Cause.{outside};
@@ -58,21 +58,12 @@ pub fn sheet_cause(scheme: Scheme, year: u64, low: usize, high: usize) -> u8
     or_else(money, slices)
 }
 
-// How many numbers the table of a sheet has.
-fn table_size(classes: u8, horizon: u8) -> usize
-    ensures { λ r. ⌜ r ≡ (horizon + 1) * (classes + 1) + 1 ⌝ }
-{
-    let years = horizon as usize + 1;
-    let row = classes as usize + 1;
-    years * row + 1
-}
-
 // The first cause of a call for all figures with slices of two lengths, or 0.
 pub fn table_cause(scheme: Scheme, low: usize, high: usize) -> u8
     ensures { λ r. ⌜ r ≡ tableLengthsCause scheme low high ⌝ }
 {
     let own = acceptance::cause(scheme);
-    let size = table_size(scheme.classes, scheme.horizon);
+    let size = table_size(scheme);
     let slices = slices_cause(size, low, high);
     or_else(own, slices)
 }

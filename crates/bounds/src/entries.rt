@@ -1,11 +1,17 @@
 // The entries of all interval rows, listed by the class that they lead to: a year then passes each of them once, along the order of the payoffs.
-// The list of state j stands from place j × 32 on, in one table: at e the state whose row has the entry of place e, at LOWER_ENDS + e its lower end, at CAPACITIES + e the capacity from there to its upper end, and at COUNTS + j how many entries lead to state j.
+// The list of state j stands from place j × 32 on, in one array: at e the state whose row has the entry of place e, at LOWER_ENDS + e its lower end, at CAPACITIES + e the capacity from there to its upper end, and at COUNTS + j how many entries lead to state j.
 use rows::slack;
 use rows::sum_by_target;
 use scheme::Scheme;
+ghost use mathlib.Core.Path.{_≡_};
+ghost use Prim.Native.Nat.{_+_};
+ghost use lib.ListN.{length};
+ghost use Rattle.setchain.specs.Sums.{sumTo};
+ghost use Rattle.setchain.specs.Rows.{ONE};
 ghost use Rattle.scheme.specs.Accepted.{Accepted};
-ghost use Rattle.bounds.specs.Entries.{AddRowPre, AddRowPost, Empty, ListRowPre, ListRowsPost, ListRowPost, ListRowsPre};
-ghost use Rattle.bounds.specs.Start.{ListSchemePost};
+ghost use Rattle.scheme.specs.Rows.{chainOf};
+ghost use Rattle.step.specs.Lists.{listsRow};
+ghost use Rattle.bounds.specs.Entries.{rulesRow, AddRowPost, AddRowPre, EmptyLists, ListRowsPost, ListRowsPre, rulesChain};
 
 // Where the lower ends begin.
 pub const LOWER_ENDS: usize = 1024;
@@ -18,8 +24,8 @@ pub const COUNTS: usize = 3072;
 
 // Adds the entries of state i's row to the lists of the states that they lead to.
 fn add_row(lower: &[u64], upper: &[u64], i: usize, entries: &mut [u32; 3104])
-    requires { ⌜ AddRowPre (now lower) (now upper) i (now entries) ⌝ }
-    ensures { λ _. ⌜ AddRowPost (now (lower .entry)) (now (upper .entry)) i (now (entries .entry)) (now (entries .exit)) ⌝ }
+    requires { ⌜ (length (now lower) ≡ length (now upper)) × AddRowPre (length (now upper)) (listsRow (now lower) (now upper)) i (now entries) ⌝ }
+    ensures { λ _. ⌜ AddRowPost (length (now (upper .entry))) (listsRow (now (lower .entry)) (now (upper .entry))) i (now (entries .entry)) (now (entries .exit)) ⌝ }
 {
     let mut j: usize = 0;
     while j < upper.len() {
@@ -37,7 +43,7 @@ fn add_row(lower: &[u64], upper: &[u64], i: usize, entries: &mut [u32; 3104])
     }
 }
 
-// Lists the entries of state i's row, of n states, and returns the parts that its lowers leave.
+// Lists the entries of state i's row, of n states, and returns the slack that its lower ends leave.
 fn list_row(
     rules: &[u8],
     lowers: &[u32],
@@ -46,8 +52,9 @@ fn list_row(
     i: usize,
     entries: &mut [u32; 3104],
 ) -> u32
-    requires { ⌜ ListRowPre (now rules) (now lowers) (now uppers) n i (now entries) ⌝ }
-    ensures { λ r. ⌜ ListRowPost (now (rules .entry)) (now (lowers .entry)) (now (uppers .entry)) n i (now (entries .entry)) (now (entries .exit)) r ⌝ }
+    requires { ⌜ AddRowPre n (rulesRow (now rules) (now lowers) (now uppers)) i (now entries) ⌝ }
+    ensures entries { λ _. ⌜ AddRowPost n (rulesRow (now (rules .entry)) (now (lowers .entry)) (now (uppers .entry))) i (now (entries .entry)) (now (entries .exit)) ⌝ }
+    ensures slack { λ r. ⌜ sumTo n (rulesRow (now (rules .entry)) (now (lowers .entry)) (now (uppers .entry)) .lower) + r ≡ ONE ⌝ }
 {
     let mut lower = [0u64; 32];
     sum_by_target(rules, lowers, &mut lower[..n]);
@@ -57,7 +64,7 @@ fn list_row(
     slack(&lower[..n]) as u32
 }
 
-// Lists the entries of all rows of n states, and writes the parts that each row's lowers leave.
+// Lists the entries of all rows of n states, and writes the slack that each row's lower ends leave.
 fn list_rows(
     rules: &[u8],
     lowers: &[u32],
@@ -67,7 +74,7 @@ fn list_rows(
     slack: &mut [u32; 32],
 )
     requires { ⌜ ListRowsPre n (now rules) (now lowers) (now uppers) (now entries) (now slack) ⌝ }
-    ensures { λ _. ⌜ ListRowsPost n (now (rules .entry)) (now (lowers .entry)) (now (uppers .entry)) (now (entries .exit)) (now (slack .exit)) ⌝ }
+    ensures { λ _. ⌜ ListRowsPost (rulesChain n (now (rules .entry)) (now (lowers .entry)) (now (uppers .entry))) (now (entries .exit)) (now (slack .exit)) ⌝ }
 {
     let m = lowers.len();
     let mut i: usize = 0;
@@ -81,8 +88,8 @@ fn list_rows(
 
 // Lists the entries of a scheme.
 pub fn list_scheme(scheme: Scheme, entries: &mut [u32; 3104], slack: &mut [u32; 32])
-    requires { ⌜ (Accepted scheme) × Empty (now entries) (now slack) ⌝ }
-    ensures { λ _. ⌜ ListSchemePost scheme (now (entries .exit)) (now (slack .exit)) ⌝ }
+    requires { ⌜ (Accepted scheme) × EmptyLists (now entries) (now slack) ⌝ }
+    ensures { λ _. ⌜ ListRowsPost (chainOf scheme) (now (entries .exit)) (now (slack .exit)) ⌝ }
 {
     let rules = scheme.rules;
     let lowers = scheme.lowers;

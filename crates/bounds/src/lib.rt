@@ -3,14 +3,14 @@ pub use bounds_spec::Bounds;
 use scheme::Scheme;
 ghost use mathlib.Core.Path.{_≡_};
 ghost use Rattle.bounds_spec.specs.Answers.{highShares, lowShares, meanAnswer, shareAnswer, sheetCause, sheetSlice, totalAnswer};
-ghost use Rattle.bounds_spec.specs.Table.{highTable, lowTable, tableCause};
+ghost use Rattle.bounds_spec.specs.Table.{highTable, lowTable, tableCause, tableSize};
 ghost use Rattle.bounds_spec.specs.Promises.{FiguresPromise, MeanPromise, SharePromise, SheetPromise, TotalPromise};
 
 mod causes;
 mod entries;
 mod payoffs;
+mod series;
 mod sheet;
-mod start;
 mod table;
 mod year;
 mod years;
@@ -20,13 +20,10 @@ pub fn share(scheme: Scheme, class: u64, year: u64) -> Bounds
     ensures answer { λ r. ⌜ r ≡ shareAnswer scheme class year ⌝ }
     ensures promise { λ r. ⌜ (SharePromise scheme class year r) ⌝ }
 {
-    let number = causes::share_cause(scheme, class, year);
-    if number != 0 {
-        return Bounds::Refused(number);
-    }
+    let cause = causes::share_cause(scheme, class, year);
     let payoff = payoffs::share_payoff(class);
     let gain = [0u64; 32];
-    start::start_bounds(scheme, gain, payoff, year)
+    series::start_bounds(cause, scheme, gain, payoff, year)
 }
 
 // The mean premium of a year, in cents.
@@ -34,14 +31,11 @@ pub fn mean(scheme: Scheme, year: u64) -> Bounds
     ensures answer { λ r. ⌜ r ≡ meanAnswer scheme year ⌝ }
     ensures promise { λ r. ⌜ (MeanPromise scheme year r) ⌝ }
 {
-    let number = causes::money_cause(scheme, year);
-    if number != 0 {
-        return Bounds::Refused(number);
-    }
+    let cause = causes::money_cause(scheme, year);
     let premiums = scheme.premiums;
     let payoff = payoffs::widened(premiums);
     let gain = [0u64; 32];
-    start::start_bounds(scheme, gain, payoff, year)
+    series::start_bounds(cause, scheme, gain, payoff, year)
 }
 
 // The total of as many premiums as there are years, in cents.
@@ -49,43 +43,49 @@ pub fn total(scheme: Scheme, year: u64) -> Bounds
     ensures answer { λ r. ⌜ r ≡ totalAnswer scheme year ⌝ }
     ensures promise { λ r. ⌜ (TotalPromise scheme year r) ⌝ }
 {
-    let number = causes::money_cause(scheme, year);
-    if number != 0 {
-        return Bounds::Refused(number);
-    }
+    let cause = causes::money_cause(scheme, year);
     let premiums = scheme.premiums;
     let gain = payoffs::widened(premiums);
     let payoff = [0u64; 32];
-    start::start_bounds(scheme, gain, payoff, year)
+    series::start_bounds(cause, scheme, gain, payoff, year)
 }
 
 // A year's share sheet: the low and the high share of each class, in parts. Returns the number of the cause, or 0.
 pub fn share_sheet(scheme: Scheme, year: u64, low: &mut [u64], high: &mut [u64]) -> u8
     ensures answer { λ r. ⌜ r ≡ sheetCause scheme year (now (low .entry)) (now (high .entry)) ⌝ }
-    ensures lowerEnds { λ r. ⌜ now (low .exit) ≡ sheetSlice r (lowShares scheme year) (now (low .entry)) ⌝ }
+    ensures lows { λ r. ⌜ now (low .exit) ≡ sheetSlice r (lowShares scheme year) (now (low .entry)) ⌝ }
     ensures highs { λ r. ⌜ now (high .exit) ≡ sheetSlice r (highShares scheme year) (now (high .entry)) ⌝ }
     ensures promise { λ r. ⌜ (SheetPromise scheme year r (now (low .exit)) (now (high .exit))) ⌝ }
 {
-    let number = causes::sheet_cause(scheme, year, low.len(), high.len());
-    if number != 0 {
-        return number;
+    let cause = causes::sheet_cause(scheme, year, low.len(), high.len());
+    if cause != 0 {
+        return cause;
     }
     sheet::write_shares(scheme, year, false, low);
     sheet::write_shares(scheme, year, true, high);
     0
 }
 
+// How many numbers all figures of a sheet are.
+pub fn table_size(scheme: Scheme) -> usize
+    ensures { λ r. ⌜ r ≡ tableSize scheme ⌝ }
+{
+    let years = scheme.horizon as usize + 1;
+    let row = scheme.classes as usize + 1;
+    years * row + 1
+}
+
 // All figures of a sheet, low and high: for each year to the horizon the share of each class and the mean premium, last the horizon's total.
 // Returns the number of the cause, or 0.
 pub fn figures(scheme: Scheme, low: &mut [u64], high: &mut [u64]) -> u8
     ensures answer { λ r. ⌜ r ≡ tableCause scheme (now (low .entry)) (now (high .entry)) ⌝ }
-    ensures lowerEnds { λ r. ⌜ now (low .exit) ≡ sheetSlice r (lowTable scheme) (now (low .entry)) ⌝ }
+    ensures lows { λ r. ⌜ now (low .exit) ≡ sheetSlice r (lowTable scheme) (now (low .entry)) ⌝ }
     ensures highs { λ r. ⌜ now (high .exit) ≡ sheetSlice r (highTable scheme) (now (high .entry)) ⌝ }
     ensures promise { λ r. ⌜ (FiguresPromise scheme r (now (low .exit)) (now (high .exit))) ⌝ }
 {
-    let number = causes::table_cause(scheme, low.len(), high.len());
-    if number != 0 {
-        return number;
+    let cause = causes::table_cause(scheme, low.len(), high.len());
+    if cause != 0 {
+        return cause;
     }
     table::write_table(scheme, false, low);
     table::write_table(scheme, true, high);

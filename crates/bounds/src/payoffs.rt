@@ -1,16 +1,16 @@
 // The payoffs of year 0 as figure vectors (document 01, "Years").
 ghost use mathlib.Core.Path.{_≡_};
-ghost use Prim.Native.Nat.{_≤_};
-ghost use Rattle.bounds.specs.Start.{SharePayoffPost};
+ghost use Rattle.bounds.specs.Series.{SharePayoffPost};
 
-// ONE at the class, 0 elsewhere.
+// ONE at the class, 0 elsewhere, and everywhere where there is no such class.
 pub fn share_payoff(class: u64) -> [u64; 32]
-    requires { ⌜ (1 ≤ class) × (class ≤ 32) ⌝ }
     ensures { λ r. ⌜ SharePayoffPost class r ⌝ }
 {
     let mut payoff = [0u64; 32];
-    let j = (class - 1) as usize;
-    payoff[j] = setchain::ONE;
+    if scheme::class_out(32, class) {
+        return payoff;
+    }
+    payoff[(class - 1) as usize] = setchain::ONE;
     payoff
 }
 

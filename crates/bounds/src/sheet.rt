@@ -1,15 +1,15 @@
 // The numbers of a share sheet: the shares of all classes, low and high.
 use crate::entries::list_scheme;
 use crate::payoffs::share_payoff;
-use crate::start::start_figure;
+use crate::series::series;
 use scheme::Scheme;
 ghost use mathlib.Core.Path.{_≡_};
 ghost use Rattle.bounds_spec.specs.Answers.{figureShares};
-ghost use Rattle.bounds.specs.Start.{WriteSharesPre};
+ghost use Rattle.bounds.specs.Sheets.{WritePre};
 
 // Writes the low share of each class, or, where `high` is set, the high one.
 pub fn write_shares(scheme: Scheme, year: u64, high: bool, out: &mut [u64])
-    requires { ⌜ WriteSharesPre scheme (now out) ⌝ }
+    requires { ⌜ WritePre scheme (scheme .classes) (now out) ⌝ }
     ensures { λ _. ⌜ now (out .exit) ≡ figureShares high scheme year ⌝ }
 {
     let mut entries = [0u32; 3104];
@@ -19,7 +19,18 @@ pub fn write_shares(scheme: Scheme, year: u64, high: bool, out: &mut [u64])
     let mut j: usize = 0;
     while j < out.len() {
         let payoff = share_payoff((j + 1) as u64);
-        out[j] = start_figure(scheme, &entries, &slack, gain, high, payoff, year);
+        let mut none: [u64; 0] = [];
+        out[j] = series(
+            scheme,
+            &entries,
+            &slack,
+            gain,
+            high,
+            payoff,
+            year,
+            1,
+            &mut none,
+        );
         j += 1;
     }
 }

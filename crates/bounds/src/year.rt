@@ -19,17 +19,17 @@ fn smaller(a: u32, b: u32) -> u32
     if a < b { a } else { b }
 }
 
-// Fills one state: the entries that lead to it, listed from place `first` to `end`: each row its lower parts and, as far as it has slack left, parts of it.
+// Fills one state by the entries that lead to it, listed from place `first` to `end`: each row gives its lower parts and, as far as it has slack left, parts of it.
 fn fill_state(
     entries: &[u32; 3104],
     first: usize,
     end: usize,
-    value: u64,
+    payoff: u64,
     left: &mut [u32],
     sums: &mut [u64],
 )
-    requires { ⌜ FillStatePre (now entries) first end value (now left) (now sums) ⌝ }
-    ensures { λ _. ⌜ FillStatePost (now (entries .entry)) first end value (now (left .entry)) (now (sums .entry)) (now (left .exit)) (now (sums .exit)) ⌝ }
+    requires { ⌜ FillStatePre (now entries) first end payoff (now left) (now sums) ⌝ }
+    ensures { λ _. ⌜ FillStatePost (now (entries .entry)) first end payoff (now (left .entry)) (now (sums .entry)) (now (left .exit)) (now (sums .exit)) ⌝ }
 {
     let mut e = first;
     while e < end {
@@ -37,12 +37,12 @@ fn fill_state(
         let had = left[i];
         let given = smaller(entries[CAPACITIES + e], had);
         left[i] = had - given;
-        sums[i] += (entries[LOWER_ENDS + e] + given) as u64 * value;
+        sums[i] += (entries[LOWER_ENDS + e] + given) as u64 * payoff;
         e += 1;
     }
 }
 
-// Passes all entries along the order, and leaves in `sums` for each row the sum of part times payoff.
+// Fills all states along the order, and leaves in `sums` for each row the sum of part times payoff.
 fn fill_states(
     entries: &[u32; 3104],
     payoff: &[u64],

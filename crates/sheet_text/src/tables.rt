@@ -22,7 +22,7 @@ pub fn put_sheet(out: &mut [u8], scheme: Scheme) -> usize
     requires { ⌜ Space (now out) 0 (sheetOf scheme) × Accepted scheme ⌝ }
     ensures { λ r. ⌜ Put (now (out .entry)) 0 (sheetOf scheme) (now (out .exit)) r ⌝ }
 {
-    let size = ((scheme.horizon as usize) + 1) * ((scheme.classes as usize) + 1) + 1;
+    let size = bounds::table_size(scheme);
     let mut low = [0u64; 3334];
     let mut high = [0u64; 3334];
     filled(out, scheme, &mut low[..size], &mut high[..size])

@@ -1,7 +1,6 @@
 -- `share_sheet` answers by the definition, and leaves the slices alone where it declines.
 -- Assumes nothing.
-use mathlib.Core.Path.{sym, _∙_}
-use Rattle.bounds.proofs.SheetLaws.{sheeted, sheet-cause, sheet-declined, sheet-written}
+use Rattle.bounds.proofs.ShareSheetLaws.{sheet-ready, sheet-declined, sheet-written}
 use borrow.Author.Needs.{needs}
 use Rattle.bounds.proofs.share_sheet.Statement.{statement}
 use Rattle.bounds.proofs.share_sheet.Tie as tie
@@ -11,24 +10,24 @@ sheet-cause-requires c κs = search needs
 
 returns : tie.Need-returns
 returns c =
-    let start = c .before .before .before .before in
-    let a = start .args in
-    sheet-declined (a .scheme) (a .year) (a .low .now) (a .high .now) _ (sheet-cause (a .scheme) (a .year) (a .low .now) (a .high .now) _ (c .before .sheet-cause .ensures)) (c .if1 .taken)
+    let at-sheet-cause = c .before in
+    let a = at-sheet-cause .before .before .before .args in
+    sheet-declined (a .scheme) (a .year) (a .low .now) (a .high .now) (at-sheet-cause .sheet-cause .ensures) (c .if1 .taken)
 
 write-shares-requires : tie.Need-write-shares-requires
 write-shares-requires c κs =
-    let at-sheet-cause = c .before .before in
-    let start = at-sheet-cause .before .before .before in
-    let a = start .args in
-    sheeted (a .scheme) (a .year) (a .low .now) (a .high .now) (sym (sheet-cause (a .scheme) (a .year) (a .low .now) (a .high .now) _ (at-sheet-cause .sheet-cause .ensures)) ∙ c .before .if1 .left) .0
+    let else = c .before in
+    let at-sheet-cause = else .before in
+    let a = at-sheet-cause .before .before .before .args in
+    sheet-ready (a .scheme) (a .year) (a .low .now) (a .high .now) (at-sheet-cause .sheet-cause .ensures) (else .if1 .left) .0
 
 write-shares-requires-2 : tie.Need-write-shares-requires-2
 write-shares-requires-2 c κs =
-    let at-if1 = c .before .before .before .before .before in
-    let at-sheet-cause = at-if1 .before in
-    let start = at-sheet-cause .before .before .before in
-    let a = start .args in
-    sheeted (a .scheme) (a .year) (a .low .now) (a .high .now) (sym (sheet-cause (a .scheme) (a .year) (a .low .now) (a .high .now) _ (at-sheet-cause .sheet-cause .ensures)) ∙ at-if1 .if1 .left) .1
+    let at-write-shares = c .before .before .before in
+    let else = at-write-shares .before .before in
+    let at-sheet-cause = else .before in
+    let a = at-sheet-cause .before .before .before .args in
+    sheet-ready (a .scheme) (a .year) (a .low .now) (a .high .now) (at-sheet-cause .sheet-cause .ensures) (else .if1 .left) .1
 
 same-length : tie.Need-same-length
 same-length c = search needs
@@ -40,12 +39,10 @@ returns-2 : tie.Need-returns-2
 returns-2 c =
     let at-write-shares2 = c .before .before in
     let at-write-shares = at-write-shares2 .before .before .before .before in
-    let at-if1 = at-write-shares .before .before in
-    let at-sheet-cause = at-if1 .before in
-    let start = at-sheet-cause .before .before .before in
-    let a = start .args in
-    sheet-written (a .scheme) (a .year) (a .low .now) (a .high .now) _ _ _
-    (sheet-cause (a .scheme) (a .year) (a .low .now) (a .high .now) _ (at-sheet-cause .sheet-cause .ensures)) (at-if1 .if1 .left)
+    let else = at-write-shares .before .before in
+    let at-sheet-cause = else .before in
+    let a = at-sheet-cause .before .before .before .args in
+    sheet-written (a .scheme) (a .year) (a .low .now) (a .high .now) (at-sheet-cause .sheet-cause .ensures) (else .if1 .left)
     (at-write-shares .write-shares .ensures) (at-write-shares2 .write-shares2 .ensures)
 
 pub share-sheet-spec : {M : Type 1} → statement M

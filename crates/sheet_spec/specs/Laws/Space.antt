@@ -55,16 +55,11 @@ module _ (s : Scheme) (ok : Accepted s) where
       let lines : s .classes * 40 + 35 ≤ 1315 = omega (arith, ok .size .classes) in
       omega (arith, mul-le-mul years lines)
 
-  -- the code's numbers: the space, and the tables' size
+  -- the space as the code makes it
   pub space-coded : 19 + (s .horizon + 1) * (s .classes * 40 + 35) + 28 ≡ spaceOf s
   unfolding spaceOf
   space-coded = omega arith
 
-  pub table-at-most : (s .horizon + 1) * (s .classes + 1) + 1 ≤ 3334
-  table-at-most =
-      let years : s .horizon + 1 ≤ 101 = omega (arith, ok .horizon .within) in
-      let columns : s .classes + 1 ≤ 33 = omega (arith, ok .size .classes) in
-      omega (arith, mul-le-mul years columns)
 
 -- a part of an array of zeros
 pub zeros-part : (m n : ℕ) → n ≤ m → length {A = ℕ} (take n (replicate m 0)) ≡ n

@@ -1,17 +1,9 @@
 -- `table_cause` meets its contract: the causes are the definition's, in its order.
-use Prim.Native.Nat.{_+_, _*_}
-use mathlib.Core.Path.{_≡_, ap, ap₂, _∙_}
-use native.Mathlib.Omega.{arith}
-use Rattle.scheme.specs.declared.Scheme.{Scheme}
+use mathlib.Core.Path.{ap, ap₂, _∙_}
 use Rattle.scheme.specs.Cause.{orElse, slicesCause}
-use Rattle.bounds_spec.specs.Causes.{tableSize}
 use borrow.Author.Needs.{needs}
 use Rattle.bounds.proofs.causes.table_cause.Statement.{statement}
 use Rattle.bounds.proofs.causes.table_cause.Tie as tie
-
--- the size as the code makes it
-sized : (s : Scheme) → (s .horizon + 1) * (s .classes + 1) + 1 ≡ tableSize s
-sized s = omega arith
 
 cause-requires : tie.Need-cause-requires
 cause-requires c κs = search needs
@@ -32,8 +24,7 @@ returns c =
     let start = at-cause .before in
     c .or-else .ensures
     ∙ ap₂ (λ a b. orElse a b) (at-cause .cause .ensures)
-    (c .before .slices-cause .ensures
-    ∙ ap (λ n. slicesCause n (start .args .low) (start .args .high)) (at-table-size .table-size .ensures ∙ sized (start .args .scheme)))
+    (c .before .slices-cause .ensures ∙ ap (λ n. slicesCause n (start .args .low) (start .args .high)) (at-table-size .table-size .ensures))
 
 pub table-cause-spec : {M : Type 1} → statement M
 table-cause-spec =

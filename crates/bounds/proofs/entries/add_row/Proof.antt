@@ -5,14 +5,14 @@ use mathlib.Core.Logic.{⊎-elim}
 use native.Mathlib.Omega.{arith}
 use lib.ListN.{length}
 use Rattle.setchain.specs.Rows.{ONE}
-use Rattle.step.specs.Lists.{at}
+use Rattle.step.specs.Lists.{at, listsRow}
 use Rattle.bounds.specs.Entries.{counts}
 use Rattle.bounds.proofs.AddRowLaws.{Adding, adding-none, adding-here, adding-skip, adding-more, adding-as, adding-all}
 use Rattle.bounds.proofs.entries.add_row.Statement.{statement}
 use Rattle.bounds.proofs.entries.add_row.Tie as tie
 
 abbrev Inv-loop : tie.InvT-loop
-Inv-loop lower upper i entries₀ j₀ entries j = Adding lower upper i entries₀ entries j
+Inv-loop lower upper i entries₀ j₀ entries j = Adding (length upper) (listsRow lower upper) i entries₀ entries j
 
 abbrev μ-loop : tie.MeasureT-loop
 μ-loop lower upper i entries₀ j₀ entries j = length upper - j
@@ -23,14 +23,15 @@ here : (c : tie.Then1 Inv-loop μ-loop)
     let start = at-loop .before in
     let a = start .args in
     let l = at-loop .loop in
-    (at (l .entries) (counts + l .j) ≤ a .i) × (a .i < 32) × (l .j < 32) × (at (a .lower .now) (l .j) ≤ at (a .upper .now) (l .j)) × (at (a .upper .now) (l .j) ≤ ONE) × (l .j < length (a .lower .now))
+    let r = listsRow (a .lower .now) (a .upper .now) in
+    (at (l .entries) (counts + l .j) ≤ a .i) × (a .i < 32) × (l .j < 32) × (r .lower (l .j) ≤ r .upper (l .j)) × (r .upper (l .j) ≤ ONE)
 here c =
     let at-loop = c .before .before .before in
     let start = at-loop .before in
-    adding-here (start .pre) (at-loop .loop .inv) (omega arith)
+    adding-here (start .pre .1) (at-loop .loop .inv) (omega arith)
 
 loop-holds : tie.Need-loop-holds Inv-loop μ-loop
-loop-holds c = adding-none (c .pre)
+loop-holds c = adding-none (c .pre .1)
 
 mul-high : tie.Need-mul-high Inv-loop μ-loop
 mul-high c = omega arith
@@ -120,7 +121,7 @@ loop-again : tie.Need-loop-again Inv-loop μ-loop
 loop-again c =
     let at-loop = c .before .before .before in
     let start = at-loop .before in
-    let p = start .pre in
+    let p = start .pre .1 in
     let v = at-loop .loop .inv in
     ⊎-elim
     (λ w. adding-as (w .3) (adding-more p v (omega arith)))

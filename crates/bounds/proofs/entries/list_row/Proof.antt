@@ -4,7 +4,7 @@ use mathlib.Core.Path.{_≡_, sym, _∙_}
 use native.Mathlib.Omega.{arith}
 use lib.ListN.{length}
 use Rattle.rows.specs.Laws.Front.{front-fits, front-size, front-lent}
-use Rattle.bounds.proofs.ListRowLaws.{row-adds, row-listed}
+use Rattle.bounds.proofs.ListRowLaws.{row-adds, row-added, row-slack}
 use borrow.Author.Needs.{needs}
 use Rattle.bounds.proofs.entries.list_row.Statement.{statement}
 use Rattle.bounds.proofs.entries.list_row.Tie as tie
@@ -15,7 +15,7 @@ array-borrow-prefix-lower c = search needs
 slice-aggregate-sum-by-target : tie.Need-slice-aggregate-sum-by-target
 slice-aggregate-sum-by-target c =
     let start = c .before .before .before .before in
-    sym (front-lent (start .args .n) (start .pre .few))
+    sym (front-lent (start .args .n) (start .pre .states))
 
 sum-by-target-requires : tie.Need-sum-by-target-requires
 sum-by-target-requires c κs = search needs
@@ -26,7 +26,7 @@ array-borrow-prefix-upper c = search needs
 slice-aggregate-sum-by-target-2 : tie.Need-slice-aggregate-sum-by-target-2
 slice-aggregate-sum-by-target-2 c =
     let start = c .before .before .before .before .before .before .before in
-    sym (front-lent (start .args .n) (start .pre .few))
+    sym (front-lent (start .args .n) (start .pre .states))
 
 sum-by-target-requires-2 : tie.Need-sum-by-target-requires-2
 sum-by-target-requires-2 c κs = search needs
@@ -36,13 +36,13 @@ lower-size : (c : tie.After-sum-by-target) → let start = c .before .before .be
     length (c .sum-by-target .last .1 .1 .0) ≡ start .args .n
 lower-size c =
     let start = c .before .before .before .before .before in
-    c .sum-by-target .kept .1 .1 .0 ∙ front-lent (start .args .n) (start .pre .few)
+    c .sum-by-target .kept .1 .1 .0 ∙ front-lent (start .args .n) (start .pre .states)
 
 upper-size : (c : tie.After-sum-by-target2) → let start = c .before .before .before .before .before .before .before .before in
     length (c .sum-by-target2 .last .1 .1 .0) ≡ start .args .n
 upper-size c =
     let start = c .before .before .before .before .before .before .before .before in
-    c .sum-by-target2 .kept .1 .1 .0 ∙ front-lent (start .args .n) (start .pre .few)
+    c .sum-by-target2 .kept .1 .1 .0 ∙ front-lent (start .args .n) (start .pre .states)
 
 array-share-prefix-lower : tie.Need-array-share-prefix-lower
 array-share-prefix-lower c =
@@ -69,7 +69,8 @@ add-row-requires c κs =
     let at-sum-by-target2 = c .before .before .before .before in
     let at-sum-by-target = at-sum-by-target2 .before .before .before in
     let start = at-sum-by-target .before .before .before .before .before in
-    row-adds _ _ (start .pre) (at-sum-by-target .sum-by-target .ensures) (at-sum-by-target2 .sum-by-target2 .ensures)
+    row-adds (start .args .rules .now) (start .args .lowers .now) (start .args .uppers .now) _ _
+    (start .pre) (at-sum-by-target .sum-by-target .ensures) (at-sum-by-target2 .sum-by-target2 .ensures)
 
 array-share-prefix-lower-2 : tie.Need-array-share-prefix-lower-2
 array-share-prefix-lower-2 c =
@@ -93,7 +94,12 @@ returns c =
     let at-sum-by-target2 = at-add-row .before .before .before .before .before in
     let at-sum-by-target = at-sum-by-target2 .before .before .before in
     let start = at-sum-by-target .before .before .before .before .before in
-    row-listed _ _ (start .pre) (at-sum-by-target .sum-by-target .ensures) (at-sum-by-target2 .sum-by-target2 .ensures) (at-add-row .add-row .ensures) (c .slack .ensures)
+    let r = start .args .rules .now in
+    let l = start .args .lowers .now in
+    let u = start .args .uppers .now in
+    let lower = at-sum-by-target .sum-by-target .ensures in
+    let upper = at-sum-by-target2 .sum-by-target2 .ensures in
+    (row-added r l u _ _ (start .pre) lower upper (at-add-row .add-row .ensures), row-slack r l u _ _ (start .pre) lower upper (c .slack .ensures))
 
 pub list-row-spec : {M : Type 1} → statement M
 list-row-spec =

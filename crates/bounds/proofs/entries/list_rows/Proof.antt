@@ -3,20 +3,21 @@
 use Prim.Native.Nat.{_-_}
 use native.Mathlib.Omega.{arith}
 use borrow.Author.Needs.{needs}
-use Rattle.bounds.proofs.ListRowsLaws.{Listing, listing-none, listing-takes, listing-more, listing-all}
+use Rattle.bounds.specs.Entries.{rulesChain}
+use Rattle.bounds.proofs.ListRowsLaws.{Listing, listing-none, listing-adds, listing-more, listing-all}
 use Rattle.bounds.proofs.entries.list_rows.Statement.{statement}
 use Rattle.bounds.proofs.entries.list_rows.Tie as tie
 
 abbrev Inv-loop : tie.InvT-loop
-Inv-loop rules lowers uppers n entries₀ spare₀ m i₀ entries slack i =
-    Listing n rules lowers uppers entries slack i
+Inv-loop rules lowers uppers n entries₀ slack₀ m i₀ entries slack i = Listing (rulesChain n rules lowers uppers) entries slack i
 
 abbrev μ-loop : tie.MeasureT-loop
-μ-loop rules lowers uppers n entries₀ spare₀ m i₀ entries slack i =
-    n - i
+μ-loop rules lowers uppers n entries₀ slack₀ m i₀ entries slack i = n - i
 
 loop-holds : tie.Need-loop-holds Inv-loop μ-loop
-loop-holds c = listing-none (c .before .before .before .pre)
+loop-holds c =
+    let start = c .before .before .before in
+    listing-none (start .pre)
 
 mul-first : tie.Need-mul-first Inv-loop μ-loop
 mul-first c = omega arith
@@ -37,7 +38,7 @@ list-row-requires : tie.Need-list-row-requires Inv-loop μ-loop
 list-row-requires c κs =
     let at-loop = c .before .before .before in
     let start = at-loop .before .before .before .before in
-    listing-takes (start .pre) (at-loop .loop .i) (at-loop .loop .inv) (omega arith)
+    listing-adds (start .pre) (at-loop .loop .i) (at-loop .loop .inv) (omega arith)
 
 mul-slack : tie.Need-mul-slack Inv-loop μ-loop
 mul-slack c = omega arith
@@ -55,7 +56,7 @@ loop-again : tie.Need-loop-again Inv-loop μ-loop
 loop-again c =
     let at-loop = c .before .before .before .before in
     let start = at-loop .before .before .before .before in
-    listing-more (start .pre) (at-loop .loop .i) (at-loop .loop .inv) (omega arith) (c .list-row .ensures)
+    listing-more (start .pre) (at-loop .loop .i) (at-loop .loop .inv) (c .list-row .result) (omega arith) (c .list-row .ensures .0) (c .list-row .ensures .1)
 
 returns : tie.Need-returns Inv-loop μ-loop
 returns c =

@@ -3,9 +3,10 @@
 use Prim.Native.Nat.{_-_}
 use native.Mathlib.Omega.{arith}
 use Rattle.order.specs.Laws.Written.{Written, written-none}
-use Rattle.bounds.proofs.ListSchemeLaws.{empty-listed}
-use Rattle.bounds.proofs.CallLaws.{share-ready}
-use Rattle.bounds.proofs.SheetLaws.{shareOf, shares-more, shares-all}
+use Rattle.bounds.specs.Sheets.{shareOf}
+use Rattle.bounds.proofs.ListSchemeLaws.{lists-empty}
+use Rattle.bounds.proofs.SheetLaws.{share-ready, shares-more, shares-all}
+use borrow.Author.Needs.{needs}
 use Rattle.bounds.proofs.sheet.write_shares.Statement.{statement}
 use Rattle.bounds.proofs.sheet.write_shares.Tie as tie
 
@@ -16,7 +17,9 @@ abbrev μ-loop : tie.MeasureT-loop
 μ-loop scheme year high out₀ entries slack gain j₀ out j = scheme .classes - j
 
 list-scheme-requires : tie.Need-list-scheme-requires Inv-loop μ-loop
-list-scheme-requires c κs = (c .before .before .before .pre .accepted, empty-listed)
+list-scheme-requires c κs =
+    let start = c .before .before .before in
+    (start .pre .accepted, lists-empty)
 
 loop-holds : tie.Need-loop-holds Inv-loop μ-loop
 loop-holds c =
@@ -27,14 +30,19 @@ add-share-payoff : tie.Need-add-share-payoff Inv-loop μ-loop
 add-share-payoff c = omega arith
 
 share-payoff-requires : tie.Need-share-payoff-requires Inv-loop μ-loop
-share-payoff-requires c κs = (omega arith, omega arith)
+share-payoff-requires c κs = tt
 
-start-figure-requires : tie.Need-start-figure-requires Inv-loop μ-loop
-start-figure-requires c κs =
-    let at-share-payoff = c .before .before in
-    let at-list-scheme = c .before .before .before .before .before in
-    let s = c .before .before .before .before .before .before .before .before .before in
-    (share-ready (s .args .scheme) (s .pre .accepted) (at-share-payoff .share-payoff .ensures) (s .args .year), at-list-scheme .list-scheme .ensures)
+slice-aggregate-series : tie.Need-slice-aggregate-series Inv-loop μ-loop
+slice-aggregate-series c = search needs
+
+series-requires : tie.Need-series-requires Inv-loop μ-loop
+series-requires c κs =
+    let at-share-payoff = c .before .before .before in
+    let at-list-scheme = at-share-payoff .before .before .before in
+    let start = at-list-scheme .before .before .before .before in (
+      share-ready (start .args .scheme) (start .args .year) (start .pre .accepted) (omega arith) (omega arith) (at-share-payoff .share-payoff .ensures),
+      at-list-scheme .list-scheme .ensures,
+    )
 
 mul-out : tie.Need-mul-out Inv-loop μ-loop
 mul-out c = omega arith
@@ -50,19 +58,23 @@ loop-less c = omega arith
 
 loop-again : tie.Need-loop-again Inv-loop μ-loop
 loop-again c =
-    let at-share-payoff = c .before .before .before in
-    let at-loop = c .before .before .before .before .before in
-    let s = c .before .before .before .before .before .before .before .before .before .before in
+    let at-series = c .before in
+    let at-share-payoff = at-series .before .before .before .before in
+    let at-loop = at-share-payoff .before .before in
+    let start = at-loop .before .before .before .before .before in
+    let a = start .args in
     let l = at-loop .loop in
-    shares-more (s .args .scheme) (s .args .high) (s .args .year) (l .out) (l .j) (s .pre .accepted) (omega arith) (at-share-payoff .share-payoff .ensures) (c .start-figure .ensures) (l .inv)
+    shares-more (a .scheme) (a .high) (a .year) (l .out) (l .j) (start .pre .accepted) (omega arith)
+    (at-share-payoff .share-payoff .ensures) (at-series .series .ensures .figure) (l .inv)
 
 same-length : tie.Need-same-length Inv-loop μ-loop
 same-length c = omega arith
 
 returns : tie.Need-returns Inv-loop μ-loop
 returns c =
-    let s = c .before .before .before .before .before .before in
-    shares-all (s .args .scheme) (s .args .high) (s .args .year) (c .before .loop .out) (omega arith) (c .before .loop .inv)
+    let at-loop = c .before in
+    let start = at-loop .before .before .before .before .before in
+    shares-all (start .args .scheme) (start .args .high) (start .args .year) (at-loop .loop .out) (omega arith) (at-loop .loop .inv)
 
 pub write-shares-spec : {M : Type 1} → statement M
 write-shares-spec =
@@ -74,7 +86,8 @@ write-shares-spec =
     loop-holds
     add-share-payoff
     share-payoff-requires
-    start-figure-requires
+    slice-aggregate-series
+    series-requires
     mul-out
     slice-write-out
     add-j

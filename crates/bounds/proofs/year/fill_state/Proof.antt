@@ -1,4 +1,4 @@
--- `fill_state` passes the entries in turn: what each row has left and its sum tell of those passed.
+-- `fill_state` takes the entries in turn: what each row has left and its sum tell of those taken.
 -- Assumes nothing.
 use Prim.Native.Nat.{min, _+_, _-_, _*_, _≤_, _<_}
 use mathlib.Core.Path.{_≡_, refl}
@@ -8,15 +8,15 @@ use Rattle.setchain.specs.Rows.{ONE}
 use Rattle.step.specs.Lists.{at}
 use Rattle.step.specs.Figure.{LARGEST}
 use Rattle.bounds.specs.Entries.{lowerEnds, capacities}
-use Rattle.bounds.proofs.FillStateLaws.{FillingState, filling-none, row-inside, filling-fits, filling-more, filling-all}
+use Rattle.bounds.proofs.FillStateLaws.{EntriesTaken, entries-none, row-inside, entry-fits, entries-more, entries-all}
 use Rattle.bounds.proofs.year.fill_state.Statement.{statement}
 use Rattle.bounds.proofs.year.fill_state.Tie as tie
 
 abbrev Inv-loop : tie.InvT-loop
-Inv-loop entries first end value left₀ sums₀ e₀ left sums e = FillingState entries first end value left₀ sums₀ left sums e
+Inv-loop entries first end payoff left₀ sums₀ e₀ left sums e = EntriesTaken entries first end payoff left₀ sums₀ left sums e
 
 abbrev μ-loop : tie.MeasureT-loop
-μ-loop entries first end value left₀ sums₀ e₀ left sums e = end - e
+μ-loop entries first end payoff left₀ sums₀ e₀ left sums e = end - e
 
 -- the entry's place, and its row's
 here : (c : tie.After-i Inv-loop μ-loop)
@@ -30,7 +30,7 @@ here c =
     let start = at-loop .before .before .before in
     let able = start .pre in
     let w = at-loop .loop .inv in
-    omega (arith, able .ends, able .size, w .given .lefts, w .given .size, row-inside able w (omega arith) refl refl)
+    omega (arith, able .inside, able .size, w .filled .lefts, w .filled .size, row-inside able w (omega arith) refl refl)
 
 -- what its row is given
 given : (c : tie.After-smaller Inv-loop μ-loop)
@@ -47,11 +47,11 @@ fits : (c : tie.After-sums Inv-loop μ-loop)
     let start = at-loop .before .before .before in
     let a = start .args in
     let l = at-loop .loop in
-    at (l .sums) (at (a .entries .now) (l .e)) + (at (a .entries .now) (lowerEnds + l .e) + c .before .smaller .result) * a .value ≤ LARGEST * ONE
+    at (l .sums) (at (a .entries .now) (l .e)) + (at (a .entries .now) (lowerEnds + l .e) + c .before .smaller .result) * a .payoff ≤ LARGEST * ONE
 fits c =
     let at-loop = c .before .before .before .before .before .before in
     let start = at-loop .before .before .before in
-    filling-fits (start .pre) (at-loop .loop .inv) (omega arith) refl (given (c .before))
+    entry-fits (start .pre) (at-loop .loop .inv) (omega arith) refl (given (c .before))
 
 -- as the entry does
 small : (c : tie.After-sums Inv-loop μ-loop)
@@ -64,17 +64,19 @@ small c =
     omega (arith, given (c .before), start .pre .small (at-loop .loop .e) (at-loop .loop .inv .begun) (omega arith))
 
 loop-holds : tie.Need-loop-holds Inv-loop μ-loop
-loop-holds c = filling-none (c .before .before .pre)
+loop-holds c =
+    let start = c .before .before in
+    entries-none (start .pre)
 
 mul-i : tie.Need-mul-i Inv-loop μ-loop
 mul-i c =
     let start = c .before .before .before .before in
-    omega (arith, start .pre .ends)
+    omega (arith, start .pre .inside)
 
 element-copy-out-i : tie.Need-element-copy-out-i Inv-loop μ-loop
 element-copy-out-i c =
     let start = c .before .before .before .before in
-    omega (arith, start .pre .ends)
+    omega (arith, start .pre .inside)
 
 cast-i : tie.Need-cast-i Inv-loop μ-loop
 cast-i c = omega (arith, here c)
@@ -155,20 +157,20 @@ loop-again c =
     let at-smaller = c .before .before in
     let at-loop = at-smaller .before .before .before .before .before in
     let start = at-loop .before .before .before in
-    filling-more (start .pre) (at-loop .loop .inv) (omega arith) refl (given at-smaller)
+    entries-more (start .pre) (at-loop .loop .inv) (omega arith) refl (given at-smaller)
 
 same-length : tie.Need-same-length Inv-loop μ-loop
-same-length c = omega (arith, c .before .loop .inv .given .lefts)
+same-length c = omega (arith, c .before .loop .inv .filled .lefts)
 
 same-length-2 : tie.Need-same-length-2 Inv-loop μ-loop
 same-length-2 c =
     let start = c .before .before .before .before in
-    omega (arith, c .before .loop .inv .given .size, start .pre .size)
+    omega (arith, c .before .loop .inv .filled .size, start .pre .size)
 
 returns : tie.Need-returns Inv-loop μ-loop
 returns c =
     let start = c .before .before .before .before in
-    filling-all (start .pre) (omega arith) (c .before .loop .inv)
+    entries-all (start .pre) (omega arith) (c .before .loop .inv)
 
 pub fill-state-spec : {M : Type 1} → statement M
 fill-state-spec =

@@ -1,4 +1,4 @@
--- `fill_states` gives the entries to the states along the order.
+-- `fill_states` fills the states in turn, along the order.
 -- Assumes nothing.
 use Prim.Native.Nat.{_+_, _-_, _≤_, _<_}
 use mathlib.Core.Path.{_≡_, _∙_}
@@ -6,13 +6,13 @@ use native.Mathlib.Omega.{arith}
 use lib.ListN.{length}
 use Rattle.step.specs.Lists.{at}
 use Rattle.bounds.specs.Entries.{counts}
-use Rattle.bounds.proofs.YearLaws.{Passing, filling-states-none, state-inside, list-short, fill-states-fills, filling-states-more, filling-states-all}
+use Rattle.bounds.proofs.YearLaws.{StatesFilled, states-none, state-inside, list-short, state-fills, states-more, states-all}
 use Rattle.order.specs.Laws.Numbers.{state-of}
 use Rattle.bounds.proofs.year.fill_states.Statement.{statement}
 use Rattle.bounds.proofs.year.fill_states.Tie as tie
 
 abbrev Inv-loop : tie.InvT-loop
-Inv-loop entries payoff order left₀ sums₀ k₀ left sums k = Passing entries payoff order left₀ left sums k
+Inv-loop entries payoff order left₀ sums₀ k₀ left sums k = StatesFilled entries payoff order left₀ left sums k
 
 abbrev μ-loop : tie.MeasureT-loop
 μ-loop entries payoff order left₀ sums₀ k₀ left sums k = length payoff - k
@@ -38,12 +38,12 @@ here c =
     let able = start .pre in
     let w = at-loop .loop .inv in
     let more : at-loop .loop .k < length (start .args .payoff .now) = omega (arith, able .permutation .size) in
-    omega (arith, able .held .few, state-inside able w more (named c), list-short able w more (named c))
+    omega (arith, able .lists .states, state-inside able w more (named c), list-short able w more (named c))
 
 loop-holds : tie.Need-loop-holds Inv-loop μ-loop
 loop-holds c =
     let start = c .before .before .before .before in
-    filling-states-none (start .pre)
+    states-none (start .pre)
 
 shared-slice-read-state : tie.Need-shared-slice-read-state Inv-loop μ-loop
 shared-slice-read-state c = omega arith
@@ -80,7 +80,7 @@ fill-state-requires c κs =
     let at-state = c .before .before .before .before in
     let at-loop = at-state .before .before .before in
     let start = at-loop .before .before .before .before .before in
-    fill-states-fills (start .pre) (at-loop .loop .inv) (omega (arith, start .pre .permutation .size)) (named at-state)
+    state-fills (start .pre) (at-loop .loop .inv) (omega (arith, start .pre .permutation .size)) (named at-state)
 
 add-k : tie.Need-add-k Inv-loop μ-loop
 add-k c = omega arith
@@ -96,7 +96,7 @@ loop-again c =
     let at-state = at-fill-state .before .before .before .before .before in
     let at-loop = at-state .before .before .before in
     let start = at-loop .before .before .before .before .before in
-    filling-states-more (start .pre) (at-loop .loop .inv) (omega (arith, start .pre .permutation .size)) (named at-state) (at-fill-state .fill-state .ensures)
+    states-more (start .pre) (at-loop .loop .inv) (omega (arith, start .pre .permutation .size)) (named at-state) (at-fill-state .fill-state .ensures)
 
 same-length : tie.Need-same-length Inv-loop μ-loop
 same-length c =
@@ -111,7 +111,7 @@ same-length-2 c =
 returns : tie.Need-returns Inv-loop μ-loop
 returns c =
     let start = c .before .before .before .before .before .before in
-    filling-states-all (start .pre) (omega (arith, start .pre .permutation .size)) (c .before .loop .inv)
+    states-all (start .pre) (omega (arith, start .pre .permutation .size)) (c .before .loop .inv)
 
 pub fill-states-spec : {M : Type 1} → statement M
 fill-states-spec =

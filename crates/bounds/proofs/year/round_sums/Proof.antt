@@ -6,18 +6,20 @@ use native.Mathlib.Omega.{arith}
 use lib.ListN.{length}
 use Rattle.order.specs.Laws.Written.{Rewritten, rewritten-none, rewritten-more}
 use Rattle.step.specs.Lists.{at}
-use Rattle.bounds.proofs.YearLaws.{settled, rounding-fits, rounding-all}
+use Rattle.bounds.proofs.YearLaws.{roundedSum, figure-fits, figures-all}
 use Rattle.bounds.proofs.year.round_sums.Statement.{statement}
 use Rattle.bounds.proofs.year.round_sums.Tie as tie
 
 abbrev Inv-loop : tie.InvT-loop
-Inv-loop gain high sums₀ i₀ sums i = Rewritten (length gain) (settled gain high) sums₀ sums i
+Inv-loop gain high sums₀ i₀ sums i = Rewritten (length gain) (roundedSum gain high) sums₀ sums i
 
 abbrev μ-loop : tie.MeasureT-loop
 μ-loop gain high sums₀ i₀ sums i = length gain - i
 
 loop-holds : tie.Need-loop-holds Inv-loop μ-loop
-loop-holds c = rewritten-none (c .before .before .pre .size)
+loop-holds c =
+    let start = c .before .before in
+    rewritten-none (start .pre .size)
 
 mul-sums : tie.Need-mul-sums Inv-loop μ-loop
 mul-sums c = omega arith
@@ -38,7 +40,7 @@ add-sums : tie.Need-add-sums Inv-loop μ-loop
 add-sums c =
     let at-loop = c .before .before .before .before in
     let start = at-loop .before .before .before in
-    rounding-fits (start .args .high) (start .pre) (at-loop .loop .inv) (omega arith) (c .round .ensures)
+    figure-fits (start .args .high) (start .pre) (at-loop .loop .inv) (omega arith) (c .round .ensures)
 
 mul-sums-2 : tie.Need-mul-sums-2 Inv-loop μ-loop
 mul-sums-2 c = omega arith
@@ -56,7 +58,8 @@ loop-again : tie.Need-loop-again Inv-loop μ-loop
 loop-again c =
     let at-loop = c .before .before .before .before in
     let start = at-loop .before .before .before in
-    rewritten-more _ _ _ (at-loop .loop .sums) _ _ (omega arith) (ap (λ x. at (start .args .gain .now) (at-loop .loop .i) + x) (c .round .ensures)) (at-loop .loop .inv)
+    rewritten-more _ _ _ (at-loop .loop .sums) _ _ (omega arith)
+    (ap (λ x. at (start .args .gain .now) (at-loop .loop .i) + x) (c .round .ensures)) (at-loop .loop .inv)
 
 same-length : tie.Need-same-length Inv-loop μ-loop
 same-length c =
@@ -66,7 +69,7 @@ same-length c =
 returns : tie.Need-returns Inv-loop μ-loop
 returns c =
     let start = c .before .before .before .before in
-    rounding-all (start .args .high) (start .pre) (c .before .loop .inv) (omega arith)
+    figures-all (start .args .high) (start .pre) (c .before .loop .inv) (omega arith)
 
 pub round-sums-spec : {M : Type 1} → statement M
 round-sums-spec =

@@ -5,7 +5,7 @@ use mathlib.Core.Path.{sym}
 use lib.ListN.{length, drop}
 use lib.Seq.{length-take-le}
 use Rattle.bounds.proofs.FrontLaws.{zeros}
-use Rattle.bounds.proofs.YearLaws.{slack-count, year-permutation, year-fills-states, sums-fit, sums-size, year-rounds, year-figures}
+use Rattle.bounds.proofs.YearLaws.{slack-count, year-permutation, year-fills, sums-fit, sums-size, year-rounds, year-figures}
 use borrow.Author.Needs.{needs}
 use Rattle.bounds.proofs.year.year.Statement.{statement}
 use Rattle.bounds.proofs.year.year.Tie as tie
@@ -36,7 +36,7 @@ slice-aggregate-fill-states c =
 array-borrow-prefix-left : tie.Need-array-borrow-prefix-left
 array-borrow-prefix-left c =
     let start = c .before .before .before .before .before .before .before .before .before .before in
-    start .pre .held .stored
+    start .pre .lists .slacks
 
 slice-aggregate-fill-states-2 : tie.Need-slice-aggregate-fill-states-2
 slice-aggregate-fill-states-2 c =
@@ -55,7 +55,7 @@ fill-states-requires : tie.Need-fill-states-requires
 fill-states-requires c κs =
     let at-sort = c .before .before .before .before .before .before .before in
     let start = at-sort .before .before .before .before .before in
-    year-fills-states (start .pre) (fits start) (start .args .high) (at-sort .sort .ensures)
+    year-fills (start .pre) (fits start) (start .args .high) (at-sort .sort .ensures)
 
 array-borrow-prefix-sums-2 : tie.Need-array-borrow-prefix-sums-2
 array-borrow-prefix-sums-2 c =

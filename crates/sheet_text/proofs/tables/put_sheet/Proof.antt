@@ -1,57 +1,48 @@
 -- `tables::put_sheet` meets its contract: the tables stand in the first parts of two arrays.
+use Prim.Native.Nat.{_≤_}
 use mathlib.Core.Path.{sym, _∙_}
 use native.Mathlib.Omega.{arith}
-use Rattle.sheet_spec.specs.Laws.Space.{table-at-most, zeros-part}
+use Rattle.bounds_spec.specs.Laws.Table.{table-at-most}
+use Rattle.sheet_spec.specs.Laws.Space.{zeros-part}
 use borrow.Author.Needs.{needs}
 use Rattle.sheet_text.proofs.tables.put_sheet.Statement.{statement}
 use Rattle.sheet_text.proofs.tables.put_sheet.Tie as tie
 
-cast-size : tie.Need-cast-size
-cast-size c = search needs
+table-size-requires : tie.Need-table-size-requires
+table-size-requires c κs = search needs
 
-add-size : tie.Need-add-size
-add-size c = search needs
-
-cast-size-2 : tie.Need-cast-size-2
-cast-size-2 c = search needs
-
-add-size-2 : tie.Need-add-size-2
-add-size-2 c = search needs
-
-mul-size : tie.Need-mul-size
-mul-size c = omega (arith, table-at-most (c .before .before .before .args .scheme) (c .before .before .before .pre .1))
-
-add-size-3 : tie.Need-add-size-3
-add-size-3 c = omega (arith, table-at-most (c .before .before .before .args .scheme) (c .before .before .before .pre .1))
+-- the arrays have space for the tables
+fits : (c : tie.After-table-size) → c .table-size .result ≤ 3334
+fits c =
+    let start = c .before .before in
+    omega (arith, c .table-size .ensures, table-at-most (start .args .scheme) (start .pre .1))
 
 array-borrow-prefix-low : tie.Need-array-borrow-prefix-low
 array-borrow-prefix-low c =
-    let start = c .before .before .before .before in
-    table-at-most (start .args .scheme) (start .pre .1)
+    let at-table-size = c .before in
+    fits at-table-size
 
 slice-aggregate-filled : tie.Need-slice-aggregate-filled
 slice-aggregate-filled c =
-    let start = c .before .before .before .before .before in
-    sym (zeros-part 3334 _ (table-at-most (start .args .scheme) (start .pre .1)))
+    let at-table-size = c .before .before in
+    sym (zeros-part 3334 _ (fits at-table-size))
 
 array-borrow-prefix-high : tie.Need-array-borrow-prefix-high
 array-borrow-prefix-high c =
-    let start = c .before .before .before .before .before in
-    table-at-most (start .args .scheme) (start .pre .1)
+    let at-table-size = c .before .before in
+    fits at-table-size
 
 slice-aggregate-filled-2 : tie.Need-slice-aggregate-filled-2
 slice-aggregate-filled-2 c =
-    let start = c .before .before .before .before .before .before in
-    sym (zeros-part 3334 _ (table-at-most (start .args .scheme) (start .pre .1)))
+    let at-table-size = c .before .before .before in
+    sym (zeros-part 3334 _ (fits at-table-size))
 
 filled-requires : tie.Need-filled-requires
 filled-requires c κs =
-    let start = c .before .before .before .before .before .before in (
-      start .pre .0,
-      start .pre .1,
-      zeros-part 3334 _ (table-at-most (start .args .scheme) (start .pre .1)) ∙ omega arith,
-      zeros-part 3334 _ (table-at-most (start .args .scheme) (start .pre .1)) ∙ omega arith,
-    )
+    let at-table-size = c .before .before .before in
+    let start = at-table-size .before .before in
+    let size = zeros-part 3334 _ (fits at-table-size) ∙ at-table-size .table-size .ensures in
+    (start .pre .0, start .pre .1, size, size)
 
 same-length : tie.Need-same-length
 same-length c = search needs
@@ -63,12 +54,7 @@ pub put-sheet-spec : {M : Type 1} → statement M
 put-sheet-spec =
     tie.close
     (tie.spec
-    cast-size
-    add-size
-    cast-size-2
-    add-size-2
-    mul-size
-    add-size-3
+    table-size-requires
     array-borrow-prefix-low
     slice-aggregate-filled
     array-borrow-prefix-high

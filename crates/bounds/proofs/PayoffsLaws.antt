@@ -1,0 +1,108 @@
+-- The payoffs and gains of a share, a mean and a total: that their figures fit, and which figures they are.
+-- Assumes nothing.
+use Prim.Native.Nat.{ℕ, _+_, _-_, _≤_, _<_}
+use mathlib.Core.Path.{_≡_, refl, ap, sym, _∙_}
+use mathlib.Core.Bool.{Bool}
+use mathlib.Core.List.{List}
+use native.Mathlib.Decide.{ℕ-discrete}
+use native.Mathlib.Omega.{arith}
+use lib.Dec.{eqb}
+use lib.ListN.{set, getD-replicate}
+use lib.Seq.{getD-set-same, getD-set-other}
+use borrow.Author.Tests.{eq-eqb, ne-eqb}
+use Rattle.setchain.specs.Rows.{ONE}
+use Rattle.setchain.specs.Years.{yearsFigure, nothing, sharePayoff, shareFigure, meanFigure, totalFigure}
+use Rattle.setchain.specs.Laws.Sums.{onlyIf-le, onlyIf-true, onlyIf-false}
+use Rattle.setchain.specs.Laws.Agreeing.{agree-refl, years-agree}
+use Rattle.scheme.specs.declared.Scheme.{Scheme}
+use Rattle.scheme.specs.Access.{premiumAt}
+use Rattle.scheme.specs.Accepted.{Accepted}
+use Rattle.scheme.specs.Rows.{chainOf}
+use Rattle.step.specs.Lists.{at}
+use Rattle.step.specs.Figure.{LARGEST}
+use Rattle.bounds_spec.specs.Answers.{startOf}
+use Rattle.bounds.specs.Years.{FiguresFit}
+use Rattle.bounds.specs.Series.{SharePayoffPost, startFigure}
+use Rattle.bounds.specs.Sheets.{shareOf}
+use Rattle.bounds.proofs.FrontLaws.{zeros}
+
+-- an array of zeros with ONE at a class is its share's payoff
+pub share-written : (class : ℕ) → SharePayoffPost class (set zeros (class - 1) ONE)
+share-written class = record { each = λ low high i l. by high i l (ℕ-discrete i (class - 1)) }
+  where
+    by : class ≤ 32 → (i : ℕ) → i < 32 → Dec (i ≡ class - 1) → at (set zeros (class - 1) ONE) i ≡ sharePayoff (class - 1) i
+    by high i l (yes e) =
+        ap (at (set zeros (class - 1) ONE)) e
+        ∙ getD-set-same zeros (class - 1) ONE 0 (omega arith)
+        ∙ sym (onlyIf-true (eqb i (class - 1)) ONE (eq-eqb i (class - 1) e))
+    by high i l (no d) =
+        getD-set-other zeros (class - 1) i ONE 0 d
+        ∙ getD-replicate 32 i 0 0 l
+        ∙ sym (onlyIf-false (eqb i (class - 1)) ONE (ne-eqb i (class - 1) d))
+
+zero-at : (j : ℕ) → j < 32 → at zeros j ≡ 0
+zero-at j l = getD-replicate 32 j 0 0 l
+
+module _ (s : Scheme) (ok : Accepted s) where
+  below-32 : (j : ℕ) → j < s .classes → j < 32
+  below-32 j l = omega (arith, ok .size .classes)
+
+  -- without a gain the payoffs alone count
+  fits-alone : (payoff : List ℕ) (most t : ℕ) → most ≤ LARGEST → ((j : ℕ) → j < s .classes → at payoff j ≤ most) → FiguresFit (s .classes) zeros payoff t
+  fits-alone payoff most t h each =
+      record {
+        payoffMost = most;
+        gainMost = 0;
+        payoffs = each;
+        gains = λ j l. omega (arith, zero-at j (below-32 j l));
+        figures = omega arith;
+        small = omega arith;
+      }
+
+  -- payoffs and gains in arrays, and as functions of the state
+  as-functions : (high : Bool) (gain payoff : List ℕ) (g f : ℕ → ℕ) (t : ℕ) → ((j : ℕ) → j < 32 → at payoff j ≡ f j) → ((j : ℕ) → j < 32 → at gain j ≡ g j)
+      → startFigure high s gain payoff t ≡ yearsFigure high (chainOf s) f g t (startOf s)
+  as-functions high gain payoff g f t p q =
+      years-agree refl (λ i l. agree-refl (s .classes) (chainOf s .row i)) (λ j l. p j (below-32 j l)) (λ j l. q j (below-32 j l)) high t (startOf s)
+      (omega (arith, ok .start .positive, ok .start .within))
+
+  -- the share of a class
+  module _ {class : ℕ} {payoff : List ℕ} (held : SharePayoffPost class payoff) (positive : 1 ≤ class) (inside : class ≤ 32) (t : ℕ) where
+    pub share-fits : FiguresFit (s .classes) zeros payoff t
+    share-fits = fits-alone payoff ONE t (omega arith) (λ j l. omega (arith, held .each positive inside j (below-32 j l), onlyIf-le (eqb j (class - 1)) ONE))
+
+    pub share-figure : (high : Bool) → startFigure high s zeros payoff t ≡ shareFigure high (chainOf s) (class - 1) t (startOf s)
+    share-figure high = as-functions high zeros payoff nothing (sharePayoff (class - 1)) t (held .each positive inside) zero-at
+
+  -- the share of the class of state j
+  module _ {j : ℕ} {payoff : List ℕ} (held : SharePayoffPost (j + 1) payoff) (inside : j < s .classes) (t : ℕ) where
+    pub state-fits : FiguresFit (s .classes) zeros payoff t
+    state-fits = share-fits held (omega arith) (omega (arith, below-32 j inside)) t
+
+    pub state-share : (high : Bool) → startFigure high s zeros payoff t ≡ shareOf high s t j
+    state-share high =
+        let again : j + 1 - 1 ≡ j = omega arith in
+        share-figure held (omega arith) (omega (arith, below-32 j inside)) t high ∙ ap (shareOf high s t) again
+
+  -- the mean premium, and the total of premiums, where an array holds the premiums
+  module _ {premiums : List ℕ} (are : premiums ≡ s .premiums) (t : ℕ) where
+    pub mean-fits : FiguresFit (s .classes) zeros premiums t
+    mean-fits = rw are (fits-alone (s .premiums) 10000000 t (omega arith) (ok .premiums .within))
+
+    pub mean-figure : (high : Bool) → startFigure high s zeros premiums t ≡ meanFigure high (chainOf s) (premiumAt s) t (startOf s)
+    mean-figure high = rw are (as-functions high zeros (s .premiums) nothing (premiumAt s) t (λ j l. refl) zero-at)
+
+    pub total-fits : t ≤ 100 → FiguresFit (s .classes) premiums zeros t
+    total-fits h =
+        rw are
+        (record {
+          payoffMost = 0;
+          gainMost = 10000000;
+          payoffs = λ j l. omega (arith, zero-at j (below-32 j l));
+          gains = ok .premiums .within;
+          figures = omega arith;
+          small = omega arith;
+        })
+
+    pub total-figure : (high : Bool) → startFigure high s premiums zeros t ≡ totalFigure high (chainOf s) (premiumAt s) t (startOf s)
+    total-figure high = rw are (as-functions high (s .premiums) zeros (premiumAt s) nothing t zero-at (λ j l. refl))

@@ -1,0 +1,91 @@
+-- The start class's figures: from a scheme's arrays to the slices that the years take, and from the lists of its entries to its chain.
+-- Assumes nothing.
+use Prim.Native.Nat.{ℕ, _+_, _-_, _≤_, _<_}
+use mathlib.Core.Path.{_≡_, refl, ap, sym, _∙_, subst}
+use mathlib.Core.Bool.{Bool}
+use mathlib.Core.List.{List, _++_}
+use native.Mathlib.Omega.{arith}
+use lib.ListN.{length, take, length-append}
+use lib.Seq.{length-take-le, getD-take, take-at}
+use Rattle.setchain.specs.Years.{yearsFigure}
+use Rattle.setchain.specs.Laws.Agreeing.{years-agree}
+use Rattle.scheme.specs.declared.Scheme.{Scheme}
+use Rattle.scheme.specs.Rows.{chainOf}
+use Rattle.order.specs.Order.{Permutation, identityOrder}
+use Rattle.order.specs.Laws.Permutations.{identity-permutation}
+use Rattle.step.specs.Lists.{at}
+use Rattle.bounds_spec.specs.Answers.{startOf}
+use Rattle.bounds.specs.Entries.{chainListed, SoundLists, ListRowsPost}
+use Rattle.bounds.specs.Years.{YearsPre, YearsPost}
+use Rattle.bounds.specs.Series.{startFigure, SeriesPre, SeriesPost}
+use Rattle.bounds.proofs.FrontLaws.{zeros}
+
+module _ (s : Scheme) {entries slack gain payoff : List ℕ} {t stride : ℕ} (w : SeriesPre s gain payoff t stride)
+    (e : ListRowsPost (chainOf s) entries slack) (gainStored : 32 ≤ length gain) where
+  abbrev n : ℕ
+  n = s .classes
+
+  gains-count : length (take n gain) ≡ n
+  gains-count = length-take-le n gain (omega (arith, e .lists .states))
+
+  start-inside : startOf s < n
+  start-inside = omega (arith, w .accepted .start .positive, w .accepted .start .within)
+
+  -- the classes in the order of their numbers, at the front of an array
+  module _ (order rest : List ℕ) (is : order ≡ identityOrder (take n zeros)) where
+    permutation : Permutation (length (take n zeros)) order
+    permutation =
+        subst (Permutation (length (take n zeros))) (sym is)
+        (identity-permutation (take n zeros) (omega (arith, length-take-le n zeros (e .lists .states), e .lists .states)))
+
+    order-count : length order ≡ n
+    order-count = permutation .size ∙ length-take-le n zeros (e .lists .states)
+
+    pub order-fits : n ≤ length (order ++ rest)
+    order-fits = omega (arith, order-count, length-append order rest)
+
+    pub order-size : n ≡ length (take n (order ++ rest))
+    order-size = sym (length-take-le n (order ++ rest) order-fits)
+
+    pub series-years : (i : ℕ) → i ≡ startOf s → YearsPre entries slack (take n gain) (take n (order ++ rest)) payoff t i stride
+    series-years i g =
+        record {
+          lists = subst (λ k. SoundLists k entries slack) (sym gains-count) (e .lists);
+          permutation =
+              subst (λ o. Permutation (length (take n gain)) o) (sym (take-at order rest n order-count))
+              (subst (λ k. Permutation k order) (length-take-le n zeros (e .lists .states) ∙ sym gains-count) permutation);
+          fits =
+              record {
+                payoffMost = w .fits .payoffMost;
+                gainMost = w .fits .gainMost;
+                payoffs = λ j l. w .fits .payoffs j (omega (arith, gains-count));
+                gains = λ j l. omega (arith, getD-take n gain j 0 (omega (arith, gains-count)), w .fits .gains j (omega (arith, gains-count)));
+                figures = w .fits .figures;
+                small = w .fits .small;
+              };
+          inside = omega (arith, g, gains-count, start-inside);
+          apart = w .apart;
+          counted = w .counted;
+        }
+
+  -- the figures by the lists are those of the scheme's chain
+  figure-is : (high : Bool) (u i : ℕ) → i ≡ startOf s
+      → yearsFigure high (chainListed (length (take n gain)) entries) (at payoff) (at (take n gain)) u i ≡ startFigure high s gain payoff u
+  figure-is high u i g =
+      ap (yearsFigure high (chainListed (length (take n gain)) entries) (at payoff) (at (take n gain)) u) g
+      ∙ ap (λ k. yearsFigure high (chainListed k entries) (at payoff) (at (take n gain)) u (startOf s)) gains-count
+      ∙ years-agree refl (e .agrees) (λ j l. refl) (λ j l. getD-take n gain j 0 l) high u (startOf s) start-inside
+
+  pub series-done : {high : Bool} {order figures before after : List ℕ} (i : ℕ) → i ≡ startOf s
+      → YearsPost entries (take n gain) payoff high t i stride (t + 1) order figures before after
+      → SeriesPost high s gain payoff t stride before after (at figures i)
+  series-done {high} i g ran =
+      record {
+        figure = ran .each i (omega (arith, g, gains-count, start-inside)) ∙ figure-is high t i g;
+        series =
+            record {
+              size = ran .series .size;
+              done = λ u l h. ran .series .done u l h ∙ figure-is high u i g;
+              other = ran .series .other;
+            };
+      }

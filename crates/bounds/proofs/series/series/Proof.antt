@@ -1,0 +1,116 @@
+-- `series` numbers the classes, runs the years on the parts in use, and reads the start class's figure.
+-- Assumes nothing.
+use Prim.Native.Nat.{_-_, _≤_, _<_}
+use mathlib.Core.Path.{_≡_, sym, _∙_}
+use native.Mathlib.Omega.{arith}
+use lib.ListN.{length, drop}
+use lib.Seq.{length-take-le}
+use Rattle.order.specs.Laws.Numbers.{state-of}
+use Rattle.bounds.proofs.FrontLaws.{zeros}
+use Rattle.bounds.proofs.SeriesLaws.{order-fits, order-size, series-years, series-done}
+use borrow.Author.Needs.{needs}
+use Rattle.bounds.proofs.series.series.Statement.{statement}
+use Rattle.bounds.proofs.series.series.Tie as tie
+
+-- the gains are an array of 32
+stored : (c : tie.Start) → 32 ≤ length (c .args .t4)
+stored c = search needs
+
+cast-n : tie.Need-cast-n
+cast-n c = search needs
+
+array-borrow-prefix-order : tie.Need-array-borrow-prefix-order
+array-borrow-prefix-order c = search needs
+
+slice-aggregate-identity-order : tie.Need-slice-aggregate-identity-order
+slice-aggregate-identity-order c =
+    let start = c .before .before .before in
+    sym (length-take-le (start .args .scheme .classes) zeros (start .pre .1 .lists .states))
+
+identity-order-requires : tie.Need-identity-order-requires
+identity-order-requires c κs = tt
+
+state-requires : tie.Need-state-requires
+state-requires c κs = tt
+
+-- the start class's state
+begins : (c : tie.After-state)
+    → let start = c .before .before .before .before .before .before in
+    (c .state .result ≡ start .args .scheme .start - 1) × (c .state .result < 32)
+begins c =
+    let start = c .before .before .before .before .before .before in
+    let ok = start .pre .0 .accepted in
+    let is = c .state .ensures ∙ state-of _ (ok .start .positive) in
+    (is, omega (arith, is, ok .start .positive, ok .start .within, ok .size .classes))
+
+array-share-prefix-gain : tie.Need-array-share-prefix-gain
+array-share-prefix-gain c = search needs
+
+slice-aggregate-years : tie.Need-slice-aggregate-years
+slice-aggregate-years c =
+    let at-identity-order = c .before .before .before in
+    let start = at-identity-order .before .before .before .before in
+    sym (length-take-le (start .args .scheme .classes) (start .args .t4) (search needs))
+
+array-borrow-prefix-order-2 : tie.Need-array-borrow-prefix-order-2
+array-borrow-prefix-order-2 c =
+    let at-identity-order = c .before .before .before in
+    let start = at-identity-order .before .before .before .before in
+    order-fits (start .args .scheme) (start .pre .0) (start .pre .1) (stored start) _ (drop (start .args .scheme .classes) zeros)
+    (at-identity-order .identity-order .ensures)
+
+slice-aggregate-years-2 : tie.Need-slice-aggregate-years-2
+slice-aggregate-years-2 c =
+    let at-identity-order = c .before .before .before .before in
+    let start = at-identity-order .before .before .before .before in
+    order-size (start .args .scheme) (start .pre .0) (start .pre .1) (stored start) _ (drop (start .args .scheme .classes) zeros)
+    (at-identity-order .identity-order .ensures)
+
+years-requires : tie.Need-years-requires
+years-requires c κs =
+    let at-state = c .before .before .before .before in
+    let at-identity-order = at-state .before .before in
+    let start = at-identity-order .before .before .before .before in
+    series-years (start .args .scheme) (start .pre .0) (start .pre .1) (stored start) _ (drop (start .args .scheme .classes) zeros)
+    (at-identity-order .identity-order .ensures) (at-state .state .result) (begins at-state .0)
+
+mul-result : tie.Need-mul-result
+mul-result c =
+    let at-years = c .before .before .before in
+    let at-state = at-years .before .before .before .before .before in
+    omega (arith, begins at-state)
+
+array-read-result : tie.Need-array-read-result
+array-read-result c =
+    let at-years = c .before .before .before in
+    let at-state = at-years .before .before .before .before .before in
+    begins at-state .1
+
+same-length : tie.Need-same-length
+same-length c = search needs
+
+returns : tie.Need-returns
+returns c =
+    let at-years = c .before .before .before in
+    let at-state = at-years .before .before .before .before .before in
+    let start = at-state .before .before .before .before .before .before in
+    series-done (start .args .scheme) (start .pre .0) (start .pre .1) (stored start) (at-state .state .result) (begins at-state .0) (at-years .years .ensures)
+
+pub series-spec : {M : Type 1} → statement M
+series-spec =
+    tie.close
+    (tie.spec
+    cast-n
+    array-borrow-prefix-order
+    slice-aggregate-identity-order
+    identity-order-requires
+    state-requires
+    array-share-prefix-gain
+    slice-aggregate-years
+    array-borrow-prefix-order-2
+    slice-aggregate-years-2
+    years-requires
+    mul-result
+    array-read-result
+    same-length
+    returns)

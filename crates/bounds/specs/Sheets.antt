@@ -1,0 +1,28 @@
+-- The figures of a sheet in a lent slice: what the private functions take and leave.
+use Prim.Native.Nat.{ℕ, _≤_, _<_}
+use mathlib.Core.Path.{_≡_}
+use mathlib.Core.Bool.{Bool}
+use mathlib.Core.List.{List}
+use lib.ListN.{length}
+use Rattle.setchain.specs.Years.{shareFigure}
+use Rattle.scheme.specs.declared.Scheme.{Scheme}
+use Rattle.scheme.specs.Accepted.{Accepted}
+use Rattle.scheme.specs.Rows.{chainOf}
+use Rattle.step.specs.Lists.{at}
+use Rattle.bounds_spec.specs.Answers.{startOf}
+use Rattle.bounds_spec.specs.Table.{placeOf, tableSize}
+
+-- what it takes to write the figures of a scheme: it is accepted, and the slice has as many numbers as they are
+pub record WritePre (s : Scheme) (count : ℕ) (out : List ℕ) : Type 0 where
+  pub accepted : Accepted s
+  pub size : length out ≡ count
+
+-- the share of state j after `year` years
+abbrev pub shareOf : (high : Bool) → Scheme → (year j : ℕ) → ℕ
+shareOf high s year j = shareFigure high (chainOf s) j year (startOf s)
+
+-- the shares of the first j classes stand at their places in every year
+pub record ShareColumnsPost (high : Bool) (s : Scheme) (out : List ℕ) (j : ℕ) : Type 0 where
+  pub size : length out ≡ tableSize s
+  pub inside : j ≤ s .classes
+  pub done : (k : ℕ) → k < j → (t : ℕ) → t ≤ s .horizon → at out (placeOf s t k) ≡ shareOf high s t k
