@@ -14,7 +14,7 @@ use Rattle.setchain.specs.Sums.{onlyIf}
 use Rattle.setchain.specs.Rows.{ONE, IntervalRow}
 use Rattle.setchain.specs.Step.{capacity}
 use Rattle.setchain.specs.Laws.Sums.{sumTo-eq, onlyIf-zero, sumTo-more}
-use Rattle.step.specs.Lists.{at}
+use Rattle.order.specs.States.{at}
 use Rattle.bounds.specs.Entries.{lowerEnds, capacities, counts, sumOf, listSum, AddRowPre, AddRowPost}
 
 -- the lists before and after one entry is stored, of the lower ends or of the capacities

@@ -13,7 +13,7 @@ use borrow.Author.Tests.{eq-eqb, ne-eqb}
 use Rattle.setchain.specs.Sums.{sumTo, onlyIf}
 use Rattle.setchain.specs.Rows.{ONE}
 use Rattle.setchain.specs.Laws.Sums.{onlyIf-true, onlyIf-false, sumTo-front, term-le}
-use Rattle.step.specs.Lists.{at}
+use Rattle.order.specs.States.{at}
 use Rattle.step.specs.Figure.{LARGEST}
 use Rattle.bounds.specs.Entries.{lowerEnds, capacities, sumOf}
 use Rattle.bounds.specs.Fill.{taken, FillStatePre, FillStatePost}

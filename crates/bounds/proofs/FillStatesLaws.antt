@@ -20,7 +20,7 @@ use Rattle.scheme.specs.Tables.{tab}
 use Rattle.scheme.specs.Laws.Tab.{length-tab, getD-tab}
 use Rattle.order.specs.Order.{Occurs, Permutation, SortedPermutation}
 use Rattle.order.specs.Laws.Permutations.{sorted-permutation}
-use Rattle.step.specs.Lists.{at, listsRow}
+use Rattle.step.specs.Lists.{listsRow}
 use Rattle.setchain.specs.Laws.Agreeing.{Agree, sound-agrees, step-agrees}
 use Rattle.step.specs.Fill.{FillPost, FillSlackPre}
 use Rattle.step.specs.Step.{StepPre}
@@ -28,6 +28,7 @@ use Rattle.step.specs.Figure.{LARGEST}
 use Rattle.bounds.specs.Fill.{Small, leftAt, sumAt}
 use Rattle.step.specs.Laws.Fill.{Filling, filling-none, filling-more, filling-last}
 use Rattle.step.specs.Laws.Extreme.{step-reached}
+use Rattle.order.specs.States.{at}
 
 -- as many ones as are summed
 count : (k : ℕ) → sumTo k (λ i. 1) ≡ k

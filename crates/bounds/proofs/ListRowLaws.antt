@@ -13,9 +13,10 @@ use Rattle.setchain.specs.Laws.Agreeing.{Agree, agree-sym, sound-agrees}
 use Rattle.scheme.specs.Tables.{tab}
 use Rattle.scheme.specs.SumByTarget.{sumByTarget, slackOf}
 use Rattle.scheme.specs.Laws.Tab.{length-tab, getD-tab}
-use Rattle.step.specs.Lists.{at, listsRow}
+use Rattle.step.specs.Lists.{listsRow}
 use Rattle.bounds.specs.Entries.{rulesRow, lowerEnds, capacities, listSum, AddRowPre, AddRowPost}
 use Rattle.bounds.proofs.FrontLaws.{zeros, front-made}
+use Rattle.order.specs.States.{at}
 
 -- what was written at the front of an array of 32
 abbrev pub front : ℕ → List ℕ → List ℕ

@@ -14,7 +14,7 @@ use Rattle.setchain.specs.Rows.{ONE, SoundRow, SetChain}
 use Rattle.setchain.specs.Step.{capacity}
 use Rattle.setchain.specs.Laws.Sums.{sumTo-eq, onlyIf-true, onlyIf-false, total-start}
 use Rattle.setchain.specs.Laws.Agreeing.{Agree, agree-sym, sound-agrees}
-use Rattle.step.specs.Lists.{at}
+use Rattle.order.specs.States.{at}
 use Rattle.bounds.specs.Entries.{rulesRow, lowerEnds, capacities, counts, sumOf, listSum, listedRow, rulesChain, ShortLists, AddRowPre, AddRowPost, ListRowsPre, ListRowsPost}
 
 -- what the lists have for each row, of the lower ends or of the capacities: for the rows below i what v says, for the others nothing

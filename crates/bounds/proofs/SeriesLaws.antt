@@ -11,9 +11,9 @@ use Rattle.setchain.specs.Years.{yearsFigure}
 use Rattle.setchain.specs.Laws.Agreeing.{years-agree}
 use Rattle.scheme.specs.declared.Scheme.{Scheme}
 use Rattle.scheme.specs.Rows.{chainOf}
-use Rattle.order.specs.Order.{Permutation, identityOrder}
+use Rattle.order.specs.Order.{Permutation}
 use Rattle.order.specs.Laws.Permutations.{identity-permutation}
-use Rattle.step.specs.Lists.{at}
+use Rattle.order.specs.States.{identityOrder, at}
 use Rattle.bounds_spec.specs.Answers.{startOf}
 use Rattle.bounds.specs.Entries.{chainListed, SoundLists, ListRowsPost}
 use Rattle.bounds.specs.Years.{YearsPre, YearsPost}

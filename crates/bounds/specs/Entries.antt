@@ -12,7 +12,7 @@ use Rattle.setchain.specs.Step.{capacity}
 use Rattle.setchain.specs.Laws.Agreeing.{Agree}
 use Rattle.scheme.specs.SumByTarget.{sumByTarget}
 use Rattle.rows.specs.Rows.{classRules}
-use Rattle.step.specs.Lists.{at}
+use Rattle.order.specs.States.{at}
 
 -- where the lower ends begin
 abbrev pub lowerEnds : ℕ

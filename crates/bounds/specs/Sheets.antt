@@ -8,7 +8,7 @@ use Rattle.setchain.specs.Years.{shareFigure}
 use Rattle.scheme.specs.declared.Scheme.{Scheme}
 use Rattle.scheme.specs.Accepted.{Accepted}
 use Rattle.scheme.specs.Rows.{chainOf}
-use Rattle.step.specs.Lists.{at}
+use Rattle.order.specs.States.{at}
 use Rattle.bounds_spec.specs.Answers.{startOf}
 use Rattle.bounds_spec.specs.Table.{placeOf, tableSize}
 

@@ -29,13 +29,14 @@ use Rattle.scheme.specs.Laws.Sound.{accepted-sound}
 use Rattle.scheme.specs.Laws.Tables.{any-false}
 use Rattle.scheme.specs.Laws.Tab.{length-tab, getD-tab}
 use Rattle.rows.specs.Laws.Front.{front-lent, whole-size, whole-front, whole-beyond}
-use Rattle.order.specs.Order.{SortedPermutation, Permutation, identityOrder, sorted}
+use Rattle.order.specs.Order.{SortedPermutation, Permutation, sorted}
 use Rattle.order.specs.Laws.Permutations.{identity-permutation, sorted-holds}
 use Rattle.step_spec.specs.declared.StepAnswer.{StepAnswer}
 use Rattle.step_spec.specs.StepAnswer.{payoffOut, stepCause, classRow, StepAnswered}
-use Rattle.step.specs.Lists.{at, listsRow}
+use Rattle.step.specs.Lists.{listsRow}
 use Rattle.step.specs.Answer.{schemeCause, stepRefused}
 use Rattle.step.specs.Step.{StepPre, StepPost}
+use Rattle.order.specs.States.{identityOrder, at}
 
 -- the classes in the order of their numbers, sorted, are sorted
 pub numbers-sorted : (payoff before order : List ℕ) {order′ : List ℕ} {high : Bool} → length before ≡ length payoff → length payoff ≤ 128

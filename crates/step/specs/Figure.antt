@@ -5,7 +5,7 @@ use mathlib.Core.List.{List}
 use lib.ListN.{length}
 use Rattle.setchain.specs.Sums.{sumTo}
 use Rattle.setchain.specs.Rows.{ONE}
-use Rattle.step.specs.Lists.{at}
+use Rattle.order.specs.States.{at}
 
 -- the largest payoff for which every sum of part times payoff fits 64 bits
 abbrev pub LARGEST : ℕ

@@ -8,7 +8,8 @@ use Rattle.setchain.specs.Sums.{sumTo}
 use Rattle.setchain.specs.Rows.{ONE, SoundRow}
 use Rattle.setchain.specs.Step.{Parts}
 use Rattle.order.specs.Order.{Occurs, Permutation}
-use Rattle.step.specs.Lists.{at, listsRow}
+use Rattle.step.specs.Lists.{listsRow}
+use Rattle.order.specs.States.{at}
 
 -- what a fill takes: lists of one length, a sound row, and an order of its classes
 pub record FillPre (lower upper order row : List ℕ) : Type 0 where

@@ -2,7 +2,7 @@
 use Prim.Native.Nat.{ℕ}
 use mathlib.Core.List.{List}
 use Rattle.setchain.specs.Rows.{IntervalRow}
-pub use Rattle.order.specs.Order.{at}
+use Rattle.order.specs.States.{at}
 
 -- the interval row that two lists hold
 abbrev pub listsRow : List ℕ → List ℕ → IntervalRow

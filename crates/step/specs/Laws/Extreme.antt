@@ -9,16 +9,17 @@ use native.Mathlib.Decide.{ℕ-discrete, decLt}
 use native.Mathlib.Omega.{arith}
 use lib.ListN.{length}
 use Rattle.setchain.specs.Sums.{dot}
-use Rattle.setchain.specs.Step.{rounded, stepFigure, Reaches}
+use Rattle.setchain.specs.Step.{rounded, stepFigure, Reaches, NotAfter}
 use Rattle.setchain.specs.Certificate.{Ahead, Certificate}
 use Rattle.setchain.specs.Laws.Step.{certified-reaches, reached-figure}
-use Rattle.order.specs.Order.{NotAfter, payoffAt, Occurs}
+use Rattle.order.specs.Order.{payoffAt, Occurs}
 use Rattle.order.specs.Laws.Insertion.{not-after-refl}
 use Rattle.order.specs.Laws.Permutations.{sorted-permutation}
-use Rattle.step.specs.Lists.{at, listsRow}
+use Rattle.step.specs.Lists.{listsRow}
 use Rattle.step.specs.Fill.{FillPre, FillPost}
 use Rattle.step.specs.Figure.{WeighPre}
 use Rattle.step.specs.Step.{StepPre, StepPost}
+use Rattle.order.specs.States.{at}
 
 -- of two payoffs one alone comes before the other
 ahead-only : (high : Bool) (a b : ℕ) → Ahead high a b → NotAfter high b a → ⊥

@@ -15,7 +15,7 @@ use Rattle.setchain.specs.Rows.{ONE}
 use Rattle.setchain.specs.Laws.Sums.{sumTo-eq}
 use Rattle.setchain.specs.Laws.Fill.{positive-count}
 use Rattle.order.specs.Order.{Occurs}
-use Rattle.step.specs.Lists.{at}
+use Rattle.order.specs.States.{at}
 use Rattle.step.specs.Fill.{FillPre, FillPost, FillSlackPre}
 use Rattle.step.specs.Laws.Sums.{sumTo-set}
 

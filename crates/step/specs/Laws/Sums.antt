@@ -10,7 +10,7 @@ use lib.Seq.{getD-set-same, getD-set-other}
 use Rattle.setchain.specs.Sums.{sumTo, dot}
 use Rattle.setchain.specs.Rows.{ONE}
 use Rattle.setchain.specs.Laws.Sums.{sumTo-le, sumTo-scale, sumTo-more, sumTo-front, sumTo-change}
-use Rattle.step.specs.Lists.{at}
+use Rattle.order.specs.States.{at}
 use Rattle.step.specs.Figure.{LARGEST, WeighPre}
 
 -- a store changes the sum by what it changes at its place

@@ -5,11 +5,12 @@ use mathlib.Core.Logic.{⊎-elim}
 use native.Mathlib.Omega.{arith}
 use lib.ListN.{length}
 use Rattle.setchain.specs.Rows.{ONE}
-use Rattle.step.specs.Lists.{at, listsRow}
+use Rattle.step.specs.Lists.{listsRow}
 use Rattle.bounds.specs.Entries.{counts}
 use Rattle.bounds.proofs.AddRowLaws.{Adding, adding-none, adding-here, adding-skip, adding-more, adding-as, adding-all}
 use Rattle.bounds.proofs.entries.add_row.Statement.{statement}
 use Rattle.bounds.proofs.entries.add_row.Tie as tie
+use Rattle.order.specs.States.{at}
 
 abbrev Inv-loop : tie.InvT-loop
 Inv-loop lower upper i entries₀ j₀ entries j = Adding (length upper) (listsRow lower upper) i entries₀ entries j

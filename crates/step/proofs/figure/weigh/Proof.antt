@@ -7,7 +7,7 @@ use lib.ListN.{length}
 use Rattle.setchain.specs.Sums.{dot}
 use Rattle.setchain.specs.Rows.{ONE}
 use Rattle.setchain.specs.Laws.Sums.{total-start}
-use Rattle.step.specs.Lists.{at}
+use Rattle.order.specs.States.{at}
 use Rattle.step.specs.Figure.{LARGEST}
 use Rattle.step.specs.Laws.Sums.{weighed-more}
 use Rattle.step.proofs.figure.weigh.Statement.{statement}
