@@ -12,7 +12,7 @@ ghost use Rattle.scheme.specs.Stages.{formCause, bandCause, limitCause};
 use scheme::outside;
 use scheme::wide;
 
-// the first of causes 3, 5 and 6, or 0
+// The first of causes 3, 5 and 6, or 0.
 pub fn form_cause(classes: u8, columns: u8, start: u8, horizon: u8) -> u8
     ensures { λ r. ⌜ r ≡ formCause classes columns start horizon ⌝ }
 {
@@ -29,7 +29,7 @@ pub fn form_cause(classes: u8, columns: u8, start: u8, horizon: u8) -> u8
     0
 }
 
-// some rule from place `from` on, of as many as there are columns, is outside 1 to s
+// Some rule from place `from` on, of as many as there are columns, is outside 1 to s.
 fn row_out(rules: &[u8; 256], from: usize, classes: u8, columns: u8) -> bool
     requires { ⌜ from + columns ≤ 256 ⌝ }
     ensures { λ r. ⌜ r ≡ anyBelow columns (λ k. outside classes (getD (now (rules .entry)) (from + k) 0)) ⌝ }
@@ -45,7 +45,7 @@ fn row_out(rules: &[u8; 256], from: usize, classes: u8, columns: u8) -> bool
     false
 }
 
-// some rule of some class is outside 1 to s
+// Some rule of some class is outside 1 to s.
 pub fn rule_cause(rules: &[u8; 256], classes: u8, columns: u8) -> u8
     requires { ⌜ (classes ≤ 32) × (columns ≤ 8) ⌝ }
     ensures { λ r. ⌜ r ≡ cond (anyBelow classes (λ i. anyBelow columns (λ k. outside classes (getD (now (rules .entry)) (i * 8 + k) 0)))) 7 0 ⌝ }
@@ -61,14 +61,14 @@ pub fn rule_cause(rules: &[u8; 256], classes: u8, columns: u8) -> u8
     0
 }
 
-// a band's lower end is above its upper, or its upper above ONE
+// A band's lower end is above its upper, or its upper above ONE.
 fn band_bad(lower: u32, upper: u32) -> bool
     ensures { λ r. ⌜ r ≡ bandTest lower upper ⌝ }
 {
     upper < lower || scheme::MOST_BAND < upper
 }
 
-// some column's band is bad
+// Some column's band is bad.
 fn band_out(lowers: &[u32; 8], uppers: &[u32; 8], columns: u8) -> bool
     requires { ⌜ columns ≤ 8 ⌝ }
     ensures { λ r. ⌜ r ≡ anyBelow columns (λ k. bandTest (getD (now (lowers .entry)) k 0) (getD (now (uppers .entry)) k 0)) ⌝ }
@@ -84,7 +84,7 @@ fn band_out(lowers: &[u32; 8], uppers: &[u32; 8], columns: u8) -> bool
     false
 }
 
-// the sum of a band's ends over the columns, in 64 bits
+// The sum of a band's ends over the columns, in 64 bits.
 fn sum(ends: &[u32; 8], columns: u8) -> u64
     requires { ⌜ columns ≤ 8 ⌝ }
     ensures { λ r. ⌜ r ≡ sumTo columns (λ k. getD (now (ends .entry)) k 0) ⌝ }
@@ -99,7 +99,7 @@ fn sum(ends: &[u32; 8], columns: u8) -> u64
     total
 }
 
-// the lowers sum above ONE, or the uppers below
+// The lowers sum above ONE, or the uppers below.
 fn sum_out(lowers: &[u32; 8], uppers: &[u32; 8], columns: u8) -> bool
     requires { ⌜ columns ≤ 8 ⌝ }
     ensures { λ r. ⌜ r ≡ (ltb ONE (sumTo columns (λ k. getD (now (lowers .entry)) k 0)) || ltb (sumTo columns (λ k. getD (now (uppers .entry)) k 0)) ONE) ⌝ }
@@ -107,7 +107,7 @@ fn sum_out(lowers: &[u32; 8], uppers: &[u32; 8], columns: u8) -> bool
     setchain::ONE < sum(lowers, columns) || sum(uppers, columns) < setchain::ONE
 }
 
-// the first of causes 8 and 9, or 0
+// The first of causes 8 and 9, or 0.
 pub fn band_cause(lowers: &[u32; 8], uppers: &[u32; 8], columns: u8) -> u8
     requires { ⌜ columns ≤ 8 ⌝ }
     ensures { λ r. ⌜ r ≡ bandCause columns (λ k. getD (now (lowers .entry)) k 0) (λ k. getD (now (uppers .entry)) k 0) ⌝ }
@@ -121,7 +121,7 @@ pub fn band_cause(lowers: &[u32; 8], uppers: &[u32; 8], columns: u8) -> u8
     0
 }
 
-// cause 10 where some class's premium is above 10,000,000, or 0
+// Cause 10 where some class's premium is above 10,000,000, or 0.
 pub fn premium_cause(premiums: &[u32; 32], classes: u8) -> u8
     requires { ⌜ classes ≤ 32 ⌝ }
     ensures { λ r. ⌜ r ≡ limitCause 10000000 (now (premiums .entry)) classes ⌝ }

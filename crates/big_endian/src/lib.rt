@@ -18,7 +18,7 @@ pub fn holds(length: usize, at: usize, width: usize) -> bool
     at <= length - width
 }
 
-// a byte as a digit
+// A byte as a digit.
 fn digit(x: u8) -> u32
     ensures { λ r. ⌜ (r ≡ x) × (r < 256) ⌝ }
 {
@@ -44,7 +44,7 @@ pub fn number_at(bytes: &[u8], at: usize, width: usize) -> u32
     number
 }
 
-// the low byte of a number
+// The low byte of a number.
 fn low(x: u32) -> u8
     ensures { λ r. ⌜ r ≡ x % 256 ⌝ }
 {

@@ -13,7 +13,7 @@ use lib.Seq.{sets, getD-at, getD-take, getD-drop, take-suc, length-take-le, set-
 use borrow.Author.Tests.{le-leb, lt-leb}
 use Rattle.big_endian_spec.specs.Numbers.{Bytes, beAt, beBytes, holds, numberAt, numberPut, partPut}
 
--- the first bytes of bytes are bytes
+-- The first bytes of bytes are bytes.
 pub bytes-take : (n : ℕ) (l : List ℕ) → Bytes l → Bytes (take n l)
 bytes-take n l small k = by (decLt k n)
   where
@@ -21,19 +21,19 @@ bytes-take n l small k = by (decLt k n)
     by (yes h) = omega (arith, getD-take n l k 0 h, small k)
     by (no h) = omega (arith, List·getD-eq-default (take n l) 0 {n = k} (omega (arith, length-take n l)))
 
--- a number's bytes are as many as its width
+-- A number's bytes are as many as its width.
 pub length-beBytes : (w x : ℕ) → length (beBytes w x) ≡ w
 unfolding beBytes
 length-beBytes zero x = refl
 length-beBytes (suc w) x = omega (arith, length-append (beBytes w (x / 256)) (x % 256 ∷ []), length-beBytes w (x / 256))
 
--- the same bytes make the same number
+-- The same bytes make the same number.
 pub beAt-eq : (w : ℕ) (a : List ℕ) (p : ℕ) (b : List ℕ) (q : ℕ) → ((k : ℕ) → k < w → getD a (p + k) 0 ≡ getD b (q + k) 0) → beAt w a p ≡ beAt w b q
 unfolding beAt
 beAt-eq zero a p b q h = refl
 beAt-eq (suc w) a p b q h = omega (arith, beAt-eq w a p b q (λ k lt. h k (omega arith)), h w (omega arith))
 
--- read after put: the number that was put
+-- Read after put: the number that was put.
 pub read-put : (w x : ℕ) → x < 256 ^ w → beAt w (beBytes w x) 0 ≡ x
 unfolding beAt beBytes
 read-put zero x h = omega arith
@@ -49,7 +49,7 @@ read-put (suc w) x h =
     in
     omega (arith, rest, last, read-put w (x / 256) (omega arith))
 
--- put after read: the bytes that were read
+-- Put after read: the bytes that were read.
 pub put-read : (w : ℕ) (l : List ℕ) (p : ℕ) → p + w ≤ length l → Bytes l → beBytes w (beAt w l p) ≡ take w (drop p l)
 unfolding beAt beBytes
 put-read zero l p h small = refl
@@ -61,29 +61,29 @@ put-read (suc w) l p h small =
     rw (div, rem, put-read w l p (omega arith) small, ← (getD-drop p l w 0))
     (sym (take-suc (drop p l) w 0 (rw (length-drop p l) (omega arith))))
 
--- a number read from bytes fits its width
+-- A number read from bytes fits its width.
 pub beAt-fits : (w : ℕ) (l : List ℕ) (p : ℕ) → Bytes l → beAt w l p < 256 ^ w
 unfolding beAt
 beAt-fits zero l p small = omega arith
 beAt-fits (suc w) l p small = omega (arith, beAt-fits w l p small, small (p + w))
 
--- laying one list and then the next is laying both
+-- Laying one list and then the next is laying both.
 pub sets-append : (l : List ℕ) (i : ℕ) (a b : List ℕ) → sets (sets l i a) (i + length a) b ≡ sets l i (a ++ b)
 sets-append l i [] b = let e : i + 0 ≡ i = add-zero i in rw e
 sets-append l i (x ∷ a) b =
     let e : i + length (x ∷ a) ≡ suc i + length a = omega arith in
     rw e (sets-append (set l i x) (suc i) a b)
 
--- one more value at the end of what is laid
+-- One more value at the end of what is laid.
 pub sets-more : (l : List ℕ) (i : ℕ) (a : List ℕ) (x : ℕ) → set (sets l i a) (i + length a) x ≡ sets l i (a ++ (x ∷ []))
 sets-more l i a x = sets-append l i a (x ∷ [])
 
--- of two tests the second fails
+-- Of two tests the second fails.
 second-fails : {A : Type 0} (a b : Bool) (x y : A) → b ≡ false → y ≡ cond (a && b) x y
 second-fails true b x y e = rw e
 second-fails false b x y e = refl
 
--- one more byte of a number that is read, which fits 32 bits where it has at most 4 bytes
+-- One more byte of a number that is read, which fits 32 bits where it has at most 4 bytes.
 pub read-more : (k : ℕ) (l : List ℕ) (p : ℕ) → beAt (k + 1) l p ≡ beAt k l p * 256 + getD l (p + k) 0
 unfolding beAt
 read-more k l p = rw add-one
@@ -98,13 +98,13 @@ read-room (suc (suc zero)) x few fits = omega arith
 read-room (suc (suc (suc zero))) x few fits = omega arith
 read-room (suc (suc (suc (suc k)))) x few fits = absurd (omega arith)
 
--- a value stored past those that are laid can be stored first
+-- A value stored past those that are laid can be stored first.
 stored-first : (l : List ℕ) (i : ℕ) (a : List ℕ) (q x : ℕ) → i + length a ≤ q → set (sets l i a) q x ≡ sets (set l q x) i a
 stored-first l i [] q x past = refl
 stored-first l i (y ∷ a) q x past =
     stored-first (set l i y) (suc i) a q x (omega arith) ∙ ap (λ m. sets m (suc i) a) (set-comm l i q y x (λ e. omega arith))
 
--- the last byte of a number put, and then those before it
+-- The last byte of a number put, and then those before it.
 pub put-last : (k : ℕ) (l : List ℕ) (p x : ℕ) → 0 < k → sets (set l (p + (k - 1)) (x % 256)) p (beBytes (k - 1) (x / 256)) ≡ sets l p (beBytes k x)
 unfolding beBytes
 put-last zero l p x some = absurd (omega arith)
@@ -114,7 +114,7 @@ put-last (suc k) l p x some =
     let size : p + k ≡ p + length high = omega (arith, length-beBytes k (x / 256)) in
     rw less (sym (stored-first l p high (p + k) (x % 256) (omega arith)) ∙ rw size (sets-more l p high (x % 256)))
 
--- where the bytes hold the number, and it has at most 4 bytes, it is read; it is put where they hold it; elsewhere 0 is read and nothing put
+-- Where the bytes hold the number, and it has at most 4 bytes, it is read; it is put where they hold it; elsewhere 0 is read and nothing put.
 module _ (w : ℕ) (l : List ℕ) (p : ℕ) where
   pub read-held : w ≤ 4 → p + w ≤ length l → numberAt w l p ≡ beAt w l p
   unfolding numberAt
@@ -136,7 +136,7 @@ module _ (w : ℕ) (l : List ℕ) (p : ℕ) where
   unfolding numberPut
   put-none x out = rw out
 
--- the place compared with what the width leaves
+-- The place compared with what the width leaves.
 pub held-within : (n p w : ℕ) → w ≤ n → leb p (n - w) ≡ leb (p + w) n
 held-within n p w fits = by (decLe p (n - w))
   where
@@ -144,7 +144,7 @@ held-within n p w fits = by (decLe p (n - w))
     by (yes h) = rw (le-leb p (n - w) h, le-leb (p + w) n (omega arith))
     by (no h) = rw (lt-leb p (n - w) (omega arith), lt-leb (p + w) n (omega arith))
 
--- one more value of a part that is copied
+-- One more value of a part that is copied.
 pub copy-more : (from : List ℕ) (at : ℕ) (l : List ℕ) (to k : ℕ) → at + k < length from
     → set (sets l to (take k (drop at from))) (to + k) (getD from (at + k) 0) ≡ sets l to (take (k + 1) (drop at from))
 copy-more from at l to k h =
@@ -152,7 +152,7 @@ copy-more from at l to k h =
     let size : to + k ≡ to + length (take k (drop at from)) = omega (arith, length-take-le k (drop at from) (omega arith)) in
     rw (add-one, take-suc (drop at from) k 0 lt, getD-drop at from k 0, size) (sets-more l to (take k (drop at from)) (getD from (at + k) 0))
 
--- where both slices hold the bytes they are copied, and elsewhere nothing is
+-- Where both slices hold the bytes they are copied, and elsewhere nothing is.
 module _ (w : ℕ) (from : List ℕ) (at : ℕ) (out : List ℕ) (to : ℕ) where
   pub part-held : at + w ≤ length from → to + w ≤ length out → partPut w from at out to ≡ sets out to (take w (drop at from))
   unfolding partPut

@@ -17,21 +17,21 @@ use Rattle.setchain.specs.Laws.Sums.{sumTo-eq, onlyIf-zero, sumTo-more}
 use Rattle.order.specs.States.{at}
 use Rattle.bounds.specs.Entries.{lowerEnds, capacities, counts, sumOf, listSum, AddRowPre, AddRowPost}
 
--- the lists before and after one entry is stored, of the lower ends or of the capacities
+-- The lists before and after one entry is stored, of the lower ends or of the capacities.
 record Stored (entries entries′ : List ℕ) (ends place a v : ℕ) : Type 0 where
   row : at entries′ place ≡ a
   end : at entries′ (ends + place) ≡ v
   rows : (e : ℕ) → e < 1024 → (e ≡ place → ⊥) → at entries′ e ≡ at entries e
   others : (e : ℕ) → e < 1024 → (e ≡ place → ⊥) → at entries′ (ends + e) ≡ at entries (ends + e)
 
--- an entry outside some others leaves their sum as it was
+-- An entry outside some others leaves their sum as it was.
 store-outside : {entries entries′ : List ℕ} {ends place a v : ℕ} → Stored entries entries′ ends place a v
     → (first count q : ℕ) → first + count ≤ 1024 → ((e : ℕ) → e < count → first + e ≡ place → ⊥)
     → sumOf entries′ ends first count q ≡ sumOf entries ends first count q
 store-outside w first count q f h =
     sumTo-eq count _ _ (λ e l. ap₂ (λ x y. onlyIf (eqb x q) y) (w .rows (first + e) (omega arith) (h e l)) (w .others (first + e) (omega arith) (h e l)))
 
--- and one right after them is one term more
+-- And one right after them is one term more.
 store-after : {entries entries′ : List ℕ} {ends a v : ℕ} (first count q : ℕ) → Stored entries entries′ ends (first + count) a v → first + count < 1024
     → sumOf entries′ ends first (count + 1) q ≡ sumOf entries ends first count q + onlyIf (eqb a q) v
 store-after first count q w f =
@@ -40,7 +40,7 @@ store-after first count q w f =
     (store-outside w first count q (omega arith) (λ e l z. omega arith))
     (ap₂ (λ x y. onlyIf (eqb x q) y) (w .row) (w .end))
 
--- the lists with an entry of row i more at a place, and a count that says so
+-- The lists with an entry of row i more at a place, and a count that says so.
 abbrev pub listed : List ℕ → (place i low rise j count : ℕ) → List ℕ
 listed entries place i low rise j count =
     set (set (set (set entries place i) (lowerEnds + place) low) (capacities + place) rise) (counts + j) count
@@ -70,7 +70,7 @@ module _ (entries : List ℕ) (size : length entries ≡ 3104) (place i low rise
   listed-count : at (listed entries place i low rise j count) (counts + j) ≡ count
   listed-count = getD-set-same third (counts + j) count 0 (omega (arith, third-size))
 
-  -- what stands at no place of this entry
+  -- What stands at no place of this entry.
   listed-other : (e : ℕ) → (e ≡ place → ⊥) → (e ≡ lowerEnds + place → ⊥) → (e ≡ capacities + place → ⊥) → (e ≡ counts + j → ⊥)
       → at (listed entries place i low rise j count) e ≡ at entries e
   listed-other e a b c d =
@@ -109,7 +109,7 @@ module _ (entries : List ℕ) (size : length entries ≡ 3104) (place i low rise
         others = λ e l d. listed-other (capacities + e) (λ z. omega arith) (λ z. omega arith) (λ z. d (omega arith)) (λ z. omega arith);
       }
 
--- what the lists have at state j, of the lower ends or of the capacities: those of the states passed the row's ends more, the others what they had
+-- What the lists have at state j, of the lower ends or of the capacities: those of the states passed the row's ends more, the others what they had.
 pub record Sums (n : ℕ) (v : ℕ → ℕ) (i ends : ℕ) (entries entries′ : List ℕ) (j : ℕ) : Type 0 where
   pub passed : (k : ℕ) → k < j → (q : ℕ) → listSum entries′ ends k q ≡ listSum entries ends k q + onlyIf (eqb i q) (v k)
   pub later : (k : ℕ) → j ≤ k → k < n → (q : ℕ) → listSum entries′ ends k q ≡ listSum entries ends k q
@@ -117,7 +117,7 @@ pub record Sums (n : ℕ) (v : ℕ → ℕ) (i ends : ℕ) (entries entries′ :
 sums-none : {n : ℕ} {v : ℕ → ℕ} {i ends : ℕ} {entries : List ℕ} → Sums n v i ends entries entries 0
 sums-none = record { passed = below-none _; later = λ k h l q. refl }
 
--- a state to which the row has no entry
+-- A state to which the row has no entry.
 sums-skip : {n : ℕ} {v : ℕ → ℕ} {i ends : ℕ} {entries entries′ : List ℕ} {j : ℕ} → j < n → v j ≡ 0
     → Sums n v i ends entries entries′ j → Sums n v i ends entries entries′ (j + 1)
 sums-skip {v = v} {i = i} {j = j} here z w =
@@ -126,7 +126,7 @@ sums-skip {v = v} {i = i} {j = j} here z w =
       later = λ k h l. w .later k (omega arith) l;
     }
 
--- the lists at state j: those of the states passed have the row's entries, the others what they had
+-- The lists at state j: those of the states passed have the row's entries, the others what they had.
 pub record Adding (n : ℕ) (r : IntervalRow) (i : ℕ) (entries entries′ : List ℕ) (j : ℕ) : Type 0 where
   pub size : length entries′ ≡ 3104
   pub inside : j ≤ n
@@ -150,11 +150,11 @@ module _ {n : ℕ} {r : IntervalRow} {i : ℕ} {entries : List ℕ} (able : AddR
       }
 
   module _ {entries′ : List ℕ} {j : ℕ} (w : Adding n r i entries entries′ j) (here : j < n) where
-    -- the list of state j has a free place, and the entry fits
+    -- The list of state j has a free place, and the entry fits.
     pub adding-here : (at entries′ (counts + j) ≤ i) × (i < 32) × (j < 32) × (r .lower j ≤ r .upper j) × (r .upper j ≤ ONE)
     adding-here = omega (arith, w .shortLater j (omega arith) here, able .inside, able .states, able .sound .ordered j here, able .sound .capped j here)
 
-    -- no entry of this row
+    -- No entry of this row.
     pub adding-skip : r .upper j ≡ 0 → Adding n r i entries entries′ (j + 1)
     adding-skip e =
         record {
@@ -167,7 +167,7 @@ module _ {n : ℕ} {r : IntervalRow} {i : ℕ} {entries : List ℕ} (able : AddR
           rises = sums-skip here (omega arith) (w .rises);
         }
 
-    -- an entry of this row, with its ends
+    -- An entry of this row, with its ends.
     abbrev place : ℕ
     place = j * 32 + at entries′ (counts + j)
 
@@ -194,7 +194,7 @@ module _ {n : ℕ} {r : IntervalRow} {i : ℕ} {entries : List ℕ} (able : AddR
     capacity-stored : Stored entries′ added capacities place i (capacity r j)
     capacity-stored = listed-capacity entries′ (w .size) place i (r .lower j) (capacity r j) j (at entries′ (counts + j) + 1) place-inside (adding-here .2)
 
-    -- no list has more than 32 entries
+    -- No list has more than 32 entries.
     short : (k : ℕ) → k < n → at entries′ (counts + k) ≤ 32
     short k l = by (decLt k j)
       where
@@ -202,7 +202,7 @@ module _ {n : ℕ} {r : IntervalRow} {i : ℕ} {entries : List ℕ} (able : AddR
         by (yes g) = omega (arith, w .short k g, adding-here)
         by (no g) = omega (arith, w .shortLater k (omega arith) l, adding-here)
 
-    -- what the lists have with the entry stored
+    -- What the lists have with the entry stored.
     sums-more : (v : ℕ → ℕ) (ends : ℕ) → Stored entries′ added ends place i (v j) → Sums n v i ends entries entries′ j → Sums n v i ends entries added (j + 1)
     sums-more v ends s t =
         record {
@@ -244,11 +244,11 @@ module _ {n : ℕ} {r : IntervalRow} {i : ℕ} {entries : List ℕ} (able : AddR
           rises = sums-more (capacity r) capacities capacity-stored (w .rises);
         }
 
--- the same of lists that are equal
+-- The same of lists that are equal.
 pub adding-as : {n : ℕ} {r : IntervalRow} {i : ℕ} {entries a a′ : List ℕ} {j : ℕ} → a′ ≡ a → Adding n r i entries a j → Adding n r i entries a′ j
 adding-as e w = rw e w
 
--- when all states are passed
+-- When all states are passed.
 pub adding-all : {n : ℕ} {r : IntervalRow} {i : ℕ} {entries entries′ : List ℕ} {j : ℕ} → n ≤ j → Adding n r i entries entries′ j → AddRowPost n r i entries entries′
 adding-all h w =
     record {

@@ -8,15 +8,15 @@ use Rattle.scheme.specs.declared.Scheme.{Scheme}
 use Rattle.scheme.specs.Cause.{causeOf, slicesCause}
 use Rattle.scheme.specs.Laws.Cause.{first-none, second-none}
 use Rattle.scheme.specs.Laws.Judged.{accepted-cause}
-use Rattle.bounds_spec.specs.Causes.{tableLengthsCause}
-use Rattle.bounds_spec.specs.Table.{tableSize, lowTable, highTable, tableCause}
+use Rattle.bounds_spec.specs.Causes.{tableLengthsCause, tableSize}
+use Rattle.bounds_spec.specs.Table.{lowTable, highTable, tableCause}
 use Rattle.bounds_spec.specs.Promises.{FiguresPromise}
 use Rattle.bounds_spec.specs.Laws.Kept.{figures-kept}
 use Rattle.bounds.specs.Sheets.{WritePre}
 use Rattle.bounds.proofs.SlicesLaws.{slices-ready, SlicesLeft, slices-declined, slices-written}
 
 module _ (s : Scheme) (low high : List ℕ) {n : ℕ} (e : n ≡ tableLengthsCause s (length low) (length high)) where
-  -- the code's cause is the definition's
+  -- The code's cause is the definition's.
   is : n ≡ tableCause s low high
   unfolding tableCause
   is = e

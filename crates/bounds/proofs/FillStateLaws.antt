@@ -18,7 +18,7 @@ use Rattle.step.specs.Figure.{LARGEST}
 use Rattle.bounds.specs.Entries.{lowerEnds, capacities, sumOf}
 use Rattle.bounds.specs.Fill.{taken, FillStatePre, FillStatePost}
 
--- no entry, and one entry more
+-- No entry, and one entry more.
 sum-none : (entries : List ℕ) (ends : ℕ) (first i : ℕ) → sumOf entries ends first (first - first) i ≡ 0
 unfolding sumTo
 sum-none entries ends first i = let e : first - first ≡ 0 = omega arith in ap (λ k. sumOf entries ends first k i) e
@@ -32,7 +32,7 @@ sum-more entries ends first e i h =
     ap (λ k. sumOf entries ends first k i) n
     ∙ ap (λ q. sumOf entries ends first (e - first) i + onlyIf (eqb (at entries q) i) (at entries (ends + q))) p
 
--- one entry is at most what its row has of the list
+-- One entry is at most what its row has of the list.
 pub entry-in : (entries : List ℕ) (ends : ℕ) (first count e : ℕ) → first ≤ e → e < first + count → at entries (ends + e) ≤ sumOf entries ends first count (at entries e)
 entry-in entries ends first count e h l =
     let f : ℕ → ℕ = λ k. onlyIf (eqb (at entries (first + k)) (at entries e)) (at entries (ends + (first + k))) in
@@ -42,7 +42,7 @@ entry-in entries ends first count e h l =
     ∙ onlyIf-true (eqb (at entries e) (at entries e)) (at entries (ends + e)) (eq-eqb (at entries e) (at entries e) refl) in
     omega (arith, term, term-le count f (e - first) (omega arith))
 
--- the entries below place e are taken
+-- The entries below place e are taken.
 pub record EntriesTaken (entries : List ℕ) (first end payoff : ℕ) (left sums left′ sums′ : List ℕ) (e : ℕ) : Type 0 where
   pub begun : first ≤ e
   pub inside : e ≤ end
@@ -73,7 +73,7 @@ module _ {entries : List ℕ} {first end payoff : ℕ} {left sums : List ℕ} (a
     pub row-inside : i < length left
     row-inside = rw row (able .rows e (omega (arith, able .inside)))
 
-    -- the row's own entry counts, and no other row's does
+    -- The row's own entry counts, and no other row's does.
     own : (ends : ℕ) → sumOf entries ends first (e + 1 - first) i ≡ sumOf entries ends first (e - first) i + at entries (ends + e)
     own ends =
         omega (
@@ -90,7 +90,7 @@ module _ {entries : List ℕ} {first end payoff : ℕ} {left sums : List ℕ} (a
           onlyIf-false (eqb (at entries e) k) (at entries (ends + e)) (ne-eqb (at entries e) k (λ g. ne (sym (row ∙ g)))),
         )
 
-    -- what the row has taken with this entry
+    -- What the row has taken with this entry.
     taken-more : taken entries first (e + 1) left i ≡ taken entries first e left i + (at entries (lowerEnds + e) + given)
     taken-more = omega (arith, own lowerEnds, own capacities, is, w .filled .rest i row-inside)
 

@@ -30,13 +30,13 @@ use Rattle.step.specs.Laws.Fill.{Filling, filling-none, filling-more, filling-l
 use Rattle.step.specs.Laws.Extreme.{step-reached}
 use Rattle.order.specs.States.{at}
 
--- as many ones as are summed
+-- As many ones as are summed.
 count : (k : ℕ) → sumTo k (λ i. 1) ≡ k
 unfolding sumTo
 count zero = refl
 count (suc k) = omega (arith, count k)
 
--- numbers from 1 on whose sum is their count are all 1
+-- Numbers from 1 on whose sum is their count are all 1.
 ones : (n : ℕ) (c : ℕ → ℕ) → ((j : ℕ) → j < n → 1 ≤ c j) → sumTo n c ≡ n → (j : ℕ) → j < n → c j ≡ 1
 ones n c h e j l =
     let s : sumTo n (λ i. c i - 1) + sumTo n (λ i. 1) ≡ sumTo n c =
@@ -44,9 +44,9 @@ ones n c h e j l =
     let z : c j - 1 ≤ sumTo n (λ i. c i - 1) = term-le n (λ i. c i - 1) j l in
     omega (arith, s, z, h j l, count n)
 
--- a sum along an order is the sum over the states
+-- A sum along an order is the sum over the states.
 module _ (n : ℕ) (order : List ℕ) (p : Permutation n order) where
-  -- how often state j occurs in the order
+  -- How often state j occurs in the order.
   times : ℕ → ℕ
   times j = sumTo n (λ q. onlyIf (eqb (at order q - 1) j) 1)
 
@@ -97,7 +97,7 @@ module _ (n : ℕ) (order : List ℕ) (p : Permutation n order) where
       one : (x : ℕ) → 1 * x ≡ x
       one x = omega arith
 
-  -- no state occurs at two places
+  -- No state occurs at two places.
   places-apart : (a b : ℕ) → a < b → b < n → at order a ≡ at order b → ⊥
   unfolding times sumTo
   places-apart a b l m e =
@@ -112,7 +112,7 @@ module _ (n : ℕ) (order : List ℕ) (p : Permutation n order) where
         onlyIf-true (eqb (at order b - 1) j) 1 (eq-eqb (at order b - 1) j refl),
       )
 
--- the sum stays within the largest payoff
+-- The sum stays within the largest payoff.
 module _ (n : ℕ) (r : IntervalRow) (f : ℕ → ℕ) (order : List ℕ) (slack : ℕ) (p : Permutation n order)
     (whole : sumTo n (r .lower) + slack ≡ ONE) (small : (j : ℕ) → j < n → f j ≤ LARGEST) where
   left-le : (k : ℕ) → leftAt r order slack k ≤ slack
@@ -152,7 +152,7 @@ module _ (n : ℕ) (r : IntervalRow) (f : ℕ → ℕ) (order : List ℕ) (slack
             whole,
           )
 
--- storing what stands there changes nothing
+-- Storing what stands there changes nothing.
 same-set : (l : List ℕ) (j : ℕ) → j < length l → set l j (at l j) ≡ l
 same-set l j h = ext-getD 0 (set l j (at l j)) l (length-set l j (at l j)) (λ k m. by k (ℕ-discrete k j))
   where
@@ -160,7 +160,7 @@ same-set l j h = ext-getD 0 (set l j (at l j)) l (length-set l j (at l j)) (λ k
     by k (yes e) = rw e (getD-set-same l j (at l j) 0 h)
     by k (no ne) = getD-set-other l j k (at l j) 0 ne
 
--- a product of part and payoff after a change at one place
+-- A product of part and payoff after a change at one place.
 dot-set : (n : ℕ) (row : List ℕ) (f : ℕ → ℕ) (j given : ℕ) → j < n → length row ≡ n
     → dot n (at (set row j (at row j + given))) f ≡ dot n (at row) f + given * f j
 dot-set n row f j given l e =
@@ -172,7 +172,7 @@ dot-set n row f j given l e =
       ap (λ x. x * f j) same,
     )
 
--- the figure: each row is filled as by the step
+-- The figure: each row is filled as by the step.
 module _ (high : Bool) (r : IntervalRow) (payoff order : List ℕ) (slack : ℕ)
     (sound : SoundRow (length payoff) r) (sorted : SortedPermutation payoff high order) (small : Small (length payoff) payoff) (whole : sumTo (length payoff) (r .lower) + slack ≡ ONE) where
   abbrev n : ℕ
@@ -219,17 +219,17 @@ module _ (high : Bool) (r : IntervalRow) (payoff order : List ℕ) (slack : ℕ)
         whole = omega (arith, whole, sumTo-eq n (at lower) (r .lower) low-at, ap (λ k. sumTo k (at lower)) lower-size);
       }
 
-  -- the lower parts times payoff of the states at the first k places
+  -- The lower parts times payoff of the states at the first k places.
   bare : ℕ → ℕ
   bare k = sumTo k (λ q. r .lower (at order q - 1) * at payoff (at order q - 1))
 
-  -- all slack is given
+  -- All slack is given.
   record Done (row : List ℕ) (left : ℕ) : Type 0 where
     stop : ℕ
     filled : FillPost lower upper order row stop
     none : left ≡ 0
 
-  -- the row as the step's fill has it at place k, or when it is done
+  -- The row as the step's fill has it at place k, or when it is done.
   record RowAt (k : ℕ) : Type 0 where
     row : List ℕ
     sums : sumAt r (at payoff) order slack k + dot n (r .lower) (at payoff) ≡ bare k + dot n (at row) (at payoff)
@@ -251,7 +251,7 @@ module _ (high : Bool) (r : IntervalRow) (payoff order : List ℕ) (slack : ℕ)
     here : j < n
     here = omega (arith, permutation .within k more)
 
-    -- a state that the fill has not passed is bare
+    -- A state that the fill has not passed is bare.
     still : {row : List ℕ} {left : ℕ} → Filling lower upper order row left k → at row j ≡ r .lower j
     still w =
         ⊎-elim (λ b. b ∙ low-at j here) (λ s. absurd (places-apart n order permutation (s .place) k (s .early) more (s .held ∙ held)))
@@ -260,7 +260,7 @@ module _ (high : Bool) (r : IntervalRow) (payoff order : List ℕ) (slack : ℕ)
         held : suc j ≡ at order k
         held = omega (arith, permutation .within k more)
 
-    -- the sums when state j gets `given`
+    -- The sums when state j gets `given`.
     sums-more : (row : List ℕ) (given : ℕ) → length row ≡ n → given ≡ min (leftAt r order slack k) (capacity r j)
         → sumAt r (at payoff) order slack k + dot n (r .lower) (at payoff) ≡ bare k + dot n (at row) (at payoff)
         → sumAt r (at payoff) order slack (suc k) + dot n (r .lower) (at payoff) ≡ bare (suc k) + dot n (at (set row j (at row j + given))) (at payoff)
@@ -311,7 +311,7 @@ module _ (high : Bool) (r : IntervalRow) (payoff order : List ℕ) (slack : ℕ)
   row-at zero h = row-none
   row-at (suc k) h = row-more h (row-at k (omega arith))
 
-  -- the sum at the end is the filled row's
+  -- The sum at the end is the filled row's.
   pub filled-figure : rounded high (sumAt r (at payoff) order slack n) ≡ stepFigure high n r (at payoff)
   unfolding bare
   filled-figure = ⊎-elim (λ s. absurd (omega (arith, s .inside, lower-size))) by (w .state)

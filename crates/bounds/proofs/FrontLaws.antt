@@ -9,11 +9,11 @@ use Rattle.scheme.specs.Tables.{tab}
 use Rattle.scheme.specs.Laws.Tab.{length-tab}
 use Rattle.rows.specs.Laws.Front.{front-lent}
 
--- an array of 32 before it is written
+-- An array of 32 before it is written.
 abbrev pub zeros : List ℕ
 zeros = replicate 32 0
 
--- a front of n that was lent and written whole is what was written
+-- A front of n that was lent and written whole is what was written.
 pub front-made : (n : ℕ) (after rest : List ℕ) → n ≤ 32 → (f : ℕ → ℕ) → after ≡ tab (length (take n zeros)) f → take n (after ++ rest) ≡ tab n f
 front-made n after rest few f made =
     let is : after ≡ tab n f = made ∙ ap (λ k. tab k f) (front-lent n few) in

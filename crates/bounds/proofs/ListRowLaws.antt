@@ -18,11 +18,11 @@ use Rattle.bounds.specs.Entries.{rulesRow, lowerEnds, capacities, listSu
 use Rattle.bounds.proofs.FrontLaws.{zeros, front-made}
 use Rattle.order.specs.States.{at}
 
--- what was written at the front of an array of 32
+-- What was written at the front of an array of 32.
 abbrev pub front : ℕ → List ℕ → List ℕ
 front n l = take n (l ++ drop n zeros)
 
--- a row whose ends stand at the fronts of arrays of 32 that were lent to be summed in
+-- A row whose ends stand at the fronts of arrays of 32 that were lent to be summed in.
 module _ (rules lowers uppers : List ℕ) {n i : ℕ} {entries : List ℕ} (lower upper : List ℕ)
     (able : AddRowPre n (rulesRow rules lowers uppers) i entries)
     (isLower : lower ≡ tab (length (take n zeros)) (sumByTarget rules lowers))

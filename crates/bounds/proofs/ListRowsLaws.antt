@@ -10,19 +10,19 @@ use lib.Seq.{getD-set-same, getD-set-other}
 use borrow.Author.Count.{below-none, below-more}
 use borrow.Author.Tests.{eq-eqb, ne-eqb}
 use Rattle.setchain.specs.Sums.{sumTo, onlyIf}
-use Rattle.setchain.specs.Rows.{ONE, SoundRow, SetChain}
+use Rattle.setchain.specs.Rows.{ONE, SetChain}
 use Rattle.setchain.specs.Step.{capacity}
 use Rattle.setchain.specs.Laws.Sums.{sumTo-eq, onlyIf-true, onlyIf-false, total-start}
 use Rattle.setchain.specs.Laws.Agreeing.{Agree, agree-sym, sound-agrees}
 use Rattle.order.specs.States.{at}
-use Rattle.bounds.specs.Entries.{rulesRow, lowerEnds, capacities, counts, sumOf, listSum, listedRow, rulesChain, ShortLists, AddRowPre, AddRowPost, ListRowsPre, ListRowsPost}
+use Rattle.bounds.specs.Entries.{rulesRow, lowerEnds, capacities, sumOf, listSum, listedRow, rulesChain, ShortLists, AddRowPre, AddRowPost, ListRowsPre, ListRowsPost}
 
--- what the lists have for each row, of the lower ends or of the capacities: for the rows below i what v says, for the others nothing
+-- What the lists have for each row, of the lower ends or of the capacities: for the rows below i what v says, for the others nothing.
 pub record RowSums (n : ℕ) (v : ℕ → ℕ → ℕ) (ends : ℕ) (entries : List ℕ) (i : ℕ) : Type 0 where
   pub listed : (k : ℕ) → k < i → (j : ℕ) → j < n → listSum entries ends j k ≡ v k j
   pub later : (k : ℕ) → i ≤ k → (j : ℕ) → j < n → listSum entries ends j k ≡ 0
 
--- with the entries of row i more
+-- With the entries of row i more.
 sums-more : {n : ℕ} {v : ℕ → ℕ → ℕ} {ends : ℕ} {entries entries′ : List ℕ} {i : ℕ}
     → ((j k : ℕ) → j < n → listSum entries′ ends j k ≡ listSum entries ends j k + onlyIf (eqb i k) (v i j))
     → RowSums n v ends entries i → RowSums n v ends entries′ (i + 1)
@@ -37,7 +37,7 @@ sums-more {n} {v} {ends} {entries} {entries′} {i} added w =
     other : (k : ℕ) → (i ≡ k → ⊥) → (j : ℕ) → j < n → listSum entries′ ends j k ≡ listSum entries ends j k
     other k d j l = omega (arith, added j k l, onlyIf-false (eqb i k) (v i j) (ne-eqb i k d))
 
--- the lists at row i: the rows below it are listed, and of the others there is no entry
+-- The lists at row i: the rows below it are listed, and of the others there is no entry.
 pub record Listing (c : SetChain) (entries slack : List ℕ) (i : ℕ) : Type 0 where
   pub lists : ShortLists (c .states) i entries
   pub slacks : length slack ≡ 32
@@ -103,7 +103,7 @@ module _ {n : ℕ} {rules lowers uppers entries₀ slack₀ : List ℕ} (able : 
                 (omega (arith, getD-set-same slack i r 0 (omega (arith, w .slacks, able .states)), left));
           }
 
-    -- when all rows are listed
+    -- When all rows are listed.
     module _ (done : n ≤ i) where
       agree : (k : ℕ) → k < n → Agree n (listedRow entries k) (chain .row k)
       agree k l =

@@ -16,7 +16,7 @@ use Rattle.bounds.specs.Entries.{rulesRow, counts, rulesChain, EmptyList
 use Rattle.rows.specs.Laws.SumByTarget.{lower-is, upper-is}
 use Rattle.setchain.specs.Laws.Agreeing.{Agree, agree-sym, sound-agrees}
 
--- arrays of zeros hold lists with no entry
+-- Arrays of zeros hold lists with no entry.
 pub lists-empty : EmptyLists (replicate 3104 0) (replicate 32 0)
 lists-empty =
     record {
@@ -26,7 +26,7 @@ lists-empty =
       none = λ j l. getD-replicate 3104 (counts + j) 0 0 (omega arith);
     }
 
--- from a scheme's parts to its chain
+-- From a scheme's parts to its chain.
 module _ (s : Scheme) (accepted : Accepted s) (rulesStored : length (s .rules) ≡ 256) (lowersStored : length (s .lowers) ≡ 8) where
   abbrev lowers : List ℕ
   lowers = take (s .columns) (s .lowers)

@@ -26,7 +26,7 @@ use Rattle.bounds.specs.Series.{SharePayoffPost, startFigure}
 use Rattle.bounds.specs.Sheets.{shareOf}
 use Rattle.bounds.proofs.FrontLaws.{zeros}
 
--- an array of zeros with ONE at a class is its share's payoff
+-- An array of zeros with ONE at a class is its share's payoff.
 pub share-written : (class : ℕ) → SharePayoffPost class (set zeros (class - 1) ONE)
 share-written class = record { each = λ low high i l. by high i l (ℕ-discrete i (class - 1)) }
   where
@@ -47,7 +47,7 @@ module _ (s : Scheme) (ok : Accepted s) where
   below-32 : (j : ℕ) → j < s .classes → j < 32
   below-32 j l = omega (arith, ok .size .classes)
 
-  -- without a gain the payoffs alone count
+  -- Without a gain the payoffs alone count.
   fits-alone : (payoff : List ℕ) (most t : ℕ) → most ≤ LARGEST → ((j : ℕ) → j < s .classes → at payoff j ≤ most) → FiguresFit (s .classes) zeros payoff t
   fits-alone payoff most t h each =
       record {
@@ -59,14 +59,14 @@ module _ (s : Scheme) (ok : Accepted s) where
         small = omega arith;
       }
 
-  -- payoffs and gains in arrays, and as functions of the state
+  -- Payoffs and gains in arrays, and as functions of the state.
   as-functions : (high : Bool) (gain payoff : List ℕ) (g f : ℕ → ℕ) (t : ℕ) → ((j : ℕ) → j < 32 → at payoff j ≡ f j) → ((j : ℕ) → j < 32 → at gain j ≡ g j)
       → startFigure high s gain payoff t ≡ yearsFigure high (chainOf s) f g t (startOf s)
   as-functions high gain payoff g f t p q =
       years-agree refl (λ i l. agree-refl (s .classes) (chainOf s .row i)) (λ j l. p j (below-32 j l)) (λ j l. q j (below-32 j l)) high t (startOf s)
       (omega (arith, ok .start .positive, ok .start .within))
 
-  -- the share of a class
+  -- The share of a class.
   module _ {class : ℕ} {payoff : List ℕ} (held : SharePayoffPost class payoff) (positive : 1 ≤ class) (inside : class ≤ 32) (t : ℕ) where
     pub share-fits : FiguresFit (s .classes) zeros payoff t
     share-fits = fits-alone payoff ONE t (omega arith) (λ j l. omega (arith, held .each positive inside j (below-32 j l), onlyIf-le (eqb j (class - 1)) ONE))
@@ -74,7 +74,7 @@ module _ (s : Scheme) (ok : Accepted s) where
     pub share-figure : (high : Bool) → startFigure high s zeros payoff t ≡ shareFigure high (chainOf s) (class - 1) t (startOf s)
     share-figure high = as-functions high zeros payoff nothing (sharePayoff (class - 1)) t (held .each positive inside) zero-at
 
-  -- the share of the class of state j
+  -- The share of the class of state j.
   module _ {j : ℕ} {payoff : List ℕ} (held : SharePayoffPost (j + 1) payoff) (inside : j < s .classes) (t : ℕ) where
     pub state-fits : FiguresFit (s .classes) zeros payoff t
     state-fits = share-fits held (omega arith) (omega (arith, below-32 j inside)) t
@@ -84,7 +84,7 @@ module _ (s : Scheme) (ok : Accepted s) where
         let again : j + 1 - 1 ≡ j = omega arith in
         share-figure held (omega arith) (omega (arith, below-32 j inside)) t high ∙ ap (shareOf high s t) again
 
-  -- the mean premium, and the total of premiums, where an array holds the premiums
+  -- The mean premium, and the total of premiums, where an array holds the premiums.
   module _ {premiums : List ℕ} (are : premiums ≡ s .premiums) (t : ℕ) where
     pub mean-fits : FiguresFit (s .classes) zeros premiums t
     mean-fits = rw are (fits-alone (s .premiums) 10000000 t (omega arith) (ok .premiums .within))

@@ -31,7 +31,7 @@ module _ (s : Scheme) {entries slack gain payoff : List ℕ} {t stride : ℕ} (w
   start-inside : startOf s < n
   start-inside = omega (arith, w .accepted .start .positive, w .accepted .start .within)
 
-  -- the classes in the order of their numbers, at the front of an array
+  -- The classes in the order of their numbers, at the front of an array.
   module _ (order rest : List ℕ) (is : order ≡ identityOrder (take n zeros)) where
     permutation : Permutation (length (take n zeros)) order
     permutation =
@@ -68,7 +68,7 @@ module _ (s : Scheme) {entries slack gain payoff : List ℕ} {t stride : ℕ} (w
           counted = w .counted;
         }
 
-  -- the figures by the lists are those of the scheme's chain
+  -- The figures by the lists are those of the scheme's chain.
   figure-is : (high : Bool) (u i : ℕ) → i ≡ startOf s
       → yearsFigure high (chainListed (length (take n gain)) entries) (at payoff) (at (take n gain)) u i ≡ startFigure high s gain payoff u
   figure-is high u i g =

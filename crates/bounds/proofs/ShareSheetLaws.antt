@@ -7,8 +7,8 @@ use lib.ListN.{length}
 use Rattle.scheme.specs.declared.Scheme.{Scheme}
 use Rattle.scheme.specs.Cause.{slicesCause}
 use Rattle.scheme.specs.Laws.Cause.{first-none, second-none}
-use Rattle.bounds_spec.specs.Causes.{sheetLengthsCause}
-use Rattle.bounds_spec.specs.Answers.{moneyCause, sheetCause, lowShares, highShares}
+use Rattle.bounds_spec.specs.Causes.{sheetLengthsCause, moneyCause}
+use Rattle.bounds_spec.specs.Answers.{sheetCause, lowShares, highShares}
 use Rattle.bounds_spec.specs.Promises.{SheetPromise}
 use Rattle.bounds_spec.specs.Laws.Kept.{sheet-kept}
 use Rattle.bounds.specs.Sheets.{WritePre}
@@ -16,7 +16,7 @@ use Rattle.bounds.proofs.StartBoundsLaws.{money-accepted}
 use Rattle.bounds.proofs.SlicesLaws.{slices-ready, SlicesLeft, slices-declined, slices-written}
 
 module _ (s : Scheme) (year : ℕ) (low high : List ℕ) {n : ℕ} (e : n ≡ sheetLengthsCause s year (length low) (length high)) where
-  -- the code's cause is the definition's
+  -- The code's cause is the definition's.
   is : n ≡ sheetCause s year low high
   unfolding sheetCause
   is = e

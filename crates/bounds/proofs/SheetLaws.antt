@@ -18,7 +18,7 @@ use Rattle.bounds.specs.Sheets.{shareOf}
 use Rattle.bounds.proofs.FrontLaws.{zeros}
 use Rattle.bounds.proofs.PayoffsLaws.{state-fits, state-share}
 
--- what the share of the class of state j takes, with no slice to write to
+-- What the share of the class of state j takes, with no slice to write to.
 pub share-ready : (s : Scheme) (year : ℕ) → Accepted s → Fits w64 (year * 1) → {j : ℕ} → j < s .classes → {payoff : List ℕ} → SharePayoffPost (j + 1) payoff
     → SeriesPre s zeros payoff year 1
 share-ready s year ok counted l held = record { accepted = ok; fits = state-fits s ok held l year; apart = omega arith; counted = counted }

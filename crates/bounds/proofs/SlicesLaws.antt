@@ -11,21 +11,21 @@ use Rattle.scheme.specs.Laws.Cause.{declined, slices-fit}
 use Rattle.bounds_spec.specs.Answers.{sheetSlice}
 use Rattle.bounds.specs.Sheets.{WritePre}
 
--- two slices without a cause are of the wanted size
+-- Two slices without a cause are of the wanted size.
 pub slices-ready : {s : Scheme} (size : ℕ) (low high : List ℕ) → Accepted s → slicesCause size (length low) (length high) ≡ 0
     → WritePre s size low × WritePre s size high
 slices-ready size low high ok z =
     let fits = slices-fit size (length low) (length high) z in
     (record { accepted = ok; size = fits .0 }, record { accepted = ok; size = fits .1 })
 
--- a call with a promise, whose cause is 0 where it fills the slices `low` and `high` with `lows` and `highs`
+-- A call with a promise, whose cause is 0 where it fills the slices `low` and `high` with `lows` and `highs`.
 module _ (Promise : ℕ → List ℕ → List ℕ → Type 0) (cause : ℕ) (lows highs low high : List ℕ)
     (kept : Promise cause (sheetSlice cause lows low) (sheetSlice cause highs high)) where
-  -- what it ensures of its number and of the slices that it leaves
+  -- What it ensures of its number and of the slices that it leaves.
   abbrev pub SlicesLeft : ℕ → List ℕ → List ℕ → Type 0
   SlicesLeft n low′ high′ = (n ≡ cause) × ((low′ ≡ sheetSlice n lows low) × ((high′ ≡ sheetSlice n highs high) × Promise n low′ high′))
 
-  -- the promise follows from the rest
+  -- The promise follows from the rest.
   slices-left : {n : ℕ} {low′ high′ : List ℕ} → n ≡ cause → low′ ≡ sheetSlice n lows low → high′ ≡ sheetSlice n highs high → SlicesLeft n low′ high′
   slices-left {n} e p q =
       (e, (p, (q, subst₂ (Promise n) (sym p) (sym q) (subst (λ m. Promise m (sheetSlice m lows low) (sheetSlice m highs high)) (sym e) kept))))

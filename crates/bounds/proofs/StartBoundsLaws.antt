@@ -18,22 +18,23 @@ use Rattle.scheme.specs.Laws.Cause.{outside-false, first-none, second-none, tes
 use Rattle.scheme.specs.Laws.Judged.{accepted-cause}
 use Rattle.bounds_spec.specs.declared.Bounds.{Bounds}
 use Rattle.bounds_spec.specs.declared.Bounds.the-variants.{Answered, Refused}
-use Rattle.bounds_spec.specs.Answers.{answerBy, startOf, shareCause, shareAnswer, moneyCause, meanAnswer, totalAnswer}
+use Rattle.bounds_spec.specs.Answers.{answerBy, startOf, shareAnswer, meanAnswer, totalAnswer}
 use Rattle.bounds_spec.specs.Promises.{SharePromise, MeanPromise, TotalPromise}
 use Rattle.bounds_spec.specs.Laws.Kept.{share-kept, mean-kept, total-kept}
 use Rattle.bounds.specs.Series.{SharePayoffPost, startFigure, SeriesPre}
 use Rattle.bounds.proofs.FrontLaws.{zeros}
 use Rattle.bounds.proofs.PayoffsLaws.{share-fits, share-figure, mean-fits, mean-figure, total-fits, total-figure}
+use Rattle.bounds_spec.specs.Causes.{shareCause, moneyCause}
 
--- answers with the same cause are the same, where their figures are
+-- Answers with the same cause are the same, where their figures are.
 answer-same : {n m low high low′ high′ : ℕ} → n ≡ m → (n ≡ 0 → low ≡ low′) → (n ≡ 0 → high ≡ high′) → answerBy n low high ≡ answerBy m low′ high′
 answer-same e p q = by-cause e (λ z. ap₂ Answered (p z) (q z)) (ap Refused e)
 
--- an answer keeps the promise that the definition's answer keeps
+-- An answer keeps the promise that the definition's answer keeps.
 with-promise : (P : Bounds → Type 0) {a r : Bounds} → P a → r ≡ a → (r ≡ a) × P r
 with-promise P kept e = (e, subst P (sym e) kept)
 
--- the share of a class
+-- The share of a class.
 module _ (s : Scheme) (class year : ℕ) {n : ℕ} (e : n ≡ shareCause s class year) where
   share-accepted : n ≡ 0 → Accepted s
   share-accepted z = accepted-cause s (first-none (causeOf s) (orElse (classCause s class) (yearCause s year)) (sym e ∙ z))
@@ -65,7 +66,7 @@ module _ (s : Scheme) (class year : ℕ) {n : ℕ} (e : n ≡ shareCause s class
         figure : n ≡ 0 → (high : Bool) → startFigure high s zeros payoff year ≡ shareFigure high (chainOf s) (class - 1) year (startOf s)
         figure z = share-figure s (share-accepted z) held (class-inside z .0) (class-inside z .1) year
 
--- the mean premium, and the total of premiums
+-- The mean premium, and the total of premiums.
 module _ (s : Scheme) (year : ℕ) {n : ℕ} (e : n ≡ moneyCause s year) where
   pub money-accepted : n ≡ 0 → Accepted s
   money-accepted z = accepted-cause s (first-none (causeOf s) (yearCause s year) (sym e ∙ z))

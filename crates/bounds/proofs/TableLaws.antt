@@ -17,31 +17,32 @@ use Rattle.scheme.specs.Accepted.{Accepted}
 use Rattle.scheme.specs.Laws.Tab.{as-tab}
 use Rattle.scheme.specs.declared.Scheme.{Scheme}
 use Rattle.order.specs.States.{at}
-use Rattle.bounds_spec.specs.Table.{placeOf, totalPlace, tableSize, tableEntry, figureTable}
+use Rattle.bounds_spec.specs.Table.{placeOf, tableEntry, figureTable}
 use Rattle.bounds_spec.specs.Laws.Table.{table-at-most, place-below, number-of, entry-share, entry-mean, entry-total}
 use Rattle.bounds.specs.Years.{FiguresFit, SeriesStored}
 use Rattle.bounds.specs.Series.{startFigure, SharePayoffPost, SeriesPre}
 use Rattle.bounds.specs.Sheets.{WritePre, shareOf, ShareColumnsPost}
 use Rattle.bounds.proofs.FrontLaws.{zeros}
 use Rattle.bounds.proofs.PayoffsLaws.{state-fits, state-share, mean-fits, mean-figure, total-fits, total-figure}
+use Rattle.bounds_spec.specs.Causes.{totalPlace, tableSize}
 
--- the last place of a table fits
+-- The last place of a table fits.
 pub last-fits : (s : Scheme) → Accepted s → {n : ℕ} → n ≡ tableSize s → Fits w64 ((n - 1) * 8)
 last-fits s ok e = omega (arith, table-at-most s ok)
 
--- columns have no place in common
+-- Columns have no place in common.
 columns-apart : (s : Scheme) (t k u j : ℕ) → k ≤ s .classes → j ≤ s .classes → placeOf s t k ≡ j + u * (s .classes + 1) → k ≡ j
 columns-apart s t k u j l m e =
     let f : placeOf s t k ≡ placeOf s u j = omega arith in
     sym (number-of s t k l) ∙ ap (λ p. p % suc (s .classes)) f ∙ number-of s u j m
 
--- number j of each year's row is the year's figure, and the other numbers of the rows have not changed
+-- Number j of each year's row is the year's figure, and the other numbers of the rows have not changed.
 pub record ColumnStored (s : Scheme) (figure : ℕ → ℕ) (j : ℕ) (before after : List ℕ) : Type 0 where
   pub size : length after ≡ length before
   pub own : (t : ℕ) → t ≤ s .horizon → at after (placeOf s t j) ≡ figure t
   pub other : (t k : ℕ) → k ≤ s .classes → (k ≡ j → ⊥) → at after (placeOf s t k) ≡ at before (placeOf s t k)
 
--- a series in the part of the table from number j on is a column, as the part is lent and comes back
+-- A series in the part of the table from number j on is a column, as the part is lent and comes back.
 module _ (s : Scheme) (j : ℕ) (before after : List ℕ) (inRow : j ≤ s .classes) (size : length before ≡ tableSize s) where
   abbrev part : List ℕ
   part = take (length before - j) (drop j before)
@@ -93,11 +94,11 @@ module _ (s : Scheme) (j : ℕ) (before after : List ℕ) (inRow : j ≤ s .clas
       subst (ColumnStored s figure j before) (sym back-is)
       (column (subst (λ l. SeriesStored figure (s .classes + 1) (s .horizon + 1) l after) part-is w))
 
--- what a column takes
+-- What a column takes.
 column-ready : (s : Scheme) → Accepted s → {gain payoff : List ℕ} → FiguresFit (s .classes) gain payoff (s .horizon) → SeriesPre s gain payoff (s .horizon) (s .classes + 1)
 column-ready s ok fits = record { accepted = ok; fits = fits; apart = omega arith; counted = omega (arith, table-at-most s ok) }
 
--- the shares, class by class
+-- The shares, class by class.
 pub columns-none : {high : Bool} {s : Scheme} {out : List ℕ} → WritePre s (tableSize s) out → ShareColumnsPost high s out 0
 columns-none w = record { size = w .size; inside = omega arith; done = below-none _ }
 
@@ -120,12 +121,12 @@ module _ (s : Scheme) (ok : Accepted s) {high : Bool} {out : List ℕ} {j : ℕ}
 pub columns-all : {high : Bool} {s : Scheme} {out : List ℕ} {j : ℕ} → s .classes ≤ j → ShareColumnsPost high s out j → ShareColumnsPost high s out (s .classes)
 columns-all h w = record { size = w .size; inside = omega arith; done = λ k l. w .done k (omega arith) }
 
--- shares, means and the total at their places make the list
+-- Shares, means and the total at their places make the list.
 module _ (s : Scheme) (share : ℕ → ℕ → ℕ) (mean : ℕ → ℕ) (total : ℕ) (out : List ℕ) (size : length out ≡ tableSize s)
     (shares : (t j : ℕ) → t ≤ s .horizon → j < s .classes → at out (placeOf s t j) ≡ share t j)
     (means : (t : ℕ) → t ≤ s .horizon → at out (placeOf s t (s .classes)) ≡ mean t)
     (last : at out (totalPlace s) ≡ total) where
-  -- by year and number
+  -- By year and number.
   row-entry : (t j : ℕ) → t ≤ s .horizon → j ≤ s .classes → at out (placeOf s t j) ≡ tableEntry s share mean total (placeOf s t j)
   row-entry t j h l = by (decLt j (s .classes))
     where
@@ -151,11 +152,11 @@ module _ (s : Scheme) (share : ℕ → ℕ → ℕ) (mean : ℕ → ℕ) (total 
   table-pinned : out ≡ tab (tableSize s) (tableEntry s share mean total)
   table-pinned = as-tab 0 out (tableSize s) (tableEntry s share mean total) size place-entry
 
--- a slice with its last number written is as long as it was
+-- A slice with its last number written is as long as it was.
 pub last-length : (after : List ℕ) (v : ℕ) {n : ℕ} → length after ≡ n → length (set after (length after - 1) v) ≡ n
 last-length after v e = length-set after (length after - 1) v ∙ e
 
--- the mean's column and the total, after the shares
+-- The mean's column and the total, after the shares.
 module _ (s : Scheme) (ok : Accepted s) {premiums : List ℕ} (are : premiums ≡ s .premiums) where
   pub mean-ready : SeriesPre s zeros premiums (s .horizon) (s .classes + 1)
   mean-ready = column-ready s ok (mean-fits s ok are (s .horizon))
@@ -166,7 +167,7 @@ module _ (s : Scheme) (ok : Accepted s) {premiums : List ℕ} (are : premiums �
 
   module _ {high : Bool} {out after : List ℕ} (w : ShareColumnsPost high s out (s .classes))
       (c : ColumnStored s (startFigure high s zeros premiums) (s .classes) out after) where
-    -- the last place is the total's
+    -- The last place is the total's.
     last-place : length after - 1 ≡ totalPlace s
     last-place = omega (arith, c .size, w .size)
 

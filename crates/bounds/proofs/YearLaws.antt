@@ -26,7 +26,7 @@ use Rattle.bounds.proofs.FillStateLaws.{entry-in}
 use Rattle.bounds.proofs.FillStatesLaws.{sum-fits, filled-figure}
 use Rattle.bounds.proofs.FrontLaws.{zeros}
 
--- what a figure is made of: the gain, and the sum rounded
+-- What a figure is made of: the gain, and the sum rounded.
 abbrev pub roundedSum : (gain : List ℕ) → (high : Bool) → ℕ → ℕ → ℕ
 roundedSum gain high k sum = at gain k + rounded high sum
 
@@ -40,7 +40,7 @@ module _ {gain : List ℕ} (high : Bool) {sums figures : List ℕ} {i : ℕ} (ab
   pub figures-all : length gain ≤ i → RoundSumsPost gain high sums figures
   figures-all h = record { size = w .size; each = λ k l. w .done k (omega arith) }
 
--- the states at the places below k are filled
+-- The states at the places below k are filled.
 pub record StatesFilled (entries payoff order left left′ sums : List ℕ) (k : ℕ) : Type 0 where
   pub inside : k ≤ length payoff
   pub lefts : length left′ ≡ length payoff
@@ -67,7 +67,7 @@ module _ {entries payoff order left sums₀ : List ℕ} (able : FillStatesPre en
     count-is : j * 32 + at entries (counts + j) - j * 32 ≡ at entries (counts + j)
     count-is = omega arith
 
-    -- what row i takes is what its sum has
+    -- What row i takes is what its sum has.
     one-more : (i : ℕ) → i < length payoff
         → sumAt (listedRow entries i) (at payoff) order (at left i) (suc k) ≡ at sums i + taken entries (j * 32) (j * 32 + at entries (counts + j)) left′ i * at payoff j
     unfolding sumAt
@@ -130,7 +130,7 @@ module _ {entries payoff order left sums₀ : List ℕ} (able : FillStatesPre en
         fits = λ i l. omega (arith, s i l, fits i l (length payoff) (omega arith));
       }
 
--- a year of n states, where figures, slack and sums stand at the fronts of arrays
+-- A year of n states, where figures, slack and sums stand at the fronts of arrays.
 module _ {entries slack gain order before : List ℕ} (w : YearPre entries slack gain order before)
     (fits : length gain ≤ length before) where
   front-count : length (take (length gain) before) ≡ length gain
@@ -146,7 +146,7 @@ module _ {entries slack gain order before : List ℕ} (w : YearPre entries slack
   slack-at i l = getD-take (length gain) slack i 0 l
 
   module _ (high : Bool) {order′ : List ℕ} (is : order′ ≡ sorted (take (length gain) before) high order) where
-    -- the order has the classes by the figures before
+    -- The order has the classes by the figures before.
     by-payoff : SortedPermutation (take (length gain) before) high order′
     by-payoff =
         subst (SortedPermutation (take (length gain) before) high) (sym is)

@@ -19,13 +19,13 @@ use Rattle.step.specs.Figure.{LARGEST}
 use Rattle.bounds.specs.Entries.{chainListed}
 use Rattle.bounds.specs.Years.{yearFigure, YearPre, YearPost, FiguresFit, YearsPre, SeriesStored, YearsPost}
 
--- a year's figure from figures that are known
+-- A year's figure from figures that are known.
 years-next : (high : Bool) (c : SetChain) (payoff gain f : ℕ → ℕ) (t i : ℕ) → ((j : ℕ) → j < c .states → f j ≡ yearsFigure high c payoff gain t j)
     → yearFigure high c gain f i ≡ yearsFigure high c payoff gain (suc t) i
 unfolding yearsFigure
 years-next high c payoff gain f t i h = ap (λ x. gain i + x) (step-agrees (agree-refl (c .states) (c .row i)) h high)
 
--- one figure more
+-- One figure more.
 series-more : {figure : ℕ → ℕ} {stride t v : ℕ} {before : List ℕ} (out : List ℕ) → 1 ≤ stride → v ≡ figure t
     → SeriesStored figure stride t before out → SeriesStored figure stride (t + 1) before (set out (t * stride) v)
 series-more {figure} {stride} {t} {v} {before} out apart e w =
@@ -38,7 +38,7 @@ series-more {figure} {stride} {t} {v} {before} out apart e w =
       other = λ p o. getD-set-other out (t * stride) p v 0 (o t) ∙ w .other p o;
     }
 
--- what fits for t years fits for fewer
+-- What fits for t years fits for fewer.
 fits-less : {n : ℕ} {gain payoff : List ℕ} {t : ℕ} → FiguresFit n gain payoff t → (u : ℕ) → u ≤ t → FiguresFit n gain payoff u
 fits-less w u fewer =
     record {
@@ -54,7 +54,7 @@ module _ {entries slack gain order payoff : List ℕ} {t state stride : ℕ} (w 
   abbrev chain : SetChain
   chain = chainListed (length gain) entries
 
-  -- in no years the figures are the payoff, and none is written yet
+  -- In no years the figures are the payoff, and none is written yet.
   pub years-none : {high : Bool} {before : List ℕ} → t ≡ 0 → YearsPost entries gain payoff high t state stride t order payoff before before
   unfolding yearsFigure
   years-none {high} e =
@@ -64,14 +64,14 @@ module _ {entries slack gain order payoff : List ℕ} {t state stride : ℕ} (w 
         series = record { size = refl; done = λ u l. absurd (omega arith); other = λ p o. refl };
       }
 
-  -- with the figure of year t written
+  -- With the figure of year t written.
   pub years-stored : {high : Bool} {order′ figures before out : List ℕ}
       → YearsPost entries gain payoff high t state stride t order′ figures before out
       → YearsPost entries gain payoff high t state stride (t + 1) order′ figures before (set out (t * stride) (at figures state))
   years-stored {high} {order′} {figures} {before} {out} i =
       record { permutation = i .permutation; each = i .each; series = series-more out (w .apart) (i .each state (w .inside)) (i .series) }
 
-  -- from t years to fewer, and from the figures of u years to those of one more
+  -- From t years to fewer, and from the figures of u years to those of one more.
   module _ (u : ℕ) (fewer : u ≤ t) where
     pub years-less : YearsPre entries slack gain order payoff u state stride
     years-less =

@@ -14,27 +14,27 @@ use Rattle.scheme.specs.SumByTarget.{sumByTarget}
 use Rattle.rows.specs.Rows.{classRules}
 use Rattle.order.specs.States.{at}
 
--- where the lower ends begin
+-- Where the lower ends begin.
 abbrev pub lowerEnds : ℕ
 lowerEnds = 1024
 
--- where the capacities begin
+-- Where the capacities begin.
 abbrev pub capacities : ℕ
 capacities = 2048
 
--- where the counts begin
+-- Where the counts begin.
 abbrev pub counts : ℕ
 counts = 3072
 
--- what the `count` entries from place `first` on have for state i's row, of the lower ends or of the capacities
+-- What the `count` entries from place `first` on have for state i's row, of the lower ends or of the capacities.
 abbrev pub sumOf : List ℕ → (ends first count i : ℕ) → ℕ
 sumOf entries ends first count i = sumTo count (λ e. onlyIf (eqb (at entries (first + e)) i) (at entries (ends + (first + e))))
 
--- what the list of state j has for state i's row
+-- What the list of state j has for state i's row.
 abbrev pub listSum : List ℕ → (ends j i : ℕ) → ℕ
 listSum entries ends j i = sumOf entries ends (j * 32) (at entries (counts + j)) i
 
--- the interval row of state i that the lists hold
+-- The interval row of state i that the lists hold.
 abbrev pub listedRow : (entries : List ℕ) → ℕ → IntervalRow
 listedRow entries i =
     record {
@@ -42,25 +42,25 @@ listedRow entries i =
       upper = λ j. listSum entries lowerEnds j i + listSum entries capacities j i;
     }
 
--- the set-chain of n states that the lists hold
+-- The set-chain of n states that the lists hold.
 abbrev pub chainListed : ℕ → (entries : List ℕ) → SetChain
 chainListed n entries = record { states = n; row = listedRow entries }
 
--- the interval row that some rules make with their bands' ends
+-- The interval row that some rules make with their bands' ends.
 abbrev pub rulesRow : List ℕ → List ℕ → List ℕ → IntervalRow
 rulesRow rules lowers uppers = record { lower = sumByTarget rules lowers; upper = sumByTarget rules uppers }
 
--- the set-chain of n states that a scheme's rules make with the ends of its bands
+-- The set-chain of n states that a scheme's rules make with the ends of its bands.
 abbrev pub rulesChain : ℕ → (rules lowers uppers : List ℕ) → SetChain
 rulesChain n rules lowers uppers = record { states = n; row = λ i. rulesRow (classRules (length lowers) rules i) lowers uppers }
 
--- lists for n states in an array of their size: every entry is of a state's row, and no list has more than `most`
+-- Lists for n states in an array of their size: every entry is of a state's row, and no list has more than `most`.
 pub record ShortLists (n most : ℕ) (entries : List ℕ) : Type 0 where
   pub size : length entries ≡ 3104
   pub rows : (e : ℕ) → e < 1024 → at entries e < n
   pub short : (j : ℕ) → j < n → at entries (counts + j) ≤ most
 
--- the lists hold sound rows of n states, and `slack` what the lower ends of each row leave of ONE
+-- The lists hold sound rows of n states, and `slack` what the lower ends of each row leave of ONE.
 pub record SoundLists (n : ℕ) (entries slack : List ℕ) : Type 0 where
   pub states : n ≤ 32
   pub lists : ShortLists n 32 entries
@@ -68,27 +68,27 @@ pub record SoundLists (n : ℕ) (entries slack : List ℕ) : Type 0 where
   pub sound : SoundChain (chainListed n entries)
   pub whole : (i : ℕ) → i < n → sumTo n (listedRow entries i .lower) + at slack i ≡ ONE
 
--- lists with no entry
+-- Lists with no entry.
 pub record EmptyLists (entries slack : List ℕ) : Type 0 where
   pub size : length entries ≡ 3104
   pub slacks : length slack ≡ 32
   pub rows : (e : ℕ) → e < 1024 → at entries e ≡ 0
   pub none : (j : ℕ) → j < 32 → at entries (counts + j) ≡ 0
 
--- what it takes to add the row r of state i: a sound row of n states, and no list with more than i entries
+-- What it takes to add the row r of state i: a sound row of n states, and no list with more than i entries.
 pub record AddRowPre (n : ℕ) (r : IntervalRow) (i : ℕ) (entries : List ℕ) : Type 0 where
   pub states : n ≤ 32
   pub inside : i < n
   pub sound : SoundRow n r
   pub lists : ShortLists n i entries
 
--- the lists before and after: each row has what it had, and state i's row its entries more
+-- The lists before and after: each row has what it had, and state i's row its entries more.
 pub record AddRowPost (n : ℕ) (r : IntervalRow) (i : ℕ) (entries entries′ : List ℕ) : Type 0 where
   pub lists : ShortLists n (i + 1) entries′
   pub lowers : (j k : ℕ) → j < n → listSum entries′ lowerEnds j k ≡ listSum entries lowerEnds j k + onlyIf (eqb i k) (r .lower j)
   pub rises : (j k : ℕ) → j < n → listSum entries′ capacities j k ≡ listSum entries capacities j k + onlyIf (eqb i k) (capacity r j)
 
--- what it takes to list all rows: a sound chain of n states, its rules eight to a state, and lists with no entry
+-- What it takes to list all rows: a sound chain of n states, its rules eight to a state, and lists with no entry.
 pub record ListRowsPre (n : ℕ) (rules lowers uppers entries slack : List ℕ) : Type 0 where
   pub positive : 1 ≤ n
   pub states : n ≤ 32
@@ -97,7 +97,7 @@ pub record ListRowsPre (n : ℕ) (rules lowers uppers entries slack : List ℕ) 
   pub sound : SoundChain (rulesChain n rules lowers uppers)
   pub empty : EmptyLists entries slack
 
--- the lists hold the rows of the chain
+-- The lists hold the rows of the chain.
 pub record ListRowsPost (c : SetChain) (entries slack : List ℕ) : Type 0 where
   pub lists : SoundLists (c .states) entries slack
   pub agrees : (i : ℕ) → i < c .states → Agree (c .states) (listedRow entries i) (c .row i)

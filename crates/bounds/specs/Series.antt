@@ -13,22 +13,22 @@ use Rattle.bounds_spec.specs.Answers.{startOf}
 use Rattle.order.specs.States.{at}
 use Rattle.bounds.specs.Years.{FiguresFit, SeriesStored}
 
--- the payoff of a class's share in an array of 32
+-- The payoff of a class's share in an array of 32.
 pub record SharePayoffPost (class : ℕ) (payoff : List ℕ) : Type 0 where
   pub each : 1 ≤ class → class ≤ 32 → (i : ℕ) → i < 32 → at payoff i ≡ sharePayoff (class - 1) i
 
--- the start class's figure of t years
+-- The start class's figure of t years.
 abbrev pub startFigure : (high : Bool) → Scheme → List ℕ → List ℕ → ℕ → ℕ
 startFigure high s gain payoff t = yearsFigure high (chainOf s) (at payoff) (at gain) t (startOf s)
 
--- what the start class's figures to year t take: an accepted scheme, figures that fit, and places that are apart and can be counted
+-- What the start class's figures to year t take: an accepted scheme, figures that fit, and places that are apart and can be counted.
 pub record SeriesPre (s : Scheme) (gain payoff : List ℕ) (t stride : ℕ) : Type 0 where
   pub accepted : Accepted s
   pub fits : FiguresFit (s .classes) gain payoff t
   pub apart : 1 ≤ stride
   pub counted : Fits w64 (t * stride)
 
--- what they leave: the figure of year t, and those of all years to t at their places
+-- What they leave: the figure of year t, and those of all years to t at their places.
 pub record SeriesPost (high : Bool) (s : Scheme) (gain payoff : List ℕ) (t stride : ℕ) (before after : List ℕ) (last : ℕ) : Type 0 where
   pub figure : last ≡ startFigure high s gain payoff t
   pub series : SeriesStored (startFigure high s gain payoff) stride (t + 1) before after

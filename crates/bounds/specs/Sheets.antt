@@ -10,18 +10,19 @@ use Rattle.scheme.specs.Accepted.{Accepted}
 use Rattle.scheme.specs.Rows.{chainOf}
 use Rattle.order.specs.States.{at}
 use Rattle.bounds_spec.specs.Answers.{startOf}
-use Rattle.bounds_spec.specs.Table.{placeOf, tableSize}
+use Rattle.bounds_spec.specs.Table.{placeOf}
+use Rattle.bounds_spec.specs.Causes.{tableSize}
 
--- what it takes to write the figures of a scheme: it is accepted, and the slice has as many numbers as they are
+-- What it takes to write the figures of a scheme: it is accepted, and the slice has as many numbers as they are.
 pub record WritePre (s : Scheme) (count : ℕ) (out : List ℕ) : Type 0 where
   pub accepted : Accepted s
   pub size : length out ≡ count
 
--- the share of state j after `year` years
+-- The share of state j after `year` years.
 abbrev pub shareOf : (high : Bool) → Scheme → (year j : ℕ) → ℕ
 shareOf high s year j = shareFigure high (chainOf s) j year (startOf s)
 
--- the shares of the first j classes stand at their places in every year
+-- The shares of the first j classes stand at their places in every year.
 pub record ShareColumnsPost (high : Bool) (s : Scheme) (out : List ℕ) (j : ℕ) : Type 0 where
   pub size : length out ≡ tableSize s
   pub inside : j ≤ s .classes

@@ -15,22 +15,22 @@ use Rattle.step.specs.Figure.{LARGEST}
 use Rattle.bounds.specs.Entries.{chainListed, SoundLists}
 use Rattle.bounds.specs.Fill.{Small}
 
--- what one year makes of the figures f of the year before: the gain and the step's figure, low or high
+-- What one year makes of the figures f of the year before: the gain and the step's figure, low or high.
 abbrev pub yearFigure : (high : Bool) → SetChain → (gain f : ℕ → ℕ) → ℕ → ℕ
 yearFigure high c gain f i = gain i + stepFigure high (c .states) (c .row i) f
 
--- what one year takes: lists that hold sound rows, an order of the states, and figures and gains that are not too large
+-- What one year takes: lists that hold sound rows, an order of the states, and figures and gains that are not too large.
 pub record YearPre (entries slack gain order before : List ℕ) : Type 0 where
   pub lists : SoundLists (length gain) entries slack
   pub permutation : Permutation (length gain) order
   pub small : Small (length gain) before
   pub gains : Small (length gain) gain
 
--- each figure of the chain's states is the year's
+-- Each figure of the chain's states is the year's.
 pub record YearPost (c : SetChain) (gain before : List ℕ) (high : Bool) (figures : List ℕ) : Type 0 where
   pub each : (i : ℕ) → i < c .states → at figures i ≡ yearFigure high c (at gain) (at before) i
 
--- the figures of t years fit: no payoff of the n states is above `payoffMost`, no gain above `gainMost`
+-- The figures of t years fit: no payoff of the n states is above `payoffMost`, no gain above `gainMost`.
 pub record FiguresFit (n : ℕ) (gain payoff : List ℕ) (t : ℕ) : Type 0 where
   pub payoffMost : ℕ
   pub gainMost : ℕ
@@ -39,7 +39,7 @@ pub record FiguresFit (n : ℕ) (gain payoff : List ℕ) (t : ℕ) : Type 0 wher
   pub figures : payoffMost + t * gainMost ≤ LARGEST
   pub small : gainMost ≤ LARGEST
 
--- what t years take: lists that hold sound rows, an order, figures that fit, a state of the chain, and places that are apart and can be counted
+-- What t years take: lists that hold sound rows, an order, figures that fit, a state of the chain, and places that are apart and can be counted.
 pub record YearsPre (entries slack gain order payoff : List ℕ) (t state stride : ℕ) : Type 0 where
   pub lists : SoundLists (length gain) entries slack
   pub permutation : Permutation (length gain) order
@@ -48,13 +48,13 @@ pub record YearsPre (entries slack gain order payoff : List ℕ) (t state stride
   pub apart : 1 ≤ stride
   pub counted : Fits w64 (t * stride)
 
--- the figures of the first `count` years stand in `after`, that of year u at place u × stride where the slice has it, and nothing else has changed
+-- The figures of the first `count` years stand in `after`, that of year u at place u × stride where the slice has it, and nothing else has changed.
 pub record SeriesStored (figure : ℕ → ℕ) (stride count : ℕ) (before after : List ℕ) : Type 0 where
   pub size : length after ≡ length before
   pub done : (u : ℕ) → u < count → u * stride < length before → at after (u * stride) ≡ figure u
   pub other : (p : ℕ) → ((u : ℕ) → p ≡ u * stride → ⊥) → at after p ≡ at before p
 
--- what t years leave: an order of the states, each state's figure of t years, and one state's figures of the first `count` years at their places
+-- What t years leave: an order of the states, each state's figure of t years, and one state's figures of the first `count` years at their places.
 pub record YearsPost (entries gain payoff : List ℕ) (high : Bool) (t state stride count : ℕ) (order figures before after : List ℕ) : Type 0 where
   pub permutation : Permutation (length gain) order
   pub each : (i : ℕ) → i < length gain → at figures i ≡ yearsFigure high (chainListed (length gain) entries) (at payoff) (at gain) t i

@@ -3,8 +3,9 @@ pub use bounds_spec::Bounds;
 use scheme::Scheme;
 ghost use mathlib.Core.Path.{_≡_};
 ghost use Rattle.bounds_spec.specs.Answers.{highShares, lowShares, meanAnswer, shareAnswer, sheetCause, sheetSlice, totalAnswer};
-ghost use Rattle.bounds_spec.specs.Table.{highTable, lowTable, tableCause, tableSize};
+ghost use Rattle.bounds_spec.specs.Table.{highTable, lowTable, tableCause};
 ghost use Rattle.bounds_spec.specs.Promises.{FiguresPromise, MeanPromise, SharePromise, SheetPromise, TotalPromise};
+ghost use Rattle.bounds_spec.specs.Causes.{tableSize};
 
 mod causes;
 mod entries;

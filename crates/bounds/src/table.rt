@@ -6,9 +6,10 @@ use crate::series::series;
 use scheme::Scheme;
 ghost use mathlib.Core.Path.{_≡_};
 ghost use Rattle.scheme.specs.Rows.{chainOf};
-ghost use Rattle.bounds_spec.specs.Table.{figureTable, tableSize};
+ghost use Rattle.bounds_spec.specs.Table.{figureTable};
 ghost use Rattle.bounds.specs.Entries.{ListRowsPost};
 ghost use Rattle.bounds.specs.Sheets.{ShareColumnsPost, WritePre};
+ghost use Rattle.bounds_spec.specs.Causes.{tableSize};
 
 // Writes the shares of all classes, a column for each.
 fn share_columns(

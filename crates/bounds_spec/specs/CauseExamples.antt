@@ -8,7 +8,7 @@ use Rattle.bounds_spec.specs.declared.Bounds.the-variants.{Answered, Ref
 use Rattle.bounds_spec.specs.Answers.{numberOf, lowOf, highOf}
 use Rattle.bounds_spec.specs.Causes.{shareCause, moneyCause, sheetLengthsCause, tableSize, tableLengthsCause}
 
--- a class above s, a year above the horizon, and both
+-- A class above s, a year above the horizon, and both.
 pub record ShareCauses : Type 0 where
   pub class : shareCause schemeA 3 2 ≡ 11
   pub noClass : shareCause schemeA 0 2 ≡ 11
@@ -17,7 +17,7 @@ pub record ShareCauses : Type 0 where
   pub none : shareCause schemeA 2 2 ≡ 0
   pub scheme : shareCause (single 2 0 1000000000 0) 3 101 ≡ 7
 
--- a year above the horizon, also of a scheme that is not accepted; a slice one too long or too short: of s numbers for a sheet, and of 3 × 3 + 1 for the table
+-- A year above the horizon, also of a scheme that is not accepted; a slice one too long or too short: of s numbers for a sheet, and of 3 × 3 + 1 for the table.
 pub record SliceCauses : Type 0 where
   pub money : moneyCause schemeA 3 ≡ 12
   pub moneyNone : moneyCause schemeA 2 ≡ 0
@@ -38,6 +38,6 @@ unfolding causeWhere sizeOut startOut horizonOut ruleOut bandOut sumOut premiumO
 slice-causes =
     record { money = refl; moneyNone = refl; moneyScheme = refl; sheet = refl; sheetYear = refl; sheetNone = refl; size = refl; table = refl; tableNone = refl }
 
--- the number and the figures of each answer
+-- The number and the figures of each answer.
 pub answer-parts : (numberOf (Answered 3 5) ≡ 0) × (lowOf (Answered 3 5) ≡ 3) × (highOf (Answered 3 5) ≡ 5) × (numberOf (Refused 12) ≡ 12) × (lowOf (Refused 12) ≡ 0) × (highOf (Refused 12) ≡ 0)
 answer-parts = (refl, refl, refl, refl, refl, refl)

@@ -3,26 +3,26 @@ use Prim.Native.Nat.{ℕ, suc, _+_, _*_}
 use Rattle.scheme.specs.declared.Scheme.{Scheme}
 use Rattle.scheme.specs.Cause.{causeOf, orElse, classCause, yearCause, slicesCause}
 
--- of the share of a class: causes 3, 5 to 10, 11, then 12
+-- Of the share of a class: causes 3, 5 to 10, 11, then 12.
 abbrev pub shareCause : Scheme → ℕ → ℕ → ℕ
 shareCause s class year = orElse (causeOf s) (orElse (classCause s class) (yearCause s year))
 
--- of money: causes 3, 5 to 10, then 12
+-- Of money: causes 3, 5 to 10, then 12.
 abbrev pub moneyCause : Scheme → ℕ → ℕ
 moneyCause s year = orElse (causeOf s) (yearCause s year)
 
--- of a share sheet into slices of two lengths: causes 3, 5 to 10, 12, then 13
+-- Of a share sheet into slices of two lengths: causes 3, 5 to 10, 12, then 13.
 abbrev pub sheetLengthsCause : Scheme → (year low high : ℕ) → ℕ
 sheetLengthsCause s year low high = orElse (moneyCause s year) (slicesCause (s .classes) low high)
 
--- the place of the total in the table of all figures, after the shares and the mean of every year
+-- The place of the total in the table of all figures, after the shares and the mean of every year.
 abbrev pub totalPlace : Scheme → ℕ
 totalPlace s = suc (s .horizon) * suc (s .classes)
 
--- how many numbers the table has
+-- How many numbers the table has.
 abbrev pub tableSize : Scheme → ℕ
 tableSize s = totalPlace s + 1
 
--- of the table into slices of two lengths: causes 3, 5 to 10, then 13
+-- Of the table into slices of two lengths: causes 3, 5 to 10, then 13.
 abbrev pub tableLengthsCause : Scheme → (low high : ℕ) → ℕ
 tableLengthsCause s low high = orElse (causeOf s) (slicesCause (tableSize s) low high)

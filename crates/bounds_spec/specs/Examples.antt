@@ -22,10 +22,11 @@ use Rattle.scheme.specs.Laws.Cause.{answered, second-cause, cond-false, inside-
 use Rattle.scheme.specs.Laws.Judged.{cause-accepted}
 use Rattle.scheme.specs.Laws.Sound.{accepted-sound}
 use Rattle.bounds_spec.specs.declared.Bounds.the-variants.{Answered, Refused}
-use Rattle.bounds_spec.specs.Answers.{startOf, shareCause, shareAnswer, moneyCause, meanAnswer, totalAnswer, figureShares, lowShares, highShares}
+use Rattle.bounds_spec.specs.Answers.{startOf, shareAnswer, meanAnswer, totalAnswer, figureShares, lowShares, highShares}
 use Rattle.bounds_spec.specs.Table.{tableEntry, figureTable, lowTable, highTable}
+use Rattle.bounds_spec.specs.Causes.{shareCause, moneyCause}
 
--- "Both classes 0→1, 1+→2; bands 333333333 and 666666667, each lower = upper; premiums 10, 11"
+-- "Both classes 0→1, 1+→2; bands 333333333 and 666666667, each lower = upper; premiums 10, 11".
 abbrev pub schemeThirds : Scheme
 schemeThirds =
     record {
@@ -39,12 +40,12 @@ schemeThirds =
       premiums = padded 30 (10 ∷ 11 ∷ []);
     }
 
--- whole units stay as they are
+-- Whole units stay as they are.
 rounded-units : (high : Bool) (x : ℕ) → rounded high (x * ONE) ≡ x
 rounded-units false x = omega arith
 rounded-units true x = omega arith
 
--- with one state the row is ONE, so a step changes nothing
+-- With one state the row is ONE, so a step changes nothing.
 one-step : (high : Bool) (r : IntervalRow) → SoundRow 1 r → (f : ℕ → ℕ) → stepFigure high 1 r f ≡ f 0
 unfolding stepFigure sumTo
 one-step high r sound f =
@@ -61,7 +62,7 @@ module _ (high : Bool) (c : SetChain) (sound : SoundChain c) (one : c .states �
   only-share zero = refl
   only-share (suc t) = omega (arith, only-step (shareFigure high c 0 t), only-share t)
 
--- a call for a class and a year that are there
+-- A call for a class and a year that are there.
 no-year-cause : (s : Scheme) (t : ℕ) → t ≤ s .horizon → yearCause s t ≡ 0
 no-year-cause s t h = simp (le-ltb (s .horizon) t h)
 
@@ -89,25 +90,25 @@ horizon-zero s ok none =
     answered (moneyCause s 0) (Answered 0 0) (Refused (moneyCause s 0))
     (second-cause (causeOf s) (yearCause s 0) (cause-accepted s ok) ∙ no-year-cause s 0 (omega arith))
 
--- the examples of document 01, "Sheet program and examples", that are marked (m)
+-- The examples of document 01, "Sheet program and examples", that are marked (m).
 pub record DocumentExamples : Type 0 where
-  -- "A, class 1 row … Class 2"
+  -- "A, class 1 row … Class 2".
   pub rows : RowsA
-  -- "A, year 1 and year 2 shares"
+  -- "A, year 1 and year 2 shares".
   pub year1Class1 : shareAnswer schemeA 1 1 ≡ Answered 800000000 900000000
   pub year1Class2 : shareAnswer schemeA 2 1 ≡ Answered 100000000 200000000
   pub year2Class1 : shareAnswer schemeA 1 2 ≡ Answered 920000000 990000000
   pub year2Class2 : shareAnswer schemeA 2 2 ≡ Answered 10000000 80000000
-  -- "A, year 2 mean"; "A, total"
+  -- "A, year 2 mean"; "A, total".
   pub year2Mean : meanAnswer schemeA 2 ≡ Answered 10050 10400
   pub total : totalAnswer schemeA 2 ≡ Answered 25500 26000
-  -- "payoff 30 10 20: low 15, high 23 … Lower all 0: low 14, high 24"
+  -- "payoff 30 10 20: low 15, high 23 … Lower all 0: low 14, high 24".
   pub steps : StepExamples
   -- "One class: share ONE in each year."
   pub oneClass : (s : Scheme) → Accepted s → s .classes ≡ 1 → (t : ℕ) → t ≤ s .horizon → shareAnswer s 1 t ≡ Answered ONE ONE
   -- "Horizon 0: total 0 and 0."
   pub horizonZero : (s : Scheme) → Accepted s → s .horizon ≡ 0 → totalAnswer s 0 ≡ Answered 0 0
-  -- "year 1 mean 10 to 11"
+  -- "year 1 mean 10 to 11".
   pub thirds : meanAnswer schemeThirds 1 ≡ Answered 10 11
 
 pub document-examples : DocumentExamples
@@ -127,7 +128,7 @@ document-examples =
       thirds = refl;
     }
 
--- Example A's share sheet of year 1, and all figures of its sheet: "YEAR 0 …" to "TOTAL 25500 26000"
+-- Example A's share sheet of year 1, and all figures of its sheet: "YEAR 0 …" to "TOTAL 25500 26000".
 pub record SheetsA : Type 0 where
   pub lowShares1 : lowShares schemeA 1 ≡ 800000000 ∷ 100000000 ∷ []
   pub highShares1 : highShares schemeA 1 ≡ 900000000 ∷ 200000000 ∷ []

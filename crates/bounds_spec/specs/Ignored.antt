@@ -18,7 +18,7 @@ use Rattle.bounds_spec.specs.Answers.{answerBy, startOf, shareAnswer, me
 use Rattle.bounds_spec.specs.Table.{figureTable, lowTable, highTable, tableCause}
 use Rattle.bounds_spec.specs.Laws.Alike as alike
 
--- every answer for one scheme is that for the other, and the slices hold the same afterwards
+-- Every answer for one scheme is that for the other, and the slices hold the same afterwards.
 pub record SameAnswers (s s′ : Scheme) : Type 0 where
   pub shareNumber : (class year : ℕ) → shareCause s class year ≡ shareCause s′ class year
   pub moneyNumber : (year : ℕ) → moneyCause s year ≡ moneyCause s′ year
@@ -34,12 +34,12 @@ pub record SameAnswers (s s′ : Scheme) : Type 0 where
   pub lows : (low high : List ℕ) → sheetSlice (tableCause s low high) (lowTable s) low ≡ sheetSlice (tableCause s′ low high) (lowTable s′) low
   pub highs : (low high : List ℕ) → sheetSlice (tableCause s low high) (highTable s) high ≡ sheetSlice (tableCause s′ low high) (highTable s′) high
 
--- low and high by their cause
+-- Low and high by their cause.
 answer-same : {n n′ low low′ high high′ : ℕ} → n ≡ n′ → (n ≡ 0 → low ≡ low′) → (n ≡ 0 → high ≡ high′) → answerBy n low high ≡ answerBy n′ low′ high′
 answer-same e low high = by-cause e (λ z. ap₂ Answered (low z) (high z)) (ap Refused e)
 
 module _ {s s′ : Scheme} (w : Alike s s′) where
-  -- one figure of each answer, low or high
+  -- One figure of each answer, low or high.
   share-figure : (high : Bool) (class year : ℕ) → shareCause s class year ≡ 0
       → shareFigure high (chainOf s) (class - 1) year (startOf s) ≡ shareFigure high (chainOf s′) (class - 1) year (startOf s′)
   share-figure high class year z = let none = alike.of-share w class year z in alike.share-same (alike.values w none) none high year (class - 1)
@@ -52,7 +52,7 @@ module _ {s s′ : Scheme} (w : Alike s s′) where
       → totalFigure high (chainOf s) (premiumAt s) year (startOf s) ≡ totalFigure high (chainOf s′) (premiumAt s′) year (startOf s′)
   total-figure high year z = let none = alike.of-money w year z in alike.total-same (alike.values w none) none high year
 
-  -- one slice of a share sheet, and of all figures
+  -- One slice of a share sheet, and of all figures.
   sheet-slice : (side : Bool) (year : ℕ) (low high before : List ℕ)
       → sheetSlice (sheetCause s year low high) (figureShares side s year) before ≡ sheetSlice (sheetCause s′ year low high) (figureShares side s′ year) before
   unfolding sheetCause
@@ -86,10 +86,10 @@ module _ {s s′ : Scheme} (w : Alike s s′) where
         highs = λ low high. table-slice true low high high;
       }
 
--- schemes with the same values have the same answers, declined or not
+-- Schemes with the same values have the same answers, declined or not.
 pub same-answers : {s s′ : Scheme} → SameValues s s′ → SameAnswers s s′
 same-answers v = alike-answers (same v)
 
--- "Values stored beyond s or m are ignored": every scheme, accepted or not, has the same answers as with 0 for them
+-- "Values stored beyond s or m are ignored": every scheme, accepted or not, has the same answers as with 0 for them.
 pub answers-ignored : (s : Scheme) → SameAnswers s (cleared s)
 answers-ignored s = alike-answers (cleared-alike s)

@@ -20,7 +20,7 @@ use Rattle.bounds_spec.specs.Laws.Pinned.{Pinned, pinned}
 sound : SoundChain (chainOf schemeA)
 sound = accepted-sound schemeA (accepted-cause schemeA (rows-a .accepted))
 
--- Example A's own figures keep their promises
+-- Example A's own figures keep their promises.
 share-a : Kept schemeA 2 (startShare schemeA 0) 920000000 990000000
 share-a = rw (document-examples .year2Class1) at (share-kept schemeA 1 2) refl
 
@@ -30,7 +30,7 @@ mean-a = rw (document-examples .year2Mean) at (mean-kept schemeA 2) refl
 total-a : Kept schemeA 2 (startTotal schemeA) 25500 26000
 total-a = rw (document-examples .total) at (total-kept schemeA 2) refl
 
--- so what else keeps them is no further than 2 from these
+-- So what else keeps them is no further than 2 from these.
 share-pinned : {low high : ℕ} → Kept schemeA 2 (startShare schemeA 0) low high → Pinned 2 920000000 990000000 low high
 share-pinned = pinned (λ ps picks. exact-proper (chainOf schemeA) sound (premiumAt schemeA) 0 2 ps picks 1 (omega arith) .0) share-a
 
@@ -40,21 +40,21 @@ mean-pinned = pinned (λ ps picks. exact-proper (chainOf schemeA) sound (premium
 total-pinned : {low high : ℕ} → Kept schemeA 2 (startTotal schemeA) low high → Pinned 2 25500 26000 low high
 total-pinned = pinned (λ ps picks. exact-proper (chainOf schemeA) sound (premiumAt schemeA) 0 2 ps picks 1 (omega arith) .2) total-a
 
--- the share of class 1 and of class 2 after 2 years, the mean and the total: what may not be answered
+-- The share of class 1 and of class 2 after 2 years, the mean and the total: what may not be answered.
 pub record Forbidden : Type 0 where
-  -- "always 0 and ONE for a share", low and high each by itself: shut out by closeness
+  -- "always 0 and ONE for a share", low and high each by itself: shut out by closeness.
   pub zero : SharePromise schemeA 1 2 (Answered 0 990000000) → ⊥
   pub one : SharePromise schemeA 1 2 (Answered 920000000 ONE) → ⊥
-  -- 3 parts too wide, and 3 parts too tight
+  -- 3 parts too wide, and 3 parts too tight.
   pub lowWide : SharePromise schemeA 1 2 (Answered 919999997 990000000) → ⊥
   pub highWide : SharePromise schemeA 1 2 (Answered 920000000 990000003) → ⊥
   pub lowTight : SharePromise schemeA 1 2 (Answered 920000003 990000000) → ⊥
   pub highTight : SharePromise schemeA 1 2 (Answered 920000000 989999997) → ⊥
-  -- "year 1 worked, then repeated each year"
+  -- "year 1 worked, then repeated each year".
   pub repeated : SharePromise schemeA 1 2 (Answered 800000000 900000000) → ⊥
-  -- in a share sheet, the figures of class 2 at class 1
+  -- In a share sheet, the figures of class 2 at class 1.
   pub sheet : SheetPromise schemeA 2 0 (10000000 ∷ 10000000 ∷ []) (80000000 ∷ 80000000 ∷ []) → ⊥
-  -- the lowest and the highest premium for the mean, and twice each for the total
+  -- The lowest and the highest premium for the mean, and twice each for the total.
   pub meanLow : MeanPromise schemeA 2 (Answered 10000 10400) → ⊥
   pub meanHigh : MeanPromise schemeA 2 (Answered 10050 15000) → ⊥
   pub totalLow : TotalPromise schemeA 2 (Answered 20000 26000) → ⊥
@@ -77,7 +77,7 @@ forbidden =
       totalHigh = λ h. omega (arith, total-pinned (h refl) .highAbove);
     }
 
--- Example A's table with one number of the low figures changed: a share of year 2, its mean, or the total
+-- Example A's table with one number of the low figures changed: a share of year 2, its mean, or the total.
 pub record ForbiddenTables : Type 0 where
   pub share : TableKept schemeA (0 ∷ 1000000000 ∷ 15000 ∷ 800000000 ∷ 100000000 ∷ 10500 ∷ 0 ∷ 10000000 ∷ 10050 ∷ 25500 ∷ []) (highTable schemeA) → ⊥
   pub mean : TableKept schemeA (0 ∷ 1000000000 ∷ 15000 ∷ 800000000 ∷ 100000000 ∷ 10500 ∷ 920000000 ∷ 10000000 ∷ 10000 ∷ 25500 ∷ []) (highTable schemeA) → ⊥

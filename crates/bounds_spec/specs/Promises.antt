@@ -11,58 +11,59 @@ use Rattle.scheme.specs.Access.{premiumAt}
 use Rattle.scheme.specs.Rows.{chainOf}
 use Rattle.bounds_spec.specs.declared.Bounds.{Bounds}
 use Rattle.bounds_spec.specs.Answers.{numberOf, lowOf, highOf, startOf}
-use Rattle.bounds_spec.specs.Table.{placeOf, totalPlace}
+use Rattle.bounds_spec.specs.Table.{placeOf}
+use Rattle.bounds_spec.specs.Causes.{totalPlace}
 
--- some picks for t years bring the exact figure no further than t from the bound
+-- Some picks for t years bring the exact figure no further than t from the bound.
 pub record SomeNear (s : Scheme) (t bound : ℕ) (exact : List Matrix → Fraction) : Type 0 where
   pub picks : List Matrix
   pub made : PicksFor (chainOf s) t picks
   pub near : Near t bound (exact picks)
 
--- "For all picks for t years, low ≤ exact … ≤ high"; "For each such low, and for each such high, some picks for t years bring the exact figure, in the same unit, no further than t from it"
+-- "For all picks for t years, low ≤ exact … ≤ high"; "For each such low, and for each such high, some picks for t years bring the exact figure, in the same unit, no further than t from it".
 pub record Kept (s : Scheme) (t : ℕ) (exact : List Matrix → Fraction) (low high : ℕ) : Type 0 where
   pub contains : (ps : List Matrix) → PicksFor (chainOf s) t ps → Between low high (exact ps)
   pub lowClose : SomeNear s t low exact
   pub highClose : SomeNear s t high exact
 
--- the exact share of state j, in parts, seen from the start class
+-- The exact share of state j, in parts, seen from the start class.
 abbrev pub startShare : Scheme → ℕ → List Matrix → Fraction
 startShare s j ps = shareInParts (s .classes) j ps (startOf s)
 
--- the exact mean premium, in cents
+-- The exact mean premium, in cents.
 abbrev pub startMean : Scheme → List Matrix → Fraction
 startMean s ps = exactMean (s .classes) (premiumAt s) ps (startOf s)
 
--- the exact total of premiums, in cents
+-- The exact total of premiums, in cents.
 abbrev pub startTotal : Scheme → List Matrix → Fraction
 startTotal s ps = exactTotal (s .classes) (premiumAt s) ps (startOf s)
 
--- of the low and high answered for the share of a class
+-- Of the low and high answered for the share of a class.
 abbrev pub SharePromise : Scheme → ℕ → ℕ → Bounds → Type 0
 SharePromise s class year r = numberOf r ≡ 0 → Kept s year (startShare s (class - 1)) (lowOf r) (highOf r)
 
--- of the low and high answered for the mean premium of a year
+-- Of the low and high answered for the mean premium of a year.
 abbrev pub MeanPromise : Scheme → ℕ → Bounds → Type 0
 MeanPromise s year r = numberOf r ≡ 0 → Kept s year (startMean s) (lowOf r) (highOf r)
 
--- of the low and high answered for the total of a year's number of premiums
+-- Of the low and high answered for the total of a year's number of premiums.
 abbrev pub TotalPromise : Scheme → ℕ → Bounds → Type 0
 TotalPromise s year r = numberOf r ≡ 0 → Kept s year (startTotal s) (lowOf r) (highOf r)
 
--- of the numbers in the two slices of a share sheet, for each class
+-- Of the numbers in the two slices of a share sheet, for each class.
 abbrev pub SheetPromise : Scheme → ℕ → ℕ → List ℕ → List ℕ → Type 0
 SheetPromise s year number low high =
     number ≡ 0 → (j : ℕ) → j < s .classes → Kept s year (startShare s j) (getD low j 0) (getD high j 0)
 
--- "For all picks for t years" and "some picks for t years", for each number of a table's low and high lists
+-- "For all picks for t years" and "some picks for t years", for each number of a table's low and high lists.
 pub record TableKept (s : Scheme) (low high : List ℕ) : Type 0 where
-  -- the share of each class in each year
+  -- The share of each class in each year.
   pub shares : (t j : ℕ) → t ≤ s .horizon → j < s .classes → Kept s t (startShare s j) (getD low (placeOf s t j) 0) (getD high (placeOf s t j) 0)
-  -- the mean premium of each year
+  -- The mean premium of each year.
   pub means : (t : ℕ) → t ≤ s .horizon → Kept s t (startMean s) (getD low (placeOf s t (s .classes)) 0) (getD high (placeOf s t (s .classes)) 0)
-  -- the total of the horizon's premiums
+  -- The total of the horizon's premiums.
   pub total : Kept s (s .horizon) (startTotal s) (getD low (totalPlace s) 0) (getD high (totalPlace s) 0)
 
--- of the numbers in the two slices of all figures
+-- Of the numbers in the two slices of all figures.
 abbrev pub FiguresPromise : Scheme → ℕ → List ℕ → List ℕ → Type 0
 FiguresPromise s number low high = number ≡ 0 → TableKept s low high

@@ -13,11 +13,11 @@ use Rattle.big_endian_spec.specs.Numbers.{partPut}
 use Rattle.big_endian_spec.specs.Laws.{part-held}
 use Rattle.console.specs.Input.{ReadInto}
 
--- nothing read
+-- Nothing read.
 pub read-none : (done : ℕ) (buffer : List ℕ) → ReadInto done buffer buffer 0
 read-none done buffer = record { size = refl; within = omega arith; front = refl; rest = refl }
 
--- a list laid behind the first `done` bytes
+-- A list laid behind the first `done` bytes.
 laid : (buffer : List ℕ) (done : ℕ) (text : List ℕ) → done + length text ≤ length buffer → ReadInto done buffer (sets buffer done text) (length text)
 laid buffer done text fits =
     let first : length (take done buffer) ≡ done = length-take-le done buffer (omega arith) in
@@ -29,7 +29,7 @@ laid buffer done text fits =
       rest = rw is (drop-at (take done buffer ++ text) (drop (done + length text) buffer) (done + length text) (omega (arith, length-append (take done buffer) text)));
     }
 
--- a chunk's first bytes copied there
+-- A chunk's first bytes copied there.
 pub read-copied : (buffer : List ℕ) (done : ℕ) (chunk : List ℕ) (count : ℕ) → done ≤ length buffer → count ≤ length buffer - done
     → ReadInto done buffer (partPut count chunk 0 buffer done) count
 unfolding partPut
@@ -40,7 +40,7 @@ read-copied buffer done chunk count inside fits = by (decLe count (length chunk)
         (rw (part-held count chunk 0 buffer done (omega arith) (omega arith)) (laid buffer done (take count chunk) (omega (arith, length-take-le count chunk held))))
     by (no out) = rw (lt-leb (0 + count) (length chunk) (omega arith)) (record { size = refl; within = fits; front = refl; rest = refl })
 
--- one read more, after `done` bytes from the front on
+-- One read more, after `done` bytes from the front on.
 pub read-more : {before buffer after : List ℕ} {done count sum : ℕ} → ReadInto 0 before buffer done → ReadInto done buffer after count → done + count ≡ sum → ReadInto 0 before after sum
 read-more {before} {buffer} {after} {done} {count} w v is =
     subst (ReadInto 0 before after) is

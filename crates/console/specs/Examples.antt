@@ -9,11 +9,11 @@ use Rattle.console.specs.Input.{ReadInto}
 use Rattle.console.specs.Records.{recordAt}
 use Rattle.console.specs.Checksum.{checksumFrom}
 
--- the buffer before
+-- The buffer before.
 abbrev before : List ℕ
 before = 7 ∷ 7 ∷ 7 ∷ 7 ∷ []
 
--- any two bytes behind the first; not a changed first, not a changed last, not more than fit, not another length
+-- Any two bytes behind the first; not a changed first, not a changed last, not more than fit, not another length.
 pub record ReadIntoExamples : Type 0 where
   pub two : (a b : ℕ) → ReadInto 1 before (7 ∷ a ∷ b ∷ 7 ∷ []) 2
   pub full : (a b c : ℕ) → ReadInto 1 before (7 ∷ a ∷ b ∷ c ∷ []) 3
@@ -33,7 +33,7 @@ read-into-examples =
       longer = λ h. omega (arith, h .size);
     }
 
--- the record behind its length, what the input has of a longer one, a length that is big-endian, and an input too short for a length
+-- The record behind its length, what the input has of a longer one, a length that is big-endian, and an input too short for a length.
 pub record RecordExamples : Type 0 where
   pub behind : recordAt (9 ∷ 0 ∷ 2 ∷ 5 ∷ 6 ∷ 7 ∷ []) 1 ≡ 5 ∷ 6 ∷ []
   pub cut : recordAt (0 ∷ 3 ∷ 5 ∷ []) 0 ≡ 5 ∷ []
@@ -44,7 +44,7 @@ pub record-examples : RecordExamples
 unfolding recordAt numberAt beAt
 record-examples = record { behind = refl; cut = refl; bigEndian = refl; short = refl }
 
--- no number, one, two, and numbers at the modulus
+-- No number, one, two, and numbers at the modulus.
 pub record ChecksumExamples : Type 0 where
   pub none : checksumFrom 0 [] ≡ 0
   pub one : checksumFrom 0 (7 ∷ []) ≡ 8

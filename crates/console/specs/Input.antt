@@ -4,7 +4,7 @@ use mathlib.Core.Path.{_≡_}
 use mathlib.Core.List.{List}
 use lib.ListN.{length, take, drop}
 
--- a buffer into which `count` bytes were read behind the first `done`: they fit, and all others are as they were
+-- A buffer into which `count` bytes were read behind the first `done`: they fit, and all others are as they were.
 pub record ReadInto (done : ℕ) (before after : List ℕ) (count : ℕ) : Type 0 where
   pub size : length after ≡ length before
   pub within : count ≤ length before - done

@@ -27,7 +27,7 @@ use Rattle.joguyvi_spec.specs.Laws.Buffers.{unfilled}
 use Rattle.joguyvi_spec.specs.Laws.Causes.{cause-first, cause-second, stopped-number, passed-number}
 use Rattle.joguyvi_spec.specs.Records.{recordNumber, lengthAlone, RecordPost, RewriteCall, ReadyCall}
 
--- a record written again
+-- A record written again.
 module _ (bytes out size : List ℕ) {a : ReadAnswer} (is : a ≡ readAnswer bytes) where
   pub rewrite-stopped : (a .number ≡ 0 → ⊥) → RewriteCall bytes out size (a .number) out size
   rewrite-stopped some =
@@ -39,7 +39,7 @@ module _ (bytes out size : List ℕ) {a : ReadAnswer} (is : a ≡ readAnswer byt
         counted = λ z. absurd (some z);
       }
 
-  -- the scheme in the bytes
+  -- The scheme in the bytes.
   abbrev s : Scheme
   s = schemeIn version1 bytes
 
@@ -47,7 +47,7 @@ module _ (bytes out size : List ℕ) {a : ReadAnswer} (is : a ≡ readAnswer byt
   unfolding schemeOf
   whole none = read-framed bytes (read-passed bytes is none) .whole
 
-  -- written with no cause
+  -- Written with no cause.
   clear : recordNumber s out size ≡ 0 → writeCause s out ≡ 0
   clear z = sym (answer-number s out) ∙ first-none (writeNumber (writeAnswer s out)) (bufferCause 1 size) z
 
@@ -75,7 +75,7 @@ module _ (bytes out size : List ℕ) {a : ReadAnswer} (is : a ≡ readAnswer byt
             ∙ ap (λ x. x ∷ []) (answer-value s out (clear (done z)) ∙ sym (whole none));
       }
 
--- a ready scheme as a record
+-- A ready scheme as a record.
 module _ (ready base : ℕ) (out size : List ℕ) {a : ReadyAnswer} (is : a ≡ readyAnswer ready base) where
   pub ready-stopped : (a .number ≡ 0 → ⊥) → ReadyCall ready base out size (a .number) out size
   ready-stopped some = record { answer = cause-first _ (ap (λ r. r .number) is) some; written = unfilled _ _ some; lengths = unfilled _ _ some }

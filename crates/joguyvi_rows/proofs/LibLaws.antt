@@ -25,7 +25,7 @@ use Rattle.joguyvi_spec.specs.Laws.Causes.{cause-only, cause-first, cause-secon
 use Rattle.joguyvi_spec.specs.Rows.{rowOfRecord, partNumber, ruleRowNumber, RowPost, PartPost, BandsPost, RowCall, RuleRowCall, BandsCall}
 use Rattle.joguyvi_rows.proofs.RowBuffersLaws.{eleven, part-empty, part-some}
 
--- an interval row
+-- An interval row.
 module _ (bytes : List ℕ) (class : ℕ) (lower upper : List ℕ) {a : ReadAnswer} (is : a ≡ readAnswer bytes) where
   pub row-stopped : (a .number ≡ 0 → ⊥) → RowCall bytes class lower upper (a .number) lower upper
   row-stopped some = record { answer = stopped-number bytes is _ some; lowers = unfilled _ _ some; uppers = unfilled _ _ some }
@@ -38,7 +38,7 @@ module _ (bytes : List ℕ) (class : ℕ) (lower upper : List ℕ) {a : ReadAnsw
       let found : RowPost (rowOfRecord bytes class) lower upper n lower′ upper′ = subst (λ r. RowPost r lower upper n lower′ upper′) same put in
       record { answer = passed-number bytes is none (found .answer); lowers = found .filled; uppers = found .otherFilled }
 
--- the bands of all columns
+-- The bands of all columns.
 module _ (bytes lower upper : List ℕ) {a : ReadAnswer} (is : a ≡ readAnswer bytes) where
   pub bands-stopped : (a .number ≡ 0 → ⊥) → BandsCall bytes lower upper (a .number) lower upper
   bands-stopped some = record { answer = stopped-number bytes is _ some; lowers = unfilled _ _ some; uppers = unfilled _ _ some }
@@ -49,7 +49,7 @@ module _ (bytes lower upper : List ℕ) {a : ReadAnswer} (is : a ≡ readAnswer 
       let found : BandsPost (schemeIn version1 bytes) lower upper n lower′ upper′ = subst (λ s. BandsPost s lower upper n lower′ upper′) (read-in bytes is none) put in
       record { answer = passed-number bytes is none (found .answer); lowers = found .filled; uppers = found .otherFilled }
 
--- a rule row that is shown has a byte for each column
+-- A rule row that is shown has a byte for each column.
 module _ (bytes : List ℕ) (class : ℕ) (out : List ℕ) where
   abbrev place : ℕ
   place = rowPlace version1 (columnsIn bytes) (class - 1)
@@ -60,7 +60,7 @@ module _ (bytes : List ℕ) (class : ℕ) (out : List ℕ) where
       let enough : columnsIn bytes ≤ length (drop place bytes) = rw (length-drop place bytes) (omega (arith, row-within bytes class none)) in
       ap length (answered (ruleRowCause bytes class) (take (columnsIn bytes) (drop place bytes)) _ none) ∙ length-take-le (columnsIn bytes) (drop place bytes) enough
 
-  -- of bytes that are read: an empty row tells cause 11
+  -- Of bytes that are read: an empty row tells cause 11.
   same-number : readCause bytes ≡ 0 → Dec (ruleRowCause bytes class ≡ 0) → partNumber (ruleRow bytes class) out ≡ ruleRowNumber bytes class out
   unfolding ruleRow
   same-number read (yes none) =

@@ -20,7 +20,7 @@ use Rattle.joguyvi_spec.specs.Rows.{partNumber, PartPost}
 pub eleven : _≡_ {A = ℕ} 11 0 → ⊥
 eleven e = omega arith
 
--- an empty part, a buffer of another length, and one that fits
+-- An empty part, a buffer of another length, and one that fits.
 module _ (part out : List ℕ) where
   abbrev empty : ℕ
   empty = cond (eqb (length part) 0) 11 0
@@ -34,7 +34,7 @@ module _ (part out : List ℕ) where
   pub part-out : (length part ≡ 0 → ⊥) → (length out ≡ length part → ⊥) → PartPost part out 13 out
   part-out h wrong = record { answer = sym (part-some h ∙ buffer-out (length part) out wrong); filled = unfilled part out thirteen }
 
-  -- as many bytes laid from the front are all that the buffer then holds
+  -- As many bytes laid from the front are all that the buffer then holds.
   whole : length out ≡ length part → sets out 0 (take (length part) part) ≡ part
   whole fits =
       ap (sets out 0) (take-length part)

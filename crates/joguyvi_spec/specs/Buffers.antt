@@ -7,24 +7,24 @@ use lib.Dec.{eqb}
 use lib.ListN.{length}
 use Rattle.scheme.specs.Cause.{sliceCause, slicesCause}
 
--- cause 13: a buffer that is not of so many numbers
+-- Cause 13: a buffer that is not of so many numbers.
 abbrev pub bufferCause : ℕ → List ℕ → ℕ
 bufferCause size out = sliceCause size (length out)
 
--- cause 13 of two buffers of the same size
+-- Cause 13 of two buffers of the same size.
 abbrev pub buffersCause : ℕ → (one other : List ℕ) → ℕ
 buffersCause size one other = slicesCause size (length one) (length other)
 
--- a buffer after a call that answers `number`: filled where it is 0, and left as it was otherwise
+-- A buffer after a call that answers `number`: filled where it is 0, and left as it was otherwise.
 abbrev pub filledWhere : (number : ℕ) (full before : List ℕ) → List ℕ
 filledWhere number full before = cond (eqb number 0) full before
 
--- what a call answers and leaves that fills one buffer
+-- What a call answers and leaves that fills one buffer.
 pub record BufferPost (cause : ℕ) (full before : List ℕ) (number : ℕ) (before′ : List ℕ) : Type 0 where
   pub answer : number ≡ cause
   pub filled : before′ ≡ filledWhere number full before
 
--- what a call answers and leaves that fills two buffers
+-- What a call answers and leaves that fills two buffers.
 pub record BuffersPost (cause : ℕ) (full otherFull one other : List ℕ) (number : ℕ) (one′ other′ : List ℕ) : Type 0 where
   pub answer : number ≡ cause
   pub filled : one′ ≡ filledWhere number full one

@@ -43,12 +43,12 @@ use Rattle.joguyvi_spec.specs.Steps.{payoffRead, StepCall}
 use Rattle.joguyvi_spec.specs.Examples.{one, two, three, long, inA, after-a}
 use Rattle.joguyvi_spec.specs.Laws.Figures.{RecordBoundsPost, share-call, mean-call, total-call}
 
--- the number of Example A's record and of no bytes, and not another
+-- The number of Example A's record and of no bytes, and not another.
 pub check-calls : CheckCall exampleA 0 × CheckCall [] 1 × ¬ CheckCall [] 0
 unfolding frameCause
 check-calls = (record { answer = sym read-a }, record { answer = refl }, λ w. omega (arith, w .answer))
 
--- Example A's class 2: its lower and upper entries, each in its own buffer; where the record is declined, neither
+-- Example A's class 2: its lower and upper entries, each in its own buffer; where the record is declined, neither.
 abbrev lowers : List ℕ
 lowers = padded 30 (800000000 ∷ 100000000 ∷ [])
 
@@ -68,7 +68,7 @@ row-calls = (
   λ w. omega (arith, w .answer),
 )
 
--- the rule row of class 2, 1 2 2, and not that of class 1; class 3 leaves the buffer as it was
+-- The rule row of class 2, 1 2 2, and not that of class 1; class 3 leaves the buffer as it was.
 pub rule-row-calls :
     RuleRowCall exampleA 2 three 0 (1 ∷ 2 ∷ 2 ∷ []) × ¬ RuleRowCall exampleA 2 three 0 (1 ∷ 1 ∷ 2 ∷ []) × RuleRowCall exampleA 3 two 11 two
     × ¬ RuleRowCall exampleA 3 two 13 two
@@ -80,7 +80,7 @@ rule-row-calls = (
   λ w. omega (arith, w .answer),
 )
 
--- the bands of the three columns: their lower and upper ends, each in its own buffer
+-- The bands of the three columns: their lower and upper ends, each in its own buffer.
 abbrev lowerEnds : List ℕ
 lowerEnds = 800000000 ∷ 100000000 ∷ 0 ∷ []
 
@@ -99,7 +99,7 @@ bands-calls = (
   λ w. omega (arith, w .answer),
 )
 
--- Example A's record written again into 47 bytes: the two past it stay, and they may not change; the length is 45, and what is not read is not written
+-- Example A's record written again into 47 bytes: the two past it stay, and they may not change; the length is 45, and what is not read is not written.
 pub rewrite-calls :
     RewriteCall exampleA (replicate 47 9) one 0 (exampleA ++ (9 ∷ 9 ∷ [])) (45 ∷ [])
     × ¬ RewriteCall exampleA (replicate 47 9) one 0 (exampleA ++ (9 ∷ 8 ∷ [])) (45 ∷ [])
@@ -119,7 +119,7 @@ rewrite-calls = (
   λ w. omega (arith, w .answer),
 )
 
--- ready scheme 1 on base 100 is a record of 209 bytes, the first of them 1; there is no ready scheme 4
+-- Ready scheme 1 on base 100 is a record of 209 bytes, the first of them 1; there is no ready scheme 4.
 pub ready-calls :
     ReadyCall 1 100 (replicate 211 9) one 0 (writeLeaves (readyScheme 1 100) (replicate 211 9)) (209 ∷ [])
     × ¬ ReadyCall 1 100 (replicate 211 9) one 0 (replicate 211 9) (209 ∷ [])
@@ -135,7 +135,7 @@ ready-calls = (
   λ w. omega (arith, w .answer),
 )
 
--- the sheet of no bytes, "REFUSED 1" with the end of the line, in 11 bytes
+-- The sheet of no bytes, "REFUSED 1" with the end of the line, in 11 bytes.
 abbrev refusedOne : List ℕ
 refusedOne = 82 ∷ 69 ∷ 70 ∷ 85 ∷ 83 ∷ 69 ∷ 68 ∷ 32 ∷ 49 ∷ 10 ∷ 0 ∷ []
 
@@ -151,12 +151,12 @@ sheet-calls = (
   λ w. omega (arith, w .answer),
 )
 
--- low and high of Example A's record in a buffer of 2 numbers, from those of its scheme
+-- Low and high of Example A's record in a buffer of 2 numbers, from those of its scheme.
 put-a : (query : Scheme → Bounds) {low high : ℕ} → query inA ≡ Answered low high → RecordBoundsPost query exampleA two 0 (low ∷ high ∷ [])
 unfolding putNumber
 put-a query e = record { answer = sym (after-a _ ∙ ap (λ b. putNumber b two) e); filled = sym (ap lowAndHigh e) }
 
--- class 1's share in year 2: low, then high, and no wider; where the record is declined the buffer is left as it was
+-- Class 1's share in year 2: low, then high, and no wider; where the record is declined the buffer is left as it was.
 pub share-calls :
     ShareCall exampleA 1 2 two 0 (920000000 ∷ 990000000 ∷ []) × ¬ ShareCall exampleA 1 2 two 0 (919999997 ∷ 990000000 ∷ [])
     × ShareCall [] 1 2 two 1 two × ¬ ShareCall [] 1 2 two 1 (920000000 ∷ 990000000 ∷ []) × ¬ ShareCall [] 1 2 two 0 two
@@ -169,21 +169,21 @@ share-calls = (
   λ w. omega (arith, w .answer),
 )
 
--- the mean premium of year 2, and not the lowest premium for its low
+-- The mean premium of year 2, and not the lowest premium for its low.
 pub mean-calls : MeanCall exampleA 2 two 0 (10050 ∷ 10400 ∷ []) × ¬ MeanCall exampleA 2 two 0 (10000 ∷ 10400 ∷ [])
 mean-calls = (
   mean-call exampleA 2 two (put-a (λ s. meanAnswer s 2) (ap (λ s. meanAnswer s 2) scheme-a ∙ document-examples .year2Mean)),
   λ w. forbidden .meanLow (λ z. subst (λ s. Kept s 2 (startMean s) 10000 10400) scheme-a (w .promise refl)),
 )
 
--- the total of two premiums, and not twice the lowest premium for its low
+-- The total of two premiums, and not twice the lowest premium for its low.
 pub total-calls : TotalCall exampleA 2 two 0 (25500 ∷ 26000 ∷ []) × ¬ TotalCall exampleA 2 two 0 (20000 ∷ 26000 ∷ [])
 total-calls = (
   total-call exampleA 2 two (put-a (λ s. totalAnswer s 2) (ap (λ s. totalAnswer s 2) scheme-a ∙ document-examples .total)),
   λ w. forbidden .totalLow (λ z. subst (λ s. Kept s 2 (startTotal s) 20000 26000) scheme-a (w .promise refl)),
 )
 
--- the shares of both classes in year 1, each low and each high in its own buffer; in year 2 not the figures of class 2 at class 1
+-- The shares of both classes in year 1, each low and each high in its own buffer; in year 2 not the figures of class 2 at class 1.
 lows-a : lowShares inA 1 ≡ 800000000 ∷ 100000000 ∷ []
 lows-a = ap (λ s. lowShares s 1) scheme-a ∙ sheets-a .lowShares1
 
@@ -207,14 +207,14 @@ share-sheet-calls = (
   λ w. omega (arith, w .answer),
 )
 
--- a payoff of 32 numbers, 30 in class 1 and 10 in class 2, and the row that reaches the low figure of class 2
+-- A payoff of 32 numbers, 30 in class 1 and 10 in class 2, and the row that reaches the low figure of class 2.
 abbrev thirtyTen : List ℕ
 thirtyTen = padded 30 (30 ∷ 10 ∷ [])
 
 abbrev fourFifths : List ℕ
 fourFifths = padded 30 (800000000 ∷ 200000000 ∷ [])
 
--- the low figure 26 and that row; not another figure, no part beyond s, no shorter row, no other row, not the high figure
+-- The low figure 26 and that row; not another figure, no part beyond s, no shorter row, no other row, not the high figure.
 pub step-calls :
     StepCall false exampleA thirtyTen 2 one long 0 (26 ∷ []) fourFifths
     × ¬ StepCall false exampleA thirtyTen 2 one long 0 (28 ∷ []) fourFifths

@@ -38,7 +38,7 @@ use Rattle.joguyvi_spec.specs.Rows.{putRowNumber, rowOfRecord, rowNumber
 use Rattle.joguyvi_spec.specs.Records.{checkNumber, lengthAlone, rewriteNumber, readyNumber}
 use Rattle.joguyvi_spec.specs.Steps.{payoffRead, stepBuffers, stepNumber, figureOf}
 
--- buffers of one, two, three, 32 and 33 numbers
+-- Buffers of one, two, three, 32 and 33 numbers.
 abbrev pub one : List ℕ
 one = 7 ∷ []
 
@@ -54,82 +54,82 @@ long = replicate 32 7
 abbrev pub longer : List ℕ
 longer = replicate 33 7
 
--- the scheme in Example A's record
+-- The scheme in Example A's record.
 abbrev pub inA : Scheme
 inA = schemeIn version1 exampleA
 
--- the record of one class and one column that starts in class 2, with 0 after its header
+-- The record of one class and one column that starts in class 2, with 0 after its header.
 abbrev startsInTwo : List ℕ
 startsInTwo = padded 13 (1 ∷ 0 ∷ 20 ∷ 1 ∷ 1 ∷ 2 ∷ 0 ∷ [])
 
--- Example A's record is read, no bytes are cause 1, and a start that is no class is cause 5
+-- Example A's record is read, no bytes are cause 1, and a start that is no class is cause 5.
 pub checks : (checkNumber exampleA ≡ 0) × (checkNumber [] ≡ 1) × (checkNumber startsInTwo ≡ 5)
 unfolding frameCause beAt schemeOf upTo tab causeWhere sizeOut startOut horizonOut ruleOut bandOut sumOut premiumOut anyBelow sumTo
 checks = (read-a, refl, refl)
 
--- class 1's share in year 2 of Example A
+-- Class 1's share in year 2 of Example A.
 abbrev pub shareA : Bounds
 shareA = Answered 920000000 990000000
 
--- low, then high; a buffer of two numbers fits, and one of three is cause 13, after the cause of the query
+-- Low, then high; a buffer of two numbers fits, and one of three is cause 13, after the cause of the query.
 pub low-and-high : (lowAndHigh shareA ≡ 920000000 ∷ 990000000 ∷ []) × (putNumber shareA two ≡ 0) × (putNumber shareA three ≡ 13) × (putNumber (Refused 11) three ≡ 11)
 unfolding putNumber
 low-and-high = (refl, refl, refl, refl)
 
--- Example A's record is read, so what comes after the cause of reading counts
+-- Example A's record is read, so what comes after the cause of reading counts.
 pub after-a : (n : ℕ) → orElse (readCause exampleA) n ≡ n
 after-a n = second-cause (readCause exampleA) n read-a
 
--- a record is declined before the buffer for its low and high
+-- A record is declined before the buffer for its low and high.
 pub low-and-high-a : (boundsNumber [] shareA three ≡ 1) × (boundsNumber exampleA shareA two ≡ 0)
 unfolding putNumber frameCause
 low-and-high-a = (refl, after-a _)
 
--- a share sheet takes two buffers of s numbers; a record is declined before the year
+-- A share sheet takes two buffers of s numbers; a record is declined before the year.
 pub share-sheets : (sharesNumber [] 3 two three ≡ 1) × (sharesNumber exampleA 2 two two ≡ 0) × (sharesNumber exampleA 2 two three ≡ 13) × (sharesNumber exampleA 2 three two ≡ 13)
 unfolding sheetCause frameCause beAt schemeOf upTo tab causeWhere sizeOut startOut horizonOut ruleOut bandOut sumOut premiumOut anyBelow sumTo
 share-sheets = (refl, after-a _, after-a _, after-a _)
 
--- the sheet of no bytes, "REFUSED 1", takes 11 bytes of space and a buffer of one number for its length, 10 with the end of the line
+-- The sheet of no bytes, "REFUSED 1", takes 11 bytes of space and a buffer of one number for its length, 10 with the end of the line.
 pub sheets :
     (sheetNumber [] (replicate 11 0) one ≡ 0) × (sheetNumber [] (replicate 10 0) one ≡ 13) × (sheetNumber [] (replicate 11 0) two ≡ 13)
     × (sheetLength [] (replicate 11 0) ≡ 10 ∷ [])
 unfolding sheetAnswer spaceFor sheetText refusedLine digitsWithin frameCause
 sheets = (refl, refl, refl, refl)
 
--- a row's answer by its number
+-- A row's answer by its number.
 abbrev rowWith : (number : ℕ) → RowAnswer
 rowWith number = record { number = number; lower = long; upper = long }
 
--- a row takes two buffers of 32 numbers, after its own cause
+-- A row takes two buffers of 32 numbers, after its own cause.
 pub row-buffers :
     (putRowNumber (rowWith 0) long long ≡ 0) × (putRowNumber (rowWith 0) long longer ≡ 13) × (putRowNumber (rowWith 0) longer long ≡ 13) × (putRowNumber (rowWith 11) longer long ≡ 11)
 row-buffers = (refl, refl, refl, refl)
 
--- Example A, "Class 2: lower 800000000, 100000000; upper 900000000, 250000000."; a record is declined before the class
+-- Example A, "Class 2: lower 800000000, 100000000; upper 900000000, 250000000."; a record is declined before the class.
 pub row-a :
     (rowNumber [] 3 long long ≡ 1) × (rowNumber exampleA 2 long longer ≡ 13) × (rowNumber exampleA 2 longer long ≡ 13)
     × (rowOfRecord exampleA 2 ≡ answerOf (800000000 ∷ 100000000 ∷ []) (900000000 ∷ 250000000 ∷ []))
 unfolding rowAt onlyIf frameCause beAt schemeOf upTo tab causeWhere sizeOut startOut horizonOut ruleOut bandOut sumOut premiumOut anyBelow sumTo
 row-a = (refl, after-a _, after-a _, refl)
 
--- a rule row takes m bytes; a class that there is not is declined before the buffer
+-- A rule row takes m bytes; a class that there is not is declined before the buffer.
 pub rule-row-a : (ruleRowNumber exampleA 2 three ≡ 0) × (ruleRowNumber exampleA 3 two ≡ 11)
 unfolding frameCause beAt schemeOf upTo tab causeWhere sizeOut startOut horizonOut ruleOut bandOut sumOut premiumOut anyBelow sumTo
 rule-row-a = (refl, refl)
 
--- an empty part is cause 11, a part of two bytes fills a buffer of two, and one of three is cause 13
+-- An empty part is cause 11, a part of two bytes fills a buffer of two, and one of three is cause 13.
 pub parts : (partNumber [] three ≡ 11) × (partNumber (1 ∷ 2 ∷ []) two ≡ 0) × (partNumber (1 ∷ 2 ∷ []) three ≡ 13)
 parts = (refl, refl, refl)
 
--- the bands take two buffers of m numbers; a record is declined before the buffers
+-- The bands take two buffers of m numbers; a record is declined before the buffers.
 pub bands-a :
     (bandsNumber [] three two ≡ 1) × (bandsNumber exampleA three three ≡ 0) × (bandsNumber exampleA three two ≡ 13) × (bandsNumber exampleA two three ≡ 13)
     × (lowerBands inA ≡ 800000000 ∷ 100000000 ∷ 0 ∷ []) × (upperBands inA ≡ 900000000 ∷ 200000000 ∷ 50000000 ∷ [])
 unfolding frameCause beAt schemeOf upTo tab
 bands-a = (refl, after-a _, after-a _, after-a _, refl, refl)
 
--- Example A's record takes 45 bytes and a buffer of one number for its length; what is read is declined before the buffers
+-- Example A's record takes 45 bytes and a buffer of one number for its length; what is read is declined before the buffers.
 pub rewriting-a :
     (rewriteNumber [] (replicate 45 0) two ≡ 1) × (rewriteNumber exampleA (replicate 45 0) one ≡ 0) × (rewriteNumber exampleA (replicate 45 0) two ≡ 13)
     × (rewriteNumber exampleA (replicate 44 0) one ≡ 13)
@@ -137,35 +137,35 @@ pub rewriting-a :
 unfolding writeAnswer frameCause beAt schemeOf upTo tab causeWhere sizeOut startOut horizonOut ruleOut bandOut sumOut premiumOut anyBelow sumTo
 rewriting-a = (refl, after-a _, after-a _, after-a _, refl)
 
--- there is no ready scheme 4, and a base above 2,500,000 is declined; both before the buffers
+-- There is no ready scheme 4, and a base above 2,500,000 is declined; both before the buffers.
 pub ready-schemes : (readyNumber 4 2500001 [] two ≡ 14) × (readyNumber 3 2500001 [] two ≡ 15) × (readyNumber 1 2500001 [] two ≡ 15) × (readyNumber 2500001 1 [] two ≡ 14)
 unfolding readyAnswer
 ready-schemes = (refl, refl, refl, refl)
 
--- ready scheme 1 takes 209 bytes
+-- Ready scheme 1 takes 209 bytes.
 pub ready-space : (readyNumber 1 100 (replicate 209 0) one ≡ 0) × (readyNumber 1 100 (replicate 208 0) one ≡ 13)
 unfolding readyAnswer readyScheme schemeOf upTo scale1 writeAnswer tab causeWhere sizeOut startOut horizonOut ruleOut bandOut sumOut premiumOut anyBelow sumTo
 ready-space = (refl, refl)
 
--- a step takes a payoff of 32 numbers, a buffer of one for the figure and one of 32 for the row
+-- A step takes a payoff of 32 numbers, a buffer of one for the figure and one of 32 for the row.
 pub step-buffers : (stepBuffers long one long ≡ 0) × (stepBuffers two one long ≡ 13) × (stepBuffers long two long ≡ 13) × (stepBuffers long one two ≡ 13)
 step-buffers = (refl, refl, refl, refl)
 
--- a payoff of 30 in class 1 and 10 in class 2
+-- A payoff of 30 in class 1 and 10 in class 2.
 abbrev thirtyTen : List ℕ
 thirtyTen = 30 ∷ 10 ∷ []
 
--- it counts as one of 32 numbers
+-- It counts as one of 32 numbers.
 pub payoffs : (length (payoffRead thirtyTen) ≡ 32) × (at (payoffRead thirtyTen) 1 ≡ 10) × (at (payoffRead thirtyTen) 2 ≡ 0)
 unfolding payoffRead tab
 payoffs = (refl, refl, refl)
 
--- a payoff not of 32 numbers is declined after the class, and a record before the class
+-- A payoff not of 32 numbers is declined after the class, and a record before the class.
 pub step-a : (stepNumber [] thirtyTen 3 one long ≡ 1) × (stepNumber exampleA thirtyTen 3 one long ≡ 11) × (stepNumber exampleA thirtyTen 2 one long ≡ 13)
 unfolding payoffRead payoffOut frameCause beAt schemeOf upTo tab causeWhere sizeOut startOut horizonOut ruleOut bandOut sumOut premiumOut anyBelow sumTo
 step-a = (refl, after-a _, after-a _)
 
--- the low figure of Example A's class 2, and the high one
+-- The low figure of Example A's class 2, and the high one.
 pub figures-a : (figureOf false inA thirtyTen 2 ≡ 26 ∷ []) × (figureOf true inA thirtyTen 2 ≡ 28 ∷ [])
 unfolding payoffRead stepFigure fillRow capacityBefore sumTo onlyIf beAt schemeOf upTo tab
 figures-a = (refl, refl)

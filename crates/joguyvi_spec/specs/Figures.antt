@@ -14,38 +14,38 @@ use Rattle.bounds_spec.specs.Answers.{numberOf, lowOf, highOf, shareAnswer, mea
 use Rattle.bounds_spec.specs.Promises.{Kept, startShare, startMean, startTotal}
 use Rattle.joguyvi_spec.specs.Buffers.{bufferCause, filledWhere, BufferPost}
 
--- low and high into a buffer: their cause, then 13 where the buffer is not of 2 numbers
+-- Low and high into a buffer: their cause, then 13 where the buffer is not of 2 numbers.
 unfoldable pub putNumber : Bounds → List ℕ → ℕ
 putNumber b out = orElse (numberOf b) (bufferCause 2 out)
 
--- low, then high, as a buffer of 2 numbers
+-- Low, then high, as a buffer of 2 numbers.
 abbrev pub lowAndHigh : Bounds → List ℕ
 lowAndHigh b = lowOf b ∷ highOf b ∷ []
 
--- what is answered and left for low and high
+-- What is answered and left for low and high.
 abbrev pub BoundsPost : Bounds → (out : List ℕ) (number : ℕ) (out′ : List ℕ) → Type 0
 BoundsPost b out = BufferPost (putNumber b out) (lowAndHigh b) out
 
--- the number for a record's low and high: the cause of reading comes first
+-- The number for a record's low and high: the cause of reading comes first.
 abbrev pub boundsNumber : List ℕ → Bounds → List ℕ → ℕ
 boundsNumber bytes b out = orElse (readCause bytes) (putNumber b out)
 
--- what a call for low and high answers and leaves, where `query` answers for a scheme and `exact` is the figure between low and high
+-- What a call for low and high answers and leaves, where `query` answers for a scheme and `exact` is the figure between low and high.
 pub record BoundsCall (query : Scheme → Bounds) (exact : Scheme → List Matrix → Fraction) (bytes : List ℕ) (year : ℕ) (out : List ℕ) (number : ℕ) (out′ : List ℕ) : Type 0 where
-  -- the cause of reading, then that of the answer, then 13
+  -- The cause of reading, then that of the answer, then 13.
   pub answer : number ≡ boundsNumber bytes (query (schemeIn version1 bytes)) out
   pub figures : out′ ≡ filledWhere number (lowAndHigh (query (schemeIn version1 bytes))) out
-  -- the buffer's two numbers keep what is promised (crate bounds_spec, `Promises`)
+  -- The buffer's two numbers keep what is promised (crate bounds_spec, `Promises`).
   pub promise : number ≡ 0 → Kept (schemeIn version1 bytes) year (exact (schemeIn version1 bytes)) (getD out′ 0 0) (getD out′ 1 0)
 
--- joguyvi_share: the share of a class after a number of years
+-- joguyvi_share: the share of a class after a number of years.
 abbrev pub ShareCall : (bytes : List ℕ) (class year : ℕ) (out : List ℕ) (number : ℕ) (out′ : List ℕ) → Type 0
 ShareCall bytes class year = BoundsCall (λ s. shareAnswer s class year) (λ s. startShare s (class - 1)) bytes year
 
--- joguyvi_mean: the mean premium of a year
+-- joguyvi_mean: the mean premium of a year.
 abbrev pub MeanCall : (bytes : List ℕ) (year : ℕ) (out : List ℕ) (number : ℕ) (out′ : List ℕ) → Type 0
 MeanCall bytes year = BoundsCall (λ s. meanAnswer s year) startMean bytes year
 
--- joguyvi_total: the total of as many premiums as there are years
+-- joguyvi_total: the total of as many premiums as there are years.
 abbrev pub TotalCall : (bytes : List ℕ) (year : ℕ) (out : List ℕ) (number : ℕ) (out′ : List ℕ) → Type 0
 TotalCall bytes year = BoundsCall (λ s. totalAnswer s year) startTotal bytes year

@@ -9,14 +9,14 @@ use Rattle.bounds_spec.specs.Answers.{sheetCause, lowShares, highShares}
 use Rattle.bounds_spec.specs.Promises.{SheetPromise}
 use Rattle.joguyvi_spec.specs.Buffers.{filledWhere}
 
--- the cause of reading, then that of the share sheet, where 13 stands last
+-- The cause of reading, then that of the share sheet, where 13 stands last.
 abbrev pub sharesNumber : List ℕ → (year : ℕ) (low high : List ℕ) → ℕ
 sharesNumber bytes year low high = orElse (readCause bytes) (sheetCause (schemeIn version1 bytes) year low high)
 
--- joguyvi_share_sheet: what it answers and leaves
+-- joguyvi_share_sheet: what it answers and leaves.
 pub record ShareSheetCall (bytes : List ℕ) (year : ℕ) (low high : List ℕ) (number : ℕ) (low′ high′ : List ℕ) : Type 0 where
   pub answer : number ≡ sharesNumber bytes year low high
   pub lows : low′ ≡ filledWhere number (lowShares (schemeIn version1 bytes) year) low
   pub highs : high′ ≡ filledWhere number (highShares (schemeIn version1 bytes) year) high
-  -- the buffers' numbers keep what is promised (crate bounds_spec, `Promises`)
+  -- The buffers' numbers keep what is promised (crate bounds_spec, `Promises`).
   pub promise : SheetPromise (schemeIn version1 bytes) year number low′ high′

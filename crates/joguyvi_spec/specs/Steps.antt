@@ -15,36 +15,36 @@ use Rattle.step_spec.specs.declared.StepAnswer.{StepAnswer}
 use Rattle.step_spec.specs.StepAnswer.{stepCause, classRow}
 use Rattle.joguyvi_spec.specs.Buffers.{bufferCause, filledWhere, BuffersPost}
 
--- a payoff of 32 numbers: what is missing counts as 0, and what lies beyond 32 is ignored
+-- A payoff of 32 numbers: what is missing counts as 0, and what lies beyond 32 is ignored.
 unfoldable pub payoffRead : List ℕ → List ℕ
 payoffRead numbers = tab 32 (at numbers)
 
--- cause 13: a payoff not of 32 numbers, a buffer for the figure not of 1, or one for the row not of 32
+-- Cause 13: a payoff not of 32 numbers, a buffer for the figure not of 1, or one for the row not of 32.
 abbrev pub stepBuffers : (payoff figure row : List ℕ) → ℕ
 stepBuffers payoff figure row = orElse (bufferCause 32 payoff) (orElse (bufferCause 1 figure) (bufferCause 32 row))
 
--- what is answered and left for a step's figure and row: its cause, then 13
+-- What is answered and left for a step's figure and row: its cause, then 13.
 abbrev pub StepBuffersPost : StepAnswer → (payoff figure row : List ℕ) (number : ℕ) (figure′ row′ : List ℕ) → Type 0
 StepBuffersPost answer payoff figure row = BuffersPost (orElse (answer .number) (stepBuffers payoff figure row)) (answer .figure ∷ []) (answer .row) figure row
 
--- the number for a record's step: the cause of reading, then that of the step, where 10 is for the payoff and 11 for the class, then 13
+-- The number for a record's step: the cause of reading, then that of the step, where 10 is for the payoff and 11 for the class, then 13.
 abbrev pub stepNumber : List ℕ → (payoff : List ℕ) (class : ℕ) (figure row : List ℕ) → ℕ
 stepNumber bytes payoff class figure row = orElse (readCause bytes) (orElse (stepCause (schemeIn version1 bytes) (payoffRead payoff) class) (stepBuffers payoff figure row))
 
--- the figure of a class, low or high, as a buffer of 1 number
+-- The figure of a class, low or high, as a buffer of 1 number.
 abbrev pub figureOf : (high : Bool) → Scheme → (payoff : List ℕ) (class : ℕ) → List ℕ
 figureOf high s payoff class = stepFigure high (s .classes) (classRow s class) (at (payoffRead payoff)) ∷ []
 
--- joguyvi_low_step (`high` is false) and joguyvi_high_step (`high` is true): what they answer and leave
+-- joguyvi_low_step (`high` is false) and joguyvi_high_step (`high` is true): what they answer and leave.
 pub record StepCall (high : Bool) (bytes payoff : List ℕ) (class : ℕ) (figure row : List ℕ) (number : ℕ) (figure′ row′ : List ℕ) : Type 0 where
   pub answer : number ≡ stepNumber bytes payoff class figure row
   pub figures : figure′ ≡ filledWhere number (figureOf high (schemeIn version1 bytes) payoff class) figure
-  -- the row is left as it was where the call is declined
+  -- The row is left as it was where the call is declined.
   pub left : (number ≡ 0 → ⊥) → row′ ≡ row
-  -- otherwise it has 32 parts
+  -- Otherwise it has 32 parts.
   pub size : number ≡ 0 → length row′ ≡ 32
-  -- "with 0 beyond s"
+  -- "with 0 beyond s".
   pub beyond : number ≡ 0 → (j : ℕ) → schemeIn version1 bytes .classes ≤ j → at row′ j ≡ 0
-  -- it lies inside the class's interval and reaches its unrounded figure (crate setchain, `Step`)
+  -- It lies inside the class's interval and reaches its unrounded figure (crate setchain, `Step`).
   pub reaches : number ≡ 0
       → Reaches high (schemeIn version1 bytes .classes) (classRow (schemeIn version1 bytes) class) (at (payoffRead payoff)) (at row′) (getD figure′ 0 0)

@@ -19,7 +19,7 @@ use Rattle.joguyvi_spec.specs.Laws.Buffers.{buffer-size, unfilled}
 use Rattle.joguyvi_spec.specs.Laws.Causes.{stopped-number, passed-number}
 use Rattle.joguyvi_spec.specs.Laws.Steps.{step-call}
 
--- the buffers of a step with no cause have their sizes
+-- The buffers of a step with no cause have their sizes.
 pub step-sizes : (payoff figure row : List ℕ) → stepBuffers payoff figure row ≡ 0 → (length figure ≡ 1) × (length row ≡ 32)
 step-sizes payoff figure row e =
     let both : orElse (bufferCause 1 figure) (bufferCause 32 row) ≡ 0 = second-none (bufferCause 32 payoff) (orElse (bufferCause 1 figure) (bufferCause 32 row)) e in

@@ -12,14 +12,14 @@ use Rattle.joguyvi_spec.specs.Figures.{putNumber, lowAndHigh, BoundsPost}
 use Rattle.joguyvi_spec.specs.Laws.Buffers.{buffer-out, buffer-fits, thirteen, unfilled}
 use Rattle.joguyvi_spec.specs.Laws.Causes.{cause-first, cause-second}
 
--- two numbers written into a buffer of 2
+-- Two numbers written into a buffer of 2.
 two : (out : List ℕ) (a b : ℕ) → length out ≡ 2 → set (set out 0 a) 1 b ≡ a ∷ b ∷ []
 two [] a b e = absurd (omega arith)
 two (x ∷ []) a b e = absurd (omega arith)
 two (x ∷ y ∷ []) a b e = refl
 two (x ∷ y ∷ z ∷ l) a b e = absurd (omega arith)
 
--- with a cause, into a buffer of another length, and into one of 2
+-- With a cause, into a buffer of another length, and into one of 2.
 module _ (b : Bounds) (out : List ℕ) {n : ℕ} (is : n ≡ numberOf b) where
   pub bounds-refused : (n ≡ 0 → ⊥) → BoundsPost b out n out
   unfolding putNumber

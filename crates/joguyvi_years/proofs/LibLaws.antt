@@ -28,7 +28,7 @@ use Rattle.joguyvi_spec.specs.Laws.Causes.{stopped-number, passed-number}
 use Rattle.joguyvi_spec.specs.Laws.Figures.{BoundsPromise, bounds-call}
 use Rattle.joguyvi_spec.specs.Laws.Texts.{TextPost}
 
--- low and high of a record, as a query answers them for its scheme, with what is promised of them
+-- Low and high of a record, as a query answers them for its scheme, with what is promised of them.
 module _ {query : Scheme → Bounds} {exact : Scheme → List Matrix → Fraction} (bytes : List ℕ) {year : ℕ} (out : List ℕ) {a : ReadAnswer} (is : a ≡ readAnswer bytes) where
   pub bounds-stopped : (a .number ≡ 0 → ⊥) → BoundsCall query exact bytes year out (a .number) out
   bounds-stopped some = record { answer = stopped-number bytes is _ some; figures = unfilled _ out some; promise = λ z. absurd (some z) }
@@ -42,7 +42,7 @@ module _ {query : Scheme → Bounds} {exact : Scheme → List Matrix → Fractio
       bounds-call bytes out (subst₂ (λ x y. BoundsPromise exact year x y) (read-in bytes is none) same (answered .1))
       (record { answer = passed-number bytes is none (found .answer); filled = found .filled })
 
--- a share sheet of a scheme: what is answered, what is left, and what is promised
+-- A share sheet of a scheme: what is answered, what is left, and what is promised.
 abbrev SharesPost : Scheme → (year : ℕ) (low high : List ℕ) (number : ℕ) (low′ high′ : List ℕ) → Type 0
 SharesPost s year low high number low′ high′ =
     (number ≡ sheetCause s year low high)
@@ -50,7 +50,7 @@ SharesPost s year low high number low′ high′ =
     × ((high′ ≡ sheetSlice number (highShares s year) high)
     × SheetPromise s year number low′ high′))
 
--- a share sheet of a record
+-- A share sheet of a record.
 module _ (bytes : List ℕ) (year : ℕ) (low high : List ℕ) {a : ReadAnswer} (is : a ≡ readAnswer bytes) where
   pub shares-stopped : (a .number ≡ 0 → ⊥) → ShareSheetCall bytes year low high (a .number) low high
   shares-stopped some =
@@ -61,7 +61,7 @@ module _ (bytes : List ℕ) (year : ℕ) (low high : List ℕ) {a : ReadAnswer} 
       let found : SharesPost (schemeIn version1 bytes) year low high n low′ high′ = subst (λ s. SharesPost s year low high n low′ high′) (read-in bytes is none) put in
       record { answer = passed-number bytes is none (found .0); lows = found .1 .0; highs = found .1 .1 .0; promise = found .1 .1 .1 }
 
--- over the outcome of the test for space
+-- Over the outcome of the test for space.
 only-13 : (b : Bool) (n : ℕ) → (writeNumber (cond b (Declined 13) (Written n)) ≡ 0 → ⊥) → writeNumber (cond b (Declined 13) (Written n)) ≡ 13
 only-13 true n h = refl
 only-13 false n h = absurd (h refl)
@@ -70,7 +70,7 @@ left-alone : (b : Bool) (n : ℕ) (out full : List ℕ) → (writeNumber (cond b
 left-alone true n out full h = refl
 left-alone false n out full h = absurd (h refl)
 
--- the sheet's text: its cause is 0 or 13, and the buffer is left alone where it is 13
+-- The sheet's text: its cause is 0 or 13, and the buffer is left alone where it is 13.
 module _ (bytes out : List ℕ) where
   pub sheet-only : (writeNumber (sheetAnswer bytes out) ≡ 0 → ⊥) → writeNumber (sheetAnswer bytes out) ≡ 13
   unfolding sheetAnswer

@@ -15,12 +15,12 @@ use Rattle.ready_spec.specs.Ready.{readyScheme}
 use Rattle.scheme.specs.Stored.{noScheme}
 use Rattle.ready_spec.specs.Answer.{Offered, readyCause, readyAnswer}
 
--- what holds of both cases holds of the one picked
+-- What holds of both cases holds of the one picked.
 pub cond-all {ℓ} : {A : Type ℓ} (P : A → Type 0) (b : Bool) (x y : A) → P x → P y → P (cond b x y)
 cond-all P true x y px py = px
 cond-all P false x y px py = py
 
--- what holds of all three holds of the one chosen
+-- What holds of all three holds of the one chosen.
 pub chosen-all {ℓ} : {A : Type ℓ} (P : A → Type 0) (number : ℕ) (a b c : A) → P a → P b → P c → P (chosen number a b c)
 chosen-all P number a b c pa pb pc =
     cond-all P (eqb number 1) a (cond (eqb number 2) b c) pa (cond-all P (eqb number 2) b c pb pc)
@@ -35,7 +35,7 @@ module _ {ℓ} {A : Type ℓ} (number : ℕ) (a b c : A) where
   pub chosen-third : (number ≡ 1 → ⊥) → (number ≡ 2 → ⊥) → chosen number a b c ≡ c
   chosen-third d e = rw (ne-eqb number 1 d, ne-eqb number 2 e)
 
--- the ready schemes' sizes
+-- The ready schemes' sizes.
 pub classes-most : (number : ℕ) → classesOf number ≤ 24
 classes-most number = chosen-all (λ n. n ≤ 24) number 18 18 24 (omega arith) (omega arith) (omega arith)
 
@@ -48,7 +48,7 @@ factor-most number = chosen-all (λ n. n ≤ 4) number 3 4 4 (omega arith) (omeg
 pub factor-least : (number : ℕ) → 3 ≤ factorOf number
 factor-least number = chosen-all (λ n. 3 ≤ n) number 3 4 4 (omega arith) (omega arith) (omega arith)
 
--- no entry of the list is above the bound, as a test
+-- No entry of the list is above the bound, as a test.
 abbrev allUpTo : ℕ → List ℕ → Bool
 allUpTo bound [] = true
 allUpTo bound (x ∷ xs) = leb x bound && allUpTo bound xs
@@ -62,25 +62,25 @@ all-up-to bound [] t i = omega arith
 all-up-to bound (x ∷ xs) t zero = leb→le x bound (&&-T (leb x bound) (allUpTo bound xs) t .0)
 all-up-to bound (x ∷ xs) t (suc i) = all-up-to bound xs (&&-T (leb x bound) (allUpTo bound xs) t .1) i
 
--- the largest of the tenths
+-- The largest of the tenths.
 pub tenths-most : (number i : ℕ) → tenthsOf number i ≤ 3953
 unfolding scale1 scale2 scale3
 tenths-most number i =
     chosen-all (λ l. getD l i 0 ≤ 3953) number scale1 scale2 scale3
     (all-up-to 3953 scale1 tt i) (all-up-to 3953 scale2 tt i) (all-up-to 3953 scale3 tt i)
 
--- a base in range times its tenths
+-- A base in range times its tenths.
 pub product-most : (number base i : ℕ) → base ≤ 2500000 → base * tenthsOf number i ≤ 9882500000
 product-most number base i h = omega (arith, mul-le-mul h (tenths-most number i))
 
--- a factor times a number of claims
+-- A factor times a number of claims.
 pub raise-most : (c k : ℕ) → c ≤ 4 → k ≤ 4 → c * k ≤ 16
 raise-most c k h l = omega (arith, mul-le-mul h l)
 
 pub raise-least : (c k : ℕ) → 1 ≤ c → 1 ≤ k → 1 ≤ c * k
 raise-least c k h l = omega (arith, mul-le-mul h l)
 
--- what the code's move asks, at a place of the rules
+-- What the code's move asks, at a place of the rules.
 pub movable : (number place s c : ℕ) → s ≡ classesOf number → c ≡ factorOf number → place / 8 < s → place % 8 < 5
     → Movable s c (place / 8 + 1) (place % 8)
 movable number place s c e f h k =
@@ -94,7 +94,7 @@ movable number place s c e f h k =
       claims = omega arith;
     }
 
--- no cause: the ready scheme is offered
+-- No cause: the ready scheme is offered.
 module _ (number base : ℕ) (e : readyCause number base ≡ 0) where
   not-zero : Dec (number ≡ 0) → 1 ≤ number
   not-zero (yes z) = let f : _≡_ {A = ℕ} 14 0 = rw (eq-eqb number 0 z) at e in omega arith
@@ -120,7 +120,7 @@ module _ (number base : ℕ) (e : readyCause number base ≡ 0) where
       let w = not-above p (decLt 3 number)
       in record { positive = p; within = w; small = not-dear p w (decLt 2500000 base) }
 
--- the answer's two cases
+-- The answer's two cases.
 pub answer-made : (number base : ℕ) → readyCause number base ≡ 0 → readyAnswer number base ≡ record { number = 0; scheme = readyScheme number base }
 unfolding readyAnswer
 answer-made number base e = rw e

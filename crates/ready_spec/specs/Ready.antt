@@ -6,10 +6,10 @@ use Rattle.scheme.specs.Stored.{schemeOf}
 use Rattle.ready_spec.specs.Scales.{classesOf, factorOf, premiumOf}
 use Rattle.ready_spec.specs.Moves.{movedClass}
 
--- "Ready schemes": "the last column moves as k = 4 does", so each column as its number; the rule of class i + 1 and column k
+-- "Ready schemes": "the last column moves as k = 4 does", so each column as its number; the rule of class i + 1 and column k.
 abbrev pub readyRule : (number i k : ℕ) → ℕ
 readyRule number i k = movedClass (classesOf number) (factorOf number) (i + 1) k
 
--- "Ready schemes": "m is 5 … Start is 10, horizon 40. A band is 0 to ONE in each column"
+-- "Ready schemes": "m is 5 … Start is 10, horizon 40. A band is 0 to ONE in each column".
 unfoldable pub readyScheme : ℕ → ℕ → Scheme
 readyScheme number base = schemeOf (classesOf number) 5 10 40 (readyRule number) (λ k. 0) (λ k. ONE) (premiumOf number base)

@@ -20,12 +20,12 @@ use Rattle.scheme.specs.Laws.Stored.{rule-made, lower-made, upper-made, premium
 use Rattle.ready_spec.specs.Laws.{classes-least, classes-most, product-most, offered}
 
 module _ (number base : ℕ) where
-  -- the rule of class i + 1 and column k
+  -- The rule of class i + 1 and column k.
   pub rule-at : (i k : ℕ) → i < classesOf number → k < 5 → ruleAt (readyScheme number base) i k ≡ readyRule number i k
   unfolding readyScheme
   rule-at i k h l = rule-made _ _ _ _ _ _ _ _ i k (omega (arith, classes-most number)) (omega arith) h l
 
-  -- the band of column k
+  -- The band of column k.
   pub lower-at : (i k : ℕ) → k < 5 → lowerAt (readyScheme number base) i k ≡ 0
   unfolding readyScheme
   lower-at i k l = lower-made _ _ _ _ _ _ _ _ i k (omega arith) l
@@ -34,7 +34,7 @@ module _ (number base : ℕ) where
   unfolding readyScheme
   upper-at i k l = upper-made _ _ _ _ _ _ _ _ i k (omega arith) l
 
-  -- the premium of class i + 1
+  -- The premium of class i + 1.
   pub premium-at : (i : ℕ) → i < classesOf number → premiumAt (readyScheme number base) i ≡ premiumOf number base i
   unfolding readyScheme
   premium-at i h = premium-made _ _ _ _ _ _ _ _ i (omega (arith, classes-most number)) h
@@ -81,7 +81,7 @@ module _ (number base : ℕ) where
   unfolding readyScheme schemeOf
   premiums-fit small = record { within = λ i h. rw (premium-at i h) (omega (arith, product-most number base i small)) }
 
-  -- "A scheme is accepted exactly when this list holds": it holds of every ready scheme
+  -- "A scheme is accepted exactly when this list holds": it holds of every ready scheme.
   pub ready-accepted : Offered number base → Accepted (readyScheme number base)
   ready-accepted o =
       record {
@@ -94,16 +94,16 @@ module _ (number base : ℕ) where
         premiums = premiums-fit (o .small);
       }
 
-  -- a scheme answered with number 0 is accepted
+  -- A scheme answered with number 0 is accepted.
   pub answered-accepted : readyAnswer number base .number ≡ 0 → Accepted (readyAnswer number base .scheme)
   unfolding readyAnswer
   answered-accepted e = rw e (ready-accepted (offered number base e))
 
-  -- no cause applies to a ready scheme
+  -- No cause applies to a ready scheme.
   pub ready-cause : Offered number base → causeOf (readyScheme number base) ≡ 0
   ready-cause o = cause-accepted (readyScheme number base) (ready-accepted o)
 
-  -- "every operation that makes a scheme sets them to 0": also where the call is declined
+  -- "every operation that makes a scheme sets them to 0": also where the call is declined.
   pub ready-cleared : cleared (readyAnswer number base .scheme) ≡ readyAnswer number base .scheme
   unfolding readyAnswer readyScheme
   ready-cleared = by (eqb (readyCause number base) 0)

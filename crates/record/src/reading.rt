@@ -18,7 +18,7 @@ use record_spec::NUMBER_WIDTH;
 use scheme::Scheme;
 use scheme::or_else;
 
-// cause 1, or 0
+// Cause 1, or 0.
 fn version_cause(bytes: &[u8]) -> u8
     ensures { λ r. ⌜ r ≡ versionCause (now (bytes .entry)) ⌝ }
 {
@@ -31,7 +31,7 @@ fn version_cause(bytes: &[u8]) -> u8
     0
 }
 
-// cause 2, or 0
+// Cause 2, or 0.
 fn field_cause(bytes: &[u8]) -> u8
     ensures { λ r. ⌜ r ≡ fieldCause (now (bytes .entry)) ⌝ }
 {
@@ -44,7 +44,7 @@ fn field_cause(bytes: &[u8]) -> u8
     0
 }
 
-// cause 4, or 0
+// Cause 4, or 0.
 fn length_cause(length: usize, classes: u8, columns: u8) -> u8
     ensures { λ r. ⌜ r ≡ lengthCause length classes columns ⌝ }
 {
@@ -54,7 +54,7 @@ fn length_cause(length: usize, classes: u8, columns: u8) -> u8
     0
 }
 
-// the first of the causes 1 to 4, or 0
+// The first of the causes 1 to 4, or 0.
 pub fn frame(bytes: &[u8]) -> u8
     ensures { λ r. ⌜ r ≡ frameCause (now (bytes .entry)) ⌝ }
 {
@@ -71,7 +71,7 @@ pub fn frame(bytes: &[u8]) -> u8
     or_else(sizes, length)
 }
 
-// the rules of s classes and m columns, from place `from` on
+// The rules of s classes and m columns, from place `from` on.
 fn rules(bytes: &[u8], from: usize, s: usize, m: usize) -> [u8; 256]
     requires { ⌜ (from + s * m ≤ length (now bytes)) × (s ≤ 32) × (m ≤ 8) ⌝ }
     ensures { λ r. ⌜ r ≡ tab 256 (rulesUpTo s m (λ i k. getD (now (bytes .entry)) (from + i * m + k) 0)) ⌝ }
@@ -89,7 +89,7 @@ fn rules(bytes: &[u8], from: usize, s: usize, m: usize) -> [u8; 256]
     rules
 }
 
-// fills the first n places of a slice of 0 with numbers, one every `stride` bytes from place `from` on
+// Fills the first n places of a slice of 0 with numbers, one every `stride` bytes from place `from` on.
 fn read_numbers(bytes: &[u8], from: usize, stride: usize, out: &mut [u32], n: usize)
     requires { ⌜ (from + n * stride ≤ length (now bytes)) × (4 ≤ stride) × (n ≤ length (now out)) × (now out ≡ replicate (length (now out)) 0) ⌝ }
     ensures { λ _. ⌜ now (out .exit) ≡ tab (length (now (out .entry))) (upTo n (λ k. beAt 4 (now (bytes .entry)) (from + k * stride))) ⌝ }
@@ -103,7 +103,7 @@ fn read_numbers(bytes: &[u8], from: usize, stride: usize, out: &mut [u32], n: us
     }
 }
 
-// the scheme in bytes that none of the causes 1 to 4 declines
+// The scheme in bytes that none of the causes 1 to 4 declines.
 pub fn parsed(bytes: &[u8]) -> Scheme
     requires { ⌜ Framed (now bytes) ⌝ }
     ensures { λ r. ⌜ r ≡ schemeIn version1 (now (bytes .entry)) ⌝ }

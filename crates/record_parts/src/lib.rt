@@ -8,7 +8,7 @@ pub use record_spec::Band;
 use record_spec::HEADER;
 use record_spec::NUMBER_WIDTH;
 
-// the first cause of a rule row, or 0
+// The first cause of a rule row, or 0.
 fn rule_row_cause(bytes: &[u8], class: u64) -> u8
     ensures { λ r. ⌜ r ≡ ruleRowCause (now (bytes .entry)) class ⌝ }
 {
@@ -46,7 +46,7 @@ pub struct Opened<'a> {
     pub reader: Reader<'a>,
 }
 
-// whether a band is stored for the column
+// Whether a band is stored for the column.
 fn stored(bytes: &[u8], column: usize) -> bool
     ensures { λ r. ⌜ r ≡ stored (now (bytes .entry)) column ⌝ }
 {
@@ -57,7 +57,7 @@ fn stored(bytes: &[u8], column: usize) -> bool
     column < columns
 }
 
-// the lent bytes where they are accepted, and an empty part of them where they are declined
+// The lent bytes where they are accepted, and an empty part of them where they are declined.
 fn kept(bytes: &[u8]) -> &[u8]
     ensures { λ r. ⌜ (now r ≡ openPart (now (bytes .entry))) × (readCause (now (bytes .entry)) ≡ 0 → r ≡ bytes .entry) ⌝ }
 {
@@ -83,7 +83,7 @@ pub fn band_at(bytes: &[u8], column: usize) -> Band
     Band::Ends { lower, upper }
 }
 
-// how many bands that answer hands out: 1, or 0 where there is no more
+// How many bands that answer hands out: 1, or 0 where there is no more.
 fn handed_out(bytes: &[u8], column: usize) -> usize
     ensures { λ r. ⌜ r ≡ handedOut (bandAt (now (bytes .entry)) column) ⌝ }
 {
@@ -93,7 +93,7 @@ fn handed_out(bytes: &[u8], column: usize) -> usize
     1
 }
 
-// the column whose band comes after that answer
+// The column whose band comes after that answer.
 fn after(bytes: &[u8], column: usize) -> usize
     ensures { λ r. ⌜ r ≡ afterAt (now (bytes .entry)) column ⌝ }
 {

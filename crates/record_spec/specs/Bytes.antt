@@ -12,26 +12,26 @@ use Rattle.record_spec.specs.Layout.{Layout, lengthOf}
 unfoldable pub headerBytes : (version length s m start horizon : ℕ) → List ℕ
 headerBytes version length s m start horizon = (version ∷ []) ++ beBytes 2 length ++ (s ∷ m ∷ start ∷ horizon ∷ [])
 
--- the header of a scheme's record
+-- The header of a scheme's record.
 abbrev pub headerOf : Layout → Scheme → List ℕ
 headerOf y s = headerBytes (y .version) (lengthOf y (s .classes) (s .columns)) (s .classes) (s .columns) (s .start) (s .horizon)
 
--- the rules, class by class
+-- The rules, class by class.
 abbrev pub rulesOf : Scheme → List ℕ
 rulesOf s = joined (s .classes) (λ i. tab (s .columns) (ruleAt s i))
 
--- a band, lower and upper
+-- A band, lower and upper.
 abbrev pub bandBytes : ℕ → ℕ → List ℕ
 bandBytes lower upper = beBytes 4 lower ++ beBytes 4 upper
 
--- the bands, column by column
+-- The bands, column by column.
 abbrev pub bandsOf : Scheme → List ℕ
 bandsOf s = joined (s .columns) (λ k. bandBytes (lowerAt s 0 k) (upperAt s 0 k))
 
--- the premiums, class by class
+-- The premiums, class by class.
 abbrev pub premiumsOf : Layout → Scheme → List ℕ
 premiumsOf y s = joined (s .classes) (λ i. beBytes (y .width) (premiumAt s i))
 
--- the record of a scheme
+-- The record of a scheme.
 unfoldable pub bytesOf : Layout → Scheme → List ℕ
 bytesOf y s = headerOf y s ++ rulesOf s ++ bandsOf s ++ premiumsOf y s

@@ -21,7 +21,7 @@ use Rattle.record_spec.specs.Reader.{bandAt, bandNumber, bandEnds, openP
 use Rattle.record_spec.specs.Bytes.{headerBytes, bytesOf}
 use Rattle.record_spec.specs.Write.{writeNumber, writtenLength, writeAnswer, writeLeaves, Reread, WritePromise}
 
--- its record
+-- Its record.
 abbrev pub exampleA : List ℕ
 exampleA =
     1 ∷ 0 ∷ 45 ∷ 2 ∷ 3 ∷ 2 ∷ 2 ∷
@@ -31,7 +31,7 @@ exampleA =
     0 ∷ 0 ∷ 0 ∷ 0 ∷ 2 ∷ 250 ∷ 240 ∷ 128 ∷
     0 ∷ 0 ∷ 39 ∷ 16 ∷ 0 ∷ 0 ∷ 58 ∷ 152 ∷ []
 
--- the length of its record, and the greatest: "at most 455"
+-- The length of its record, and the greatest: "at most 455".
 pub lengths : (lengthOf version1 2 3 ≡ 45) × (lengthOf version1 32 8 ≡ 455)
 lengths = (refl, refl)
 
@@ -39,7 +39,7 @@ pub read-a : readCause exampleA ≡ 0
 unfolding frameCause beAt schemeOf upTo tab causeWhere sizeOut startOut horizonOut ruleOut bandOut sumOut premiumOut anyBelow sumTo
 read-a = refl
 
--- the scheme in it is the scheme of example A, and the record of that scheme is the record itself
+-- The scheme in it is the scheme of example A, and the record of that scheme is the record itself.
 pub scheme-a : schemeIn version1 exampleA ≡ schemeA
 unfolding schemeOf upTo tab beAt
 scheme-a = refl
@@ -48,19 +48,19 @@ pub bytes-a : bytesOf version1 schemeA ≡ exampleA
 unfolding bytesOf headerBytes joined beBytes tab
 bytes-a = refl
 
--- a record of one class and one column, of 20 bytes, with these values
+-- A record of one class and one column, of 20 bytes, with these values.
 abbrev pub small : (version length classes start horizon : ℕ) → List ℕ
 small version length classes start horizon =
     version ∷ 0 ∷ length ∷ classes ∷ 1 ∷ start ∷ horizon ∷ 1 ∷
     0 ∷ 0 ∷ 0 ∷ 0 ∷ 59 ∷ 154 ∷ 202 ∷ 0 ∷
     0 ∷ 0 ∷ 0 ∷ 10 ∷ []
 
--- the record of a scheme whose start and horizon differ: 1 and 100
+-- The record of a scheme whose start and horizon differ: 1 and 100.
 pub bytes-single : bytesOf version1 (single 1 0 1000000000 10) ≡ small 1 20 1 1 100
 unfolding bytesOf headerBytes joined beBytes tab
 bytes-single = refl
 
--- several causes at once: "the first that applies is returned"
+-- Several causes at once: "the first that applies is returned".
 pub record CausesInOrder : Type 0 where
   pub noByte : readCause [] ≡ 1
   pub version : readCause (small 2 21 0 0 101) ≡ 1
@@ -76,32 +76,32 @@ unfolding frameCause beAt schemeOf upTo tab causeWhere sizeOut startOut horizonO
 causes-in-order =
     record { noByte = refl; version = refl; field = refl; sizes = refl; length = refl; start = refl; horizon = refl; none = refl }
 
--- what reading answers: example A's scheme, and a cause beside a scheme of 0
+-- What reading answers: example A's scheme, and a cause beside a scheme of 0.
 pub answers-read : (readAnswer exampleA ≡ record { number = 0; scheme = schemeA }) × (readAnswer (small 1 20 1 1 101) ≡ record { number = 6; scheme = noScheme })
 unfolding readAnswer noScheme frameCause beAt schemeOf upTo tab causeWhere sizeOut startOut horizonOut ruleOut bandOut sumOut premiumOut anyBelow sumTo
 answers-read = (refl, refl)
 
--- the rule row of class 2, and an empty part for class 3 and for a declined record
+-- The rule row of class 2, and an empty part for class 3 and for a declined record.
 pub rows-a : (ruleRow exampleA 2 ≡ 1 ∷ 2 ∷ 2 ∷ []) × (ruleRow exampleA 3 ≡ []) × (ruleRow (small 1 20 1 1 101) 1 ≡ [])
 unfolding ruleRow frameCause beAt schemeOf upTo tab causeWhere sizeOut startOut horizonOut ruleOut bandOut sumOut premiumOut anyBelow sumTo
 rows-a = (refl, refl, refl)
 
--- the cause behind an empty part: "where it is accepted the cause was 11"
+-- The cause behind an empty part: "where it is accepted the cause was 11".
 pub row-causes : (ruleRowCause exampleA 2 ≡ 0) × (ruleRowCause exampleA 3 ≡ 11) × (ruleRowCause (small 1 20 1 1 101) 3 ≡ 6)
 unfolding frameCause beAt schemeOf upTo tab causeWhere sizeOut startOut horizonOut ruleOut bandOut sumOut premiumOut anyBelow sumTo
 row-causes = (refl, refl, refl)
 
--- its bands in order
+-- Its bands in order.
 pub stored-a : storedBands exampleA ≡ Ends 800000000 900000000 ∷ Ends 100000000 200000000 ∷ Ends 0 50000000 ∷ []
 unfolding tab beAt
 stored-a = refl
 
--- the first 5 answers of a reader over it
+-- The first 5 answers of a reader over it.
 pub bands-a : answers (openPart exampleA) 5 0 ≡ Ends 800000000 900000000 ∷ Ends 100000000 200000000 ∷ Ends 0 50000000 ∷ NoMore ∷ NoMore ∷ []
 unfolding answers bandAt openPart frameCause beAt schemeOf upTo tab causeWhere sizeOut startOut horizonOut ruleOut bandOut sumOut premiumOut anyBelow sumTo
 bands-a = refl
 
--- the number and the values of its first answer, and past its last band
+-- The number and the values of its first answer, and past its last band.
 pub first-a :
     (handedOut (bandAt exampleA 0) ≡ 1) × (endsOf (bandAt exampleA 0) ≡ 800000000 ∷ 900000000 ∷ [])
     × (handedOut (bandAt exampleA 3) ≡ 0) × (endsOf (bandAt exampleA 3) ≡ [])
@@ -109,12 +109,12 @@ pub first-a :
 unfolding bandAt frameCause beAt schemeOf upTo tab causeWhere sizeOut startOut horizonOut ruleOut bandOut sumOut premiumOut anyBelow sumTo
 first-a = (refl, refl, refl, refl, refl, refl, refl, refl)
 
--- a reader over a declined record: an empty part, and no more
+-- A reader over a declined record: an empty part, and no more.
 pub none-declined : (openPart (small 1 20 1 1 101) ≡ []) × (bandAt (small 1 20 1 1 101) 0 ≡ NoMore)
 unfolding openPart bandAt frameCause beAt schemeOf upTo tab causeWhere sizeOut startOut horizonOut ruleOut bandOut sumOut premiumOut anyBelow sumTo
 none-declined = (refl, refl)
 
--- example A's scheme written into 50 bytes and into 44, and a scheme with cause 7: the length or the cause, and what the slice holds
+-- Example A's scheme written into 50 bytes and into 44, and a scheme with cause 7: the length or the cause, and what the slice holds.
 pub record Writings : Type 0 where
   pub length : writeAnswer schemeA (replicate 50 9) ≡ Written 45
   pub written : writeLeaves schemeA (replicate 50 9) ≡ exampleA ++ replicate 5 9
@@ -126,11 +126,11 @@ pub writings : Writings
 unfolding writeAnswer writeLeaves bytesOf headerBytes joined beBytes tab causeWhere sizeOut startOut horizonOut ruleOut bandOut sumOut premiumOut anyBelow sumTo
 writings = record { length = refl; written = refl; short = refl; left = refl; cause = refl }
 
--- the number and the value of each answer: 45 bytes written, and cause 13
+-- The number and the value of each answer: 45 bytes written, and cause 13.
 pub write-answers : (writeNumber (Written 45) ≡ 0) × (writtenLength (Written 45) ≡ 45) × (writeNumber (Declined 13) ≡ 13) × (writtenLength (Declined 13) ≡ 0)
 write-answers = (refl, refl, refl, refl)
 
--- example A's record read again has the values of its scheme; a refusal has not, nor has a scheme that starts elsewhere; and no byte is no record
+-- Example A's record read again has the values of its scheme; a refusal has not, nor has a scheme that starts elsewhere; and no byte is no record.
 pub record Rereadings : Type 0 where
   pub same : Reread schemeA (readAnswer exampleA)
   pub refused : Reread schemeA (record { number = 6; scheme = schemeA }) → ⊥

@@ -20,7 +20,7 @@ use Rattle.record_spec.specs.Read.{readCause, declinedWith, readAnswer}
 use Rattle.record_spec.specs.Write.{recordLength, writeCause, writeAnswer, writeLeaves}
 use Rattle.record_spec.specs.Laws.Joined.{bytes-same}
 
--- "every operation that makes a scheme sets them to 0": a reading of any bytes
+-- "every operation that makes a scheme sets them to 0": a reading of any bytes.
 pub read-cleared : (bytes : List ℕ) → cleared (readAnswer bytes .scheme) ≡ readAnswer bytes .scheme
 unfolding readAnswer
 read-cleared bytes = by (eqb (readCause bytes) 0)
@@ -32,7 +32,7 @@ read-cleared bytes = by (eqb (readCause bytes) 0)
     by true = made-cleared _ _ _ _ _ _ _ _
     by false = none-cleared
 
--- a writing answers the same for both schemes, and leaves the same in the slice
+-- A writing answers the same for both schemes, and leaves the same in the slice.
 pub record SameWriting (s s′ : Scheme) : Type 0 where
   pub answer : (out : List ℕ) → writeAnswer s out ≡ writeAnswer s′ out
   pub leaves : (out : List ℕ) → writeLeaves s out ≡ writeLeaves s′ out
@@ -60,10 +60,10 @@ alike-writing {s} {s′} w =
     values : (out : List ℕ) → writeCause s out ≡ 0 → SameValues s s′
     values out z = alike-values w (premiumOut s) (none out z)
 
--- schemes with the same values are written the same, or declined the same
+-- Schemes with the same values are written the same, or declined the same.
 pub same-writing : {s s′ : Scheme} → SameValues s s′ → SameWriting s s′
 same-writing v = alike-writing (same v)
 
--- "Values stored beyond s or m are ignored": every scheme, accepted or not, is written as with 0 for them
+-- "Values stored beyond s or m are ignored": every scheme, accepted or not, is written as with 0 for them.
 pub write-ignored : (s : Scheme) → SameWriting s (cleared s)
 write-ignored s = alike-writing (cleared-alike s)

@@ -6,36 +6,36 @@ use Rattle.scheme.specs.declared.Scheme.{Scheme}
 use Rattle.big_endian_spec.specs.Numbers.{beAt}
 use Rattle.scheme.specs.Stored.{schemeOf}
 
--- what the layouts of the versions differ in
+-- What the layouts of the versions differ in.
 pub record Layout : Type 0 where
-  -- what byte 0 holds
+  -- What byte 0 holds.
   pub version : ℕ
-  -- the header's length: the rules start there
+  -- The header's length: the rules start there.
   pub header : ℕ
-  -- how many bytes a premium has
+  -- How many bytes a premium has.
   pub width : ℕ
 
--- the length of the header, bytes 0 to 6
+-- The length of the header, bytes 0 to 6.
 abbrev pub HEADER : ℕ
 HEADER = 7
 
--- "Byte 0: version, 1.", the header, "premiums of 4 bytes"
+-- "Byte 0: version, 1.", the header, "premiums of 4 bytes".
 abbrev pub version1 : Layout
 version1 = record { version = 1; header = HEADER; width = 4 }
 
--- "Length = 7 + s × m + 8 × m + 4 × s"
+-- "Length = 7 + s × m + 8 × m + 4 × s".
 abbrev pub lengthOf : Layout → (s m : ℕ) → ℕ
 lengthOf y s m = y .header + s * m + 8 * m + y .width * s
 
--- "Then s × m rule bytes, class by class": the row of class i, counted from 0
+-- "Then s × m rule bytes, class by class": the row of class i, counted from 0.
 abbrev pub rowPlace : Layout → (m : ℕ) → (i : ℕ) → ℕ
 rowPlace y m i = y .header + i * m
 
--- "m bands of lower and upper, 4 bytes each": the band of column k
+-- "m bands of lower and upper, 4 bytes each": the band of column k.
 abbrev pub bandPlace : Layout → (s m : ℕ) → (k : ℕ) → ℕ
 bandPlace y s m k = y .header + s * m + k * 8
 
--- "s premiums of 4 bytes": the premium of class i, counted from 0
+-- "s premiums of 4 bytes": the premium of class i, counted from 0.
 abbrev pub premiumPlace : Layout → (s m : ℕ) → (i : ℕ) → ℕ
 premiumPlace y s m i = y .header + s * m + m * 8 + i * y .width
 
@@ -47,7 +47,7 @@ classesIn bytes = getD bytes 3 0
 abbrev pub columnsIn : List ℕ → ℕ
 columnsIn bytes = getD bytes 4 0
 
--- the scheme that stands in the bytes, with s classes and m columns
+-- The scheme that stands in the bytes, with s classes and m columns.
 abbrev pub schemeFrom : Layout → List ℕ → (s m : ℕ) → Scheme
 schemeFrom y bytes s m =
     schemeOf s m (getD bytes 5 0) (getD bytes 6 0)
@@ -56,6 +56,6 @@ schemeFrom y bytes s m =
     (λ k. beAt 4 bytes (bandPlace y s m k + 4))
     (λ i. beAt (y .width) bytes (premiumPlace y s m i))
 
--- the scheme that stands in the bytes: "Byte 5: start. Byte 6: horizon. Then s × m rule bytes … m bands … s premiums"
+-- The scheme that stands in the bytes: "Byte 5: start. Byte 6: horizon. Then s × m rule bytes … m bands … s premiums".
 abbrev pub schemeIn : Layout → List ℕ → Scheme
 schemeIn y bytes = schemeFrom y bytes (classesIn bytes) (columnsIn bytes)

@@ -10,33 +10,33 @@ use Rattle.big_endian_spec.specs.Numbers.{beAt}
 use Rattle.scheme.specs.Stored.{noScheme}
 use Rattle.record_spec.specs.Layout.{HEADER, version1, lengthOf, classesIn, columnsIn, schemeIn}
 
--- cause 1: "no byte, or byte 0 is not 1"
+-- Cause 1: "no byte, or byte 0 is not 1".
 abbrev pub versionCause : List ℕ → ℕ
 versionCause bytes = cond (eqb (length bytes) 0 || not (eqb (getD bytes 0 0) 1)) 1 0
 
--- cause 2: "under 7 bytes, or length field differs from bytes given"
+-- Cause 2: "under 7 bytes, or length field differs from bytes given".
 abbrev pub fieldCause : List ℕ → ℕ
 fieldCause bytes = cond (ltb (length bytes) HEADER || not (eqb (beAt 2 bytes 1) (length bytes))) 2 0
 
--- cause 4: "length differs from the formula"
+-- Cause 4: "length differs from the formula".
 abbrev pub lengthCause : (length s m : ℕ) → ℕ
 lengthCause length s m = cond (not (eqb length (lengthOf version1 s m))) 4 0
 
--- the first of the causes 1 to 4, or 0; cause 3 is that of s and m
+-- The first of the causes 1 to 4, or 0; cause 3 is that of s and m.
 unfoldable pub frameCause : List ℕ → ℕ
 frameCause bytes =
     orElse (orElse (versionCause bytes) (fieldCause bytes))
     (orElse (sizesCause (classesIn bytes) (columnsIn bytes)) (lengthCause (length bytes) (classesIn bytes) (columnsIn bytes)))
 
--- causes 1 to 4 by the bytes, then 5 to 10 by the scheme in them: "Tests run in number order; the first that applies is returned."
+-- Causes 1 to 4 by the bytes, then 5 to 10 by the scheme in them: "Tests run in number order; the first that applies is returned."
 abbrev pub readCause : List ℕ → ℕ
 readCause bytes = orElse (frameCause bytes) (causeOf (schemeIn version1 bytes))
 
--- a declined reading: the cause and a scheme of 0
+-- A declined reading: the cause and a scheme of 0.
 abbrev pub declinedWith : ℕ → ReadAnswer
 declinedWith number = record { number = number; scheme = noScheme }
 
--- the number 0 and the scheme, or the cause and a scheme of 0
+-- The number 0 and the scheme, or the cause and a scheme of 0.
 unfoldable pub readAnswer : List ℕ → ReadAnswer
 readAnswer bytes =
     cond (eqb (readCause bytes) 0)

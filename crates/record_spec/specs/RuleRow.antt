@@ -8,11 +8,11 @@ use Rattle.scheme.specs.Cause.{orElse, outside}
 use Rattle.record_spec.specs.Layout.{version1, rowPlace, classesIn, columnsIn}
 use Rattle.record_spec.specs.Read.{readCause}
 
--- "reading the record tells which cause, and where it is accepted the cause was 11"
+-- "reading the record tells which cause, and where it is accepted the cause was 11".
 abbrev pub ruleRowCause : List ℕ → ℕ → ℕ
 ruleRowCause bytes class = orElse (readCause bytes) (cond (outside (classesIn bytes) class) 11 0)
 
--- "m bytes from 7 + (class − 1) × m"; "an empty part for every cause"
+-- "m bytes from 7 + (class − 1) × m"; "an empty part for every cause".
 unfoldable pub ruleRow : List ℕ → ℕ → List ℕ
 ruleRow bytes class =
     cond (eqb (ruleRowCause bytes class) 0)

@@ -15,37 +15,37 @@ use Rattle.record_spec.specs.Layout.{version1, lengthOf}
 use Rattle.record_spec.specs.Read.{readAnswer}
 use Rattle.record_spec.specs.Bytes.{bytesOf}
 
--- the number of each answer: 0 where a record or a text was written
+-- The number of each answer: 0 where a record or a text was written.
 abbrev pub writeNumber : WriteAnswer → ℕ
 writeNumber (Written length) = 0
 writeNumber (Declined number) = number
 
--- the value of each answer: the length of what was written, and none where the call was declined
+-- The value of each answer: the length of what was written, and none where the call was declined.
 abbrev pub writtenLength : WriteAnswer → ℕ
 writtenLength (Written length) = length
 writtenLength (Declined number) = 0
 
--- the length of the scheme's record
+-- The length of the scheme's record.
 abbrev pub recordLength : Scheme → ℕ
 recordLength s = lengthOf version1 (s .classes) (s .columns)
 
--- causes 3 and 5 to 10 by the scheme, then cause 13: "writer's slice under the length"
+-- Causes 3 and 5 to 10 by the scheme, then cause 13: "writer's slice under the length".
 abbrev pub writeCause : Scheme → List ℕ → ℕ
 writeCause s out = orElse (causeOf s) (cond (ltb (length out) (recordLength s)) 13 0)
 
--- "The writer returns the length"
+-- "The writer returns the length".
 unfoldable pub writeAnswer : Scheme → List ℕ → WriteAnswer
 writeAnswer s out = cond (eqb (writeCause s out) 0) (Written (recordLength s)) (Declined (writeCause s out))
 
--- "and leaves bytes past it unchanged"; declined, all of them
+-- "and leaves bytes past it unchanged"; declined, all of them.
 unfoldable pub writeLeaves : Scheme → List ℕ → List ℕ
 writeLeaves s out = cond (eqb (writeCause s out) 0) (bytesOf version1 s ++ drop (recordLength s) out) out
 
--- "written and read, a scheme keeps each value it uses": reading answers no cause, and a scheme with the same values
+-- "written and read, a scheme keeps each value it uses": reading answers no cause, and a scheme with the same values.
 pub record Reread (s : Scheme) (answer : ReadAnswer) : Type 0 where
   pub number : answer .number ≡ 0
   pub values : SameValues s (answer .scheme)
 
--- what the answer promises of the first bytes of the slice afterwards, as many as it says
+-- What the answer promises of the first bytes of the slice afterwards, as many as it says.
 abbrev pub WritePromise : Scheme → (after : List ℕ) → WriteAnswer → Type 0
 WritePromise s after r = writeNumber r ≡ 0 → Reread s (readAnswer (take (writtenLength r) after))

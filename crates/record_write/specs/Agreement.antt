@@ -34,7 +34,7 @@ use Rattle.record_write.specs.Laws.Bytes.{length-header, length-bytes}
 use Rattle.record_write.specs.Laws.Write.{written, answer-number, answer-value}
 use Rattle.record_write.specs.Laws.Body.{body-put, rule-read, lower-read, upper-read, premium-read}
 
--- the seven bytes of the header, put after read
+-- The seven bytes of the header, put after read.
 header-put : (bytes : List ℕ) → Bytes bytes → Framed bytes → headerOf version1 (schemeIn version1 bytes) ≡ take HEADER bytes
 unfolding headerBytes schemeOf tab
 header-put bytes small f =
@@ -46,7 +46,7 @@ header-put bytes small f =
     ap₂ (λ a b. a ++ b) (ap₂ (λ a b. a ++ b) first field) last
     ∙ sym (take-add 3 4 bytes ∙ ap (λ l. l ++ take 4 (drop 3 bytes)) (take-add 1 2 bytes))
 
--- bytes without a cause are the record of the scheme in them
+-- Bytes without a cause are the record of the scheme in them.
 pub rewritten : (bytes : List ℕ) → Bytes bytes → readCause bytes ≡ 0 → bytesOf version1 (schemeIn version1 bytes) ≡ bytes
 unfolding bytesOf
 rewritten bytes small e =
@@ -57,7 +57,7 @@ rewritten bytes small e =
     ∙ ap₂ (λ a b. a ++ b) (header-put bytes small f) (body-put version1 bytes (classesIn bytes) (columnsIn bytes) small (f .classes) (f .columns) (f .whole))
     ∙ take-append-drop HEADER bytes
 
--- the record of an accepted scheme holds the scheme, with 0 beyond s and m
+-- The record of an accepted scheme holds the scheme, with 0 beyond s and m.
 module _ (s : Scheme) (accepted : causeOf s ≡ 0) where
   ok : Accepted s
   ok = accepted-cause s accepted
@@ -82,7 +82,7 @@ module _ (s : Scheme) (accepted : causeOf s ≡ 0) where
         whole = size;
       }
 
-  -- the values stand where the layout says
+  -- The values stand where the layout says.
   rule-at : (i k : ℕ) → i < s .classes → k < s .columns → getD (bytesOf version1 s) (rowPlace version1 (s .columns) i + k) 0 ≡ ruleAt s i k
   rule-at i k is ks = ap (λ l. getD l (rowPlace version1 (s .columns) i + k) 0) split ∙ rule-read version1 s (headerOf version1 s) (length-header version1 s) i k is ks
 
@@ -113,19 +113,19 @@ module _ (s : Scheme) (accepted : causeOf s ≡ 0) where
   pub reread-answer : readAnswer (bytesOf version1 s) ≡ record { number = 0; scheme = cleared s }
   reread-answer = sym (ap (λ x. record { number = 0; scheme = x }) (sym reread) ∙ answer-scheme (bytesOf version1 s) (sym reread-cause) refl)
 
-  -- what the writer leaves begins with that record
+  -- What the writer leaves begins with that record.
   pub written-record : (out : List ℕ) → recordLength s ≤ length out → take (recordLength s) (writeLeaves s out) ≡ bytesOf version1 s
   written-record out fits =
       rw (← (written s out accepted refl fits refl .1)) (take-at (bytesOf version1 s) (drop (recordLength s) out) (recordLength s) (length-bytes version1 s refl))
 
-  -- "written and read, a scheme keeps each value it uses": start, horizon, and every rule, band and premium up to s and m
+  -- "written and read, a scheme keeps each value it uses": start, horizon, and every rule, band and premium up to s and m.
   pub kept-values : (out : List ℕ) → recordLength s ≤ length out
       → (readAnswer (take (recordLength s) (writeLeaves s out)) .number ≡ 0) × SameValues s (readAnswer (take (recordLength s) (writeLeaves s out)) .scheme)
   kept-values out fits =
       let e : readAnswer (take (recordLength s) (writeLeaves s out)) ≡ record { number = 0; scheme = cleared s } = ap readAnswer (written-record out fits) ∙ reread-answer in
       rw e (refl, cleared-values s (ok .size))
 
--- the answer of a writing keeps its promise
+-- The answer of a writing keeps its promise.
 pub write-kept : (s : Scheme) (out : List ℕ) → WritePromise s (writeLeaves s out) (writeAnswer s out)
 write-kept s out e =
     let none : writeCause s out ≡ 0 = sym (answer-number s out) ∙ e in
@@ -134,12 +134,12 @@ write-kept s out e =
     let kept = kept-values s accepted out fits in
     rw (answer-value s out none) (record { number = kept .0; values = kept .1 })
 
--- with what is answered and left
+-- With what is answered and left.
 pub keeps : (s : Scheme) (out : List ℕ) {after : List ℕ} {r : WriteAnswer} → (r ≡ writeAnswer s out) × (after ≡ writeLeaves s out)
     → (r ≡ writeAnswer s out) × ((after ≡ writeLeaves s out) × WritePromise s after r)
 keeps s out (e, f) = (e, (f, rw (e, f) (write-kept s out)))
 
--- writing the scheme that was read gives the bytes again
+-- Writing the scheme that was read gives the bytes again.
 pub copied : (bytes out : List ℕ) → Bytes bytes → readCause bytes ≡ 0 → length bytes ≤ length out
     → writeLeaves (schemeIn version1 bytes) out ≡ bytes ++ drop (length bytes) out
 unfolding schemeOf

@@ -16,7 +16,7 @@ use record_spec::HEADER;
 use record_spec::NUMBER_WIDTH;
 use scheme::Scheme;
 
-// puts the header
+// Puts the header.
 fn header(out: &mut [u8], size: usize, s: u8, m: u8, start: u8, horizon: u8)
     requires { ⌜ (HEADER ≤ length (now out)) × (size ≤ 455) ⌝ }
     ensures { λ _. ⌜ now (out .exit) ≡ sets (now (out .entry)) 0 (headerBytes 1 size s m start horizon) ⌝ }
@@ -29,7 +29,7 @@ fn header(out: &mut [u8], size: usize, s: u8, m: u8, start: u8, horizon: u8)
     out[6] = horizon;
 }
 
-// puts the rules of s classes and m columns, class by class, from place `from` on
+// Puts the rules of s classes and m columns, class by class, from place `from` on.
 fn rules(out: &mut [u8], from: usize, rules: &[u8; 256], s: usize, m: usize)
     requires { ⌜ (from + s * m ≤ length (now out)) × (s ≤ 32) × (m ≤ 8) ⌝ }
     ensures { λ _. ⌜ now (out .exit) ≡ sets (now (out .entry)) from (joined s (λ i. tab m (λ k. getD (now (rules .entry)) (i * 8 + k) 0))) ⌝ }
@@ -45,7 +45,7 @@ fn rules(out: &mut [u8], from: usize, rules: &[u8; 256], s: usize, m: usize)
     }
 }
 
-// puts a band, lower and upper
+// Puts a band, lower and upper.
 fn put_band(out: &mut [u8], at: usize, lower: u32, upper: u32)
     requires { ⌜ at + 8 ≤ length (now out) ⌝ }
     ensures { λ _. ⌜ now (out .exit) ≡ sets (now (out .entry)) at (bandBytes lower upper) ⌝ }
@@ -54,7 +54,7 @@ fn put_band(out: &mut [u8], at: usize, lower: u32, upper: u32)
     big_endian::put_number(out, at + NUMBER_WIDTH, NUMBER_WIDTH, upper);
 }
 
-// puts m bands, lower and upper, from place `from` on
+// Puts m bands, lower and upper, from place `from` on.
 fn bands(out: &mut [u8], from: usize, lowers: &[u32; 8], uppers: &[u32; 8], m: usize)
     requires { ⌜ (from + m * 8 ≤ length (now out)) × (m ≤ 8) ⌝ }
     ensures { λ _. ⌜ now (out .exit) ≡ sets (now (out .entry)) from (joined m (λ k. bandBytes (getD (now (lowers .entry)) k 0) (getD (now (uppers .entry)) k 0))) ⌝ }
@@ -68,7 +68,7 @@ fn bands(out: &mut [u8], from: usize, lowers: &[u32; 8], uppers: &[u32; 8], m: u
     }
 }
 
-// puts s premiums, from place `from` on
+// Puts s premiums, from place `from` on.
 fn premiums(out: &mut [u8], from: usize, premiums: &[u32; 32], s: usize)
     requires { ⌜ (from + s * 4 ≤ length (now out)) × (s ≤ 32) ⌝ }
     ensures { λ _. ⌜ now (out .exit) ≡ sets (now (out .entry)) from (joined s (λ i. beBytes 4 (getD (now (premiums .entry)) i 0))) ⌝ }
@@ -82,7 +82,7 @@ fn premiums(out: &mut [u8], from: usize, premiums: &[u32; 32], s: usize)
     }
 }
 
-// puts the whole record of a scheme, of `size` bytes
+// Puts the whole record of a scheme, of `size` bytes.
 pub fn whole(scheme: Scheme, out: &mut [u8], size: usize)
     requires { ⌜ SizeFits scheme × (size ≡ recordLength scheme) × (size ≤ length (now out)) ⌝ }
     ensures { λ _. ⌜ now (out .exit) ≡ bytesOf version1 scheme ++ drop size (now (out .entry)) ⌝ }

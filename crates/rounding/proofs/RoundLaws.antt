@@ -7,7 +7,7 @@ use native.Mathlib.Omega.{arith}
 use Rattle.setchain.specs.Rows.{ONE}
 use Rattle.setchain.specs.Step.{rounded}
 
--- whole units, and a part of one more
+-- Whole units, and a part of one more.
 pub rounded-down : (high : Bool) (x : ℕ) → not high ≡ true → x / ONE ≡ rounded high x
 rounded-down false x e = refl
 rounded-down true x e = absurd (true≢false (sym e))

@@ -9,15 +9,15 @@ use Rattle.scheme.specs.declared.RowAnswer.{RowAnswer}
 use Rattle.scheme.specs.Tables.{tab}
 use Rattle.scheme.specs.SumByTarget.{sumByTarget}
 
--- the entries of 32 classes that some rules make with their bands' ends: 0 beyond s
+-- The entries of 32 classes that some rules make with their bands' ends: 0 beyond s.
 unfoldable pub entriesOf : List ℕ → List ℕ → ℕ → List ℕ
 entriesOf rules ends classes = tab 32 (λ j. onlyIf (ltb j classes) (sumByTarget rules ends j))
 
--- the rules of class i + 1: eight stand for each class, of which as many count as there are columns
+-- The rules of class i + 1: eight stand for each class, of which as many count as there are columns.
 abbrev pub classRules : ℕ → List ℕ → ℕ → List ℕ
 classRules columns rules i = take columns (drop (i * 8) rules)
 
--- the row of class i + 1 that the code makes of a scheme's parts
+-- The row of class i + 1 that the code makes of a scheme's parts.
 abbrev pub rowFrom : List ℕ → List ℕ → List ℕ → ℕ → ℕ → ℕ → RowAnswer
 rowFrom rules lowers uppers columns classes i =
     record {
@@ -26,6 +26,6 @@ rowFrom rules lowers uppers columns classes i =
       upper = entriesOf (classRules columns rules i) (take columns uppers) classes;
     }
 
--- a slice after a row is copied into it: the row where it is of the row's length, and otherwise what it held
+-- A slice after a row is copied into it: the row where it is of the row's length, and otherwise what it held.
 abbrev pub copiedInto : (row before : List ℕ) → List ℕ
 copiedInto row before = cond (eqb (length before) (length row)) row before

@@ -31,7 +31,7 @@ pub fn row(scheme: Scheme, class: u64) -> RowAnswer
 
 // The entries that the cells of one class make, over slices.
 
-// b more than a, at most ONE
+// b more than a, at most ONE.
 fn add_capped(a: u64, b: u32) -> u64
     requires { ⌜ a ≤ ONE ⌝ }
     ensures { λ r. ⌜ r ≡ min ONE (a + b) ⌝ }
@@ -44,7 +44,7 @@ fn add_capped(a: u64, b: u32) -> u64
     }
 }
 
-// the entry of the class that a rule leads to, with the end of its band added
+// The entry of the class that a rule leads to, with the end of its band added.
 fn add_to_target(out: &mut [u64], rule: u8, end: u32)
     requires { ⌜ Capped (now out) ⌝ }
     ensures { λ r. ⌜ now (out .exit) ≡ addedToTarget (now (out .entry)) rule end ⌝ }
@@ -60,7 +60,7 @@ fn add_to_target(out: &mut [u64], rule: u8, end: u32)
     out[place] = add_capped(out[place], end);
 }
 
-// 0 everywhere
+// 0 everywhere.
 fn clear(out: &mut [u64])
     ensures { λ r. ⌜ now (out .exit) ≡ replicate (length (now (out .entry))) 0 ⌝ }
 {
@@ -71,7 +71,7 @@ fn clear(out: &mut [u64])
     }
 }
 
-// the smaller of two lengths
+// The smaller of two lengths.
 fn shorter(a: usize, b: usize) -> usize
     ensures { λ r. ⌜ r ≡ min a b ⌝ }
 {
@@ -91,7 +91,7 @@ pub fn sum_by_target(rules: &[u8], band: &[u32], out: &mut [u64])
     }
 }
 
-// a less b, and 0 where b is more
+// A less b, and 0 where b is more.
 fn less(a: u64, b: u64) -> u64
     ensures { λ r. ⌜ r ≡ a - b ⌝ }
 {

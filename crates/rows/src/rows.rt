@@ -17,7 +17,7 @@ pub fn entries(rules: &[u8], ends: &[u32], classes: u8) -> [u64; 32]
     out
 }
 
-// a refusal number, with 0 everywhere else
+// A refusal number, with 0 everywhere else.
 pub fn refused(number: u8) -> RowAnswer
     ensures { λ r. ⌜ r ≡ rowRefused number ⌝ }
 {
@@ -29,7 +29,7 @@ pub fn refused(number: u8) -> RowAnswer
     }
 }
 
-// the row of a class of an accepted scheme, from the scheme's parts
+// The row of a class of an accepted scheme, from the scheme's parts.
 pub fn answered(
     rules: [u8; 256],
     lowers: [u32; 8],

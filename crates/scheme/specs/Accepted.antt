@@ -5,42 +5,42 @@ use Rattle.setchain.specs.Rows.{ONE}
 use Rattle.scheme.specs.declared.Scheme.{Scheme}
 use Rattle.scheme.specs.Access.{cellCount, ruleAt, lowerAt, upperAt, premiumAt}
 
--- "s classes, 1 to 32 …; m claim columns, 1 to 8"
+-- "s classes, 1 to 32 …; m claim columns, 1 to 8".
 pub record SizeFits (s : Scheme) : Type 0 where
   pub someClass : 1 ≤ s .classes
   pub classes : s .classes ≤ 32
   pub someColumn : 1 ≤ s .columns
   pub columns : s .columns ≤ 8
 
--- "a start class, 1 to s"
+-- "a start class, 1 to s".
 pub record StartFits (s : Scheme) : Type 0 where
   pub positive : 1 ≤ s .start
   pub within : s .start ≤ s .classes
 
--- "a horizon of 0 to 100 years"
+-- "a horizon of 0 to 100 years".
 pub record HorizonFits (s : Scheme) : Type 0 where
   pub within : s .horizon ≤ 100
 
--- "a rule for each class and column: the next class, 1 to s"
+-- "a rule for each class and column: the next class, 1 to s".
 pub record RulesFit (s : Scheme) : Type 0 where
   pub positive : (i k : ℕ) → i < s .classes → k < cellCount s → 1 ≤ ruleAt s i k
   pub within : (i k : ℕ) → i < s .classes → k < cellCount s → ruleAt s i k ≤ s .classes
 
--- "for each column a band, lower ≤ upper ≤ ONE"
+-- "for each column a band, lower ≤ upper ≤ ONE".
 pub record BandsFit (s : Scheme) : Type 0 where
   pub ordered : (i k : ℕ) → i < s .classes → k < cellCount s → lowerAt s i k ≤ upperAt s i k
   pub capped : (i k : ℕ) → i < s .classes → k < cellCount s → upperAt s i k ≤ ONE
 
--- "with sum of lowers ≤ ONE ≤ sum of uppers"
+-- "with sum of lowers ≤ ONE ≤ sum of uppers".
 pub record SumsFit (s : Scheme) : Type 0 where
   pub lowers : (i : ℕ) → i < s .classes → sumTo (cellCount s) (lowerAt s i) ≤ ONE
   pub uppers : (i : ℕ) → i < s .classes → ONE ≤ sumTo (cellCount s) (upperAt s i)
 
--- "a premium for each class, 0 to 10,000,000 cents"
+-- "a premium for each class, 0 to 10,000,000 cents".
 pub record PremiumsFit (s : Scheme) : Type 0 where
   pub within : (i : ℕ) → i < s .classes → premiumAt s i ≤ 10000000
 
--- "A scheme is accepted exactly when this list holds"
+-- "A scheme is accepted exactly when this list holds".
 pub record Accepted (s : Scheme) : Type 0 where
   pub size : SizeFits s
   pub start : StartFits s
@@ -50,7 +50,7 @@ pub record Accepted (s : Scheme) : Type 0 where
   pub sums : SumsFit s
   pub premiums : PremiumsFit s
 
--- a scheme with a cause from document 01's table: that cause holds, and none of a smaller number
+-- A scheme with a cause from document 01's table: that cause holds, and none of a smaller number.
 pub data Refused (s : Scheme) : ℕ → Type 0 where
   size : ¬ SizeFits s → Refused s 3
   start : SizeFits s → ¬ StartFits s → Refused s 5

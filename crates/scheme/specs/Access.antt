@@ -4,22 +4,22 @@ use Prim.Native.Nat.{ℕ, _+_, _*_}
 use lib.ListN.{getD}
 use Rattle.scheme.specs.declared.Scheme.{Scheme}
 
--- how many cells a class has
+-- How many cells a class has.
 abbrev pub cellCount : Scheme → ℕ
 cellCount s = s .columns
 
--- the next class, 1 to s, that cell k of class i leads to
+-- The next class, 1 to s, that cell k of class i leads to.
 abbrev pub ruleAt : Scheme → ℕ → ℕ → ℕ
 ruleAt s i k = getD (s .rules) (i * 8 + k) 0
 
--- the lower end of the band of cell k of class i: all classes share their bands
+-- The lower end of the band of cell k of class i: all classes share their bands.
 abbrev pub lowerAt : Scheme → ℕ → ℕ → ℕ
 lowerAt s i k = getD (s .lowers) k 0
 
--- the upper end
+-- The upper end.
 abbrev pub upperAt : Scheme → ℕ → ℕ → ℕ
 upperAt s i k = getD (s .uppers) k 0
 
--- the premium of class i
+-- The premium of class i.
 abbrev pub premiumAt : Scheme → ℕ → ℕ
 premiumAt s i = getD (s .premiums) i 0

@@ -14,7 +14,7 @@ use Rattle.scheme.specs.Stored.{upTo, schemeOf, cleared}
 use Rattle.scheme.specs.Values.{SameValues}
 use Rattle.scheme.specs.Examples.{padded, schemeA}
 
--- Example A with another size, start or horizon, and other values in its last class and column
+-- Example A with another size, start or horizon, and other values in its last class and column.
 abbrev pub otherA : (classes columns start horizon rule lower upper premium : ℕ) → Scheme
 otherA classes columns start horizon rule lower upper premium =
     record {
@@ -28,7 +28,7 @@ otherA classes columns start horizon rule lower upper premium =
       premiums = padded 30 (10000 ∷ premium ∷ []);
     }
 
--- one value changed up to s and m: not the same values
+-- One value changed up to s and m: not the same values.
 pub record ChangedA : Type 0 where
   pub none : otherA 2 3 2 2 2 0 50000000 15000 ≡ schemeA
   pub classes : ¬ SameValues schemeA (otherA 1 3 2 2 2 0 50000000 15000)
@@ -54,7 +54,7 @@ changed-a =
       premium = λ v. omega (arith, v .premiums 1 (omega arith));
     }
 
--- Example A with values that would be refused at every place beyond its two classes and three columns
+-- Example A with values that would be refused at every place beyond its two classes and three columns.
 abbrev pub strayA : Scheme
 strayA =
     record {
@@ -68,22 +68,22 @@ strayA =
       premiums = (10000 ∷ 15000 ∷ []) ++ replicate 30 10000001;
     }
 
--- they are ignored
+-- They are ignored.
 pub accepted-a : causeOf strayA ≡ 0
 unfolding causeWhere sizeOut startOut horizonOut ruleOut bandOut sumOut premiumOut anyBelow sumTo
 accepted-a = refl
 
--- with 0 for them it is Example A
+-- With 0 for them it is Example A.
 pub cleared-a : cleared strayA ≡ schemeA
 unfolding schemeOf upTo tab
 cleared-a = refl
 
--- what holds for three columns
+-- What holds for three columns.
 three : (P : ℕ → Type 0) → P 0 → P 1 → P 2 → (k : ℕ) → k < 3 → P k
 three P a b c zero l = a
 three P a b c (suc k) l = below-two (λ j. P (suc j)) b c k (omega arith)
 
--- and its values are Example A's
+-- And its values are Example A's.
 pub beyond-a : SameValues strayA schemeA
 beyond-a =
     record {

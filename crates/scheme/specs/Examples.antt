@@ -10,11 +10,11 @@ use Rattle.scheme.specs.Cause.{sizeOut, startOut, horizonOut, ruleOut, b
 use Rattle.scheme.specs.Rows.{chainOf}
 use Rattle.scheme.specs.Stored.{noScheme}
 
--- numbers followed by 0 up to a length
+-- Numbers followed by 0 up to a length.
 abbrev pub padded : ℕ → List ℕ → List ℕ
 padded rest l = l ++ replicate rest 0
 
--- Example A: two classes, three columns, start 2, horizon 2
+-- Example A: two classes, three columns, start 2, horizon 2.
 abbrev pub schemeA : Scheme
 schemeA =
     record {
@@ -41,7 +41,7 @@ unfolding causeWhere sizeOut startOut horizonOut ruleOut bandOut sumOut premiumO
 rows-a =
     record { accepted = refl; lower1 = (refl, refl); upper1 = (refl, refl); lower2 = (refl, refl); upper2 = (refl, refl) }
 
--- a scheme of one class and one column
+-- A scheme of one class and one column.
 abbrev pub single : (rule lower upper premium : ℕ) → Scheme
 single rule lower upper premium =
     record {
@@ -55,7 +55,7 @@ single rule lower upper premium =
       premiums = padded 31 (premium ∷ []);
     }
 
--- several causes at once: the smallest number is returned; and the edges of the ranges
+-- Several causes at once: the smallest number is returned; and the edges of the ranges.
 pub record CausesInOrder : Type 0 where
   pub rule : causeOf (single 2 1000000002 1000000001 10000001) ≡ 7
   pub band : causeOf (single 1 1000000002 1000000001 10000001) ≡ 8
@@ -67,7 +67,7 @@ pub causes-in-order : CausesInOrder
 unfolding causeWhere sizeOut startOut horizonOut ruleOut bandOut sumOut premiumOut anyBelow sumTo
 causes-in-order = record { rule = refl; band = refl; sums = refl; premium = refl; none = refl }
 
--- "number only": what stands beside it is 0 in every place
+-- "number only": what stands beside it is 0 in every place.
 pub record NoScheme : Type 0 where
   pub form : (noScheme .classes ≡ 0) × (noScheme .columns ≡ 0) × (noScheme .start ≡ 0) × (noScheme .horizon ≡ 0)
   pub stored : (noScheme .rules ≡ padded 256 []) × (noScheme .lowers ≡ padded 8 []) × (noScheme .uppers ≡ padded 8 []) × (noScheme .premiums ≡ padded 32 [])

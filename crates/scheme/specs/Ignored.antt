@@ -14,7 +14,7 @@ use Rattle.scheme.specs.RowAnswer.{rowCause, rowRefused, rowAt, rowAnswe
 use Rattle.scheme.specs.Laws.Cause.{first-none, second-none, class-fits, by-cause}
 use Rattle.scheme.specs.Laws.Values.{Alike, same, alike-cause, alike-values, alike-next, cleared-alike, class-same, row-same}
 
--- "Values stored beyond s or m are ignored": every scheme, accepted or not, has the same first cause as with 0 for them
+-- "Values stored beyond s or m are ignored": every scheme, accepted or not, has the same first cause as with 0 for them.
 pub cause-ignored : (s : Scheme) → causeOf s ≡ causeOf (cleared s)
 cause-ignored s = alike-cause (cleared-alike s)
 
@@ -36,10 +36,10 @@ alike-row {s} {s′} w class =
     cause : rowCause s class ≡ rowCause s′ class
     cause = alike-next w (λ v. class-same v class)
 
--- schemes with the same values have the same rows, declined or not
+-- Schemes with the same values have the same rows, declined or not.
 pub same-row : {s s′ : Scheme} → SameValues s s′ → (class : ℕ) → rowAnswer s class ≡ rowAnswer s′ class
 same-row v = alike-row (same v)
 
--- "Values stored beyond s or m are ignored": every scheme, accepted or not, has the same rows as with 0 for them
+-- "Values stored beyond s or m are ignored": every scheme, accepted or not, has the same rows as with 0 for them.
 pub row-ignored : (s : Scheme) (class : ℕ) → rowAnswer s class ≡ rowAnswer (cleared s) class
 row-ignored s = alike-row (cleared-alike s)

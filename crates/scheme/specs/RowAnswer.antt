@@ -10,15 +10,15 @@ use Rattle.scheme.specs.Tables.{tab}
 use Rattle.scheme.specs.Cause.{causeOf, orElse, classCause}
 use Rattle.scheme.specs.Rows.{chainOf}
 
--- the cause of the row operation: 3, 5 to 10, then 11
+-- The cause of the row operation: 3, 5 to 10, then 11.
 abbrev pub rowCause : Scheme → ℕ → ℕ
 rowCause s class = orElse (causeOf s) (classCause s class)
 
--- a refusal: the number, and 0 everywhere else
+-- A refusal: the number, and 0 everywhere else.
 abbrev pub rowRefused : ℕ → RowAnswer
 rowRefused number = record { number = number; lower = replicate 32 0; upper = replicate 32 0 }
 
--- the row of class i + 1, 0 beyond s
+-- The row of class i + 1, 0 beyond s.
 unfoldable pub rowAt : Scheme → ℕ → RowAnswer
 rowAt s i =
     record {
@@ -27,6 +27,6 @@ rowAt s i =
       upper = tab 32 (λ j. onlyIf (ltb j (s .classes)) (chainOf s .row i .upper j));
     }
 
--- "The row of a queried class is public, lower and upper, with 0 beyond s"; declined: the number, and 0 everywhere
+-- "The row of a queried class is public, lower and upper, with 0 beyond s"; declined: the number, and 0 everywhere.
 abbrev pub rowAnswer : Scheme → ℕ → RowAnswer
 rowAnswer s class = cond (eqb (rowCause s class) 0) (rowAt s (class - 1)) (rowRefused (rowCause s class))

@@ -9,7 +9,7 @@ use Rattle.scheme.specs.Examples.{padded, schemeA, single}
 use Rattle.scheme.specs.declared.RowAnswer.{RowAnswer}
 use Rattle.scheme.specs.RowAnswer.{rowRefused, rowAt, rowAnswer}
 
--- the answer with these entries, and 0 beyond
+-- The answer with these entries, and 0 beyond.
 abbrev pub answerOf : (lower upper : List ℕ) → RowAnswer
 answerOf lower upper = record { number = 0; lower = padded 30 lower; upper = padded 30 upper }
 

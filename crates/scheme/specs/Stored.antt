@@ -7,15 +7,15 @@ use Rattle.scheme.specs.declared.Scheme.{Scheme}
 use Rattle.scheme.specs.Tables.{tab}
 use Rattle.scheme.specs.Access.{ruleAt, lowerAt, upperAt, premiumAt}
 
--- f at an index below n, and 0 beyond
+-- f at an index below n, and 0 beyond.
 unfoldable pub upTo : ℕ → (ℕ → ℕ) → ℕ → ℕ
 upTo n f k = cond (ltb k n) (f k) 0
 
--- where the rules are stored: class q / 8 and column q mod 8 at place q
+-- Where the rules are stored: class q / 8 and column q mod 8 at place q.
 abbrev pub rulesUpTo : (s m : ℕ) → (ℕ → ℕ → ℕ) → ℕ → ℕ
 rulesUpTo s m rule q = upTo s (λ i. upTo m (rule i) (q % 8)) (q / 8)
 
--- "every operation that makes a scheme sets them to 0": the scheme of these values, with 0 stored beyond s and m
+-- "every operation that makes a scheme sets them to 0": the scheme of these values, with 0 stored beyond s and m.
 unfoldable pub schemeOf : (s m start horizon : ℕ) → (rule : ℕ → ℕ → ℕ) → (lower upper premium : ℕ → ℕ) → Scheme
 schemeOf s m start horizon rule lower upper premium = record {
   classes = s;
@@ -28,11 +28,11 @@ schemeOf s m start horizon rule lower upper premium = record {
   premiums = tab 32 (upTo s premium);
 }
 
--- "Values stored beyond s or m are ignored": a scheme with 0 for them
+-- "Values stored beyond s or m are ignored": a scheme with 0 for them.
 abbrev pub cleared : Scheme → Scheme
 cleared s = schemeOf (s .classes) (s .columns) (s .start) (s .horizon) (ruleAt s) (lowerAt s 0) (upperAt s 0) (premiumAt s)
 
--- "number only" (document 01, "When a call is declined"): a scheme all 0 beside it
+-- "number only" (document 01, "When a call is declined"): a scheme all 0 beside it.
 unfoldable pub noScheme : Scheme
 noScheme = record {
   classes = 0;

@@ -4,7 +4,7 @@ use mathlib.Core.Path.{_≡_}
 use Rattle.scheme.specs.declared.Scheme.{Scheme}
 use Rattle.scheme.specs.Access.{cellCount, ruleAt, lowerAt, upperAt, premiumAt}
 
--- "Values stored beyond s or m are ignored": every other value is the same
+-- "Values stored beyond s or m are ignored": every other value is the same.
 pub record SameValues (s s′ : Scheme) : Type 0 where
   pub classes : s .classes ≡ s′ .classes
   pub columns : s .columns ≡ s′ .columns

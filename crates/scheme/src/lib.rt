@@ -42,21 +42,21 @@ pub const SLICE_OUT: u8 = 13;
 
 // A bonus-malus scheme. What is stored beyond `classes` or `columns` is ignored.
 pub struct Scheme {
-    // s, the number of classes
+    // s, the number of classes.
     pub classes: u8,
-    // m, the number of claim columns
+    // m, the number of claim columns.
     pub columns: u8,
-    // the start class
+    // The start class.
     pub start: u8,
-    // the horizon in years
+    // The horizon in years.
     pub horizon: u8,
-    // the next class: of class i and column k at (i - 1) * 8 + k
+    // The next class: of class i and column k at (i - 1) * 8 + k.
     pub rules: [u8; 256],
-    // the lower end of each column's band, in parts
+    // The lower end of each column's band, in parts.
     pub lowers: [u32; 8],
-    // the upper end of each column's band, in parts
+    // The upper end of each column's band, in parts.
     pub uppers: [u32; 8],
-    // the premium of class i at i - 1, in cents
+    // The premium of class i at i - 1, in cents.
     pub premiums: [u32; 32],
 }
 

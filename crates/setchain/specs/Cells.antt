@@ -4,14 +4,14 @@ use lib.Dec.{eqb}
 use Rattle.setchain.specs.Sums.{sumTo, onlyIf}
 use Rattle.setchain.specs.Rows.{ONE, IntervalRow}
 
--- the cells of one state, by number: where each leads, and the lower and upper end of its band
+-- The cells of one state, by number: where each leads, and the lower and upper end of its band.
 pub record Cells : Type 0 where
   pub count : ℕ
   pub target : ℕ → ℕ
   pub lower : ℕ → ℕ
   pub upper : ℕ → ℕ
 
--- the sum of `band` over all cells that lead to state j; no cell gives 0
+-- The sum of `band` over all cells that lead to state j; no cell gives 0.
 abbrev pub sumInto : Cells → (ℕ → ℕ) → ℕ → ℕ
 sumInto c band j = sumTo (c .count) (λ k. onlyIf (eqb (c .target k) j) (band k))
 
@@ -19,7 +19,7 @@ sumInto c band j = sumTo (c .count) (λ k. onlyIf (eqb (c .target k) j) (band k)
 abbrev pub rowOf : Cells → IntervalRow
 rowOf c = record { lower = sumInto c (c .lower); upper = λ j. min ONE (sumInto c (c .upper) j) }
 
--- cells over n states whose bands are in order and whose sums enclose ONE (document 01, "Units and the scheme")
+-- Cells over n states whose bands are in order and whose sums enclose ONE (document 01, "Units and the scheme").
 pub record SoundCells (n : ℕ) (c : Cells) : Type 0 where
   pub leads : (k : ℕ) → k < c .count → c .target k < n
   pub ordered : (k : ℕ) → k < c .count → c .lower k ≤ c .upper k

@@ -12,18 +12,18 @@ use Rattle.setchain.specs.Step.{rounded, capacityBefore, fillRow, stepFi
 use Rattle.setchain.specs.Years.{yearsFigure, lowShare, highShare, lowMean, highMean, lowTotal, highTotal}
 use Rattle.setchain.specs.Picks.{Matrix, product, exactMean, exactTotal}
 
--- a list read by state
+-- A list read by state.
 abbrev pub from : List ℕ → ℕ → ℕ
 from l j = getD l j 0
 
--- "Row lower .1 .2 .3, upper .5 .6 .4 of ONE, payoff 30 10 20"
+-- "Row lower .1 .2 .3, upper .5 .6 .4 of ONE, payoff 30 10 20".
 abbrev pub uppers : ℕ → ℕ
 uppers = from (500000000 ∷ 600000000 ∷ 400000000 ∷ [])
 
 abbrev pub exampleRow : IntervalRow
 exampleRow = record { lower = from (100000000 ∷ 200000000 ∷ 300000000 ∷ []); upper = uppers }
 
--- "Lower all 0"
+-- "Lower all 0".
 abbrev pub bareRow : IntervalRow
 bareRow = record { lower = from (0 ∷ 0 ∷ 0 ∷ []); upper = uppers }
 
@@ -40,11 +40,11 @@ pub step-examples : StepExamples
 unfolding stepFigure fillRow capacityBefore sumTo onlyIf
 step-examples = record { low = refl; high = refl; bareLow = refl; bareHigh = refl }
 
--- one part more than two units, and two units: down, and up
+-- One part more than two units, and two units: down, and up.
 pub rounded-examples : (rounded false 2000000001 ≡ 2) × (rounded true 2000000001 ≡ 3) × (rounded false 2000000000 ≡ 2) × (rounded true 2000000000 ≡ 2)
 rounded-examples = (refl, refl, refl, refl)
 
--- Example A's class 1: the first two columns lead to class 1 and are summed, also the upper ends, which are held to ONE; the third leads to class 2
+-- Example A's class 1: the first two columns lead to class 1 and are summed, also the upper ends, which are held to ONE; the third leads to class 2.
 abbrev cellsA : Cells
 cellsA =
     record {
@@ -63,14 +63,14 @@ pub merged-columns : MergedColumns
 unfolding sumTo onlyIf
 merged-columns = record { lower = (refl, refl); upper = (refl, refl); none = (refl, refl) }
 
--- from state 0: half stays in the first year, and all return to state 0 in the second
+-- From state 0: half stays in the first year, and all return to state 0 in the second.
 abbrev spread : Matrix
 spread i = record { over = 2; entry = from (1 ∷ 1 ∷ []) }
 
 abbrev gathering : Matrix
 gathering i = record { over = 1; entry = from (1 ∷ 0 ∷ []) }
 
--- first year leftmost: spread, then gathered, leaves all in state 0; gathered, then spread, leaves half
+-- First year leftmost: spread, then gathered, leaves all in state 0; gathered, then spread, leaves half.
 pub record OrderExample : Type 0 where
   pub gathered : product 2 (spread ∷ gathering ∷ []) 0 0 .num ≡ product 2 (spread ∷ gathering ∷ []) 0 0 .den
   pub spreadOut : product 2 (gathering ∷ spread ∷ []) 0 0 .num * 2 ≡ product 2 (gathering ∷ spread ∷ []) 0 0 .den
@@ -79,7 +79,7 @@ pub order-example : OrderExample
 unfolding product sumFractions onlyIf
 order-example = record { gathered = refl; spreadOut = refl }
 
--- the total of two premiums 10 and 20 over the same picks: 10 in year 0 and 15 in year 1
+-- The total of two premiums 10 and 20 over the same picks: 10 in year 0 and 15 in year 1.
 pub record TotalExample : Type 0 where
   pub total : exactTotal 2 (from (10 ∷ 20 ∷ [])) (spread ∷ gathering ∷ []) 0 .num ≡ 25 * exactTotal 2 (from (10 ∷ 20 ∷ [])) (spread ∷ gathering ∷ []) 0 .den
 
@@ -87,7 +87,7 @@ pub total-example : TotalExample
 unfolding exactTotal exactMean product sumFractions onlyIf
 total-example = record { total = refl }
 
--- Example A's interval rows (document 01, "Sheet program and examples") and premiums
+-- Example A's interval rows (document 01, "Sheet program and examples") and premiums.
 abbrev pub chainA : SetChain
 chainA =
     record {
@@ -102,7 +102,7 @@ chainA =
 abbrev pub premiumA : ℕ → ℕ
 premiumA = from (10000 ∷ 15000 ∷ [])
 
--- its figures from class 2, which is state 1
+-- Its figures from class 2, which is state 1.
 pub record FiguresA : Type 0 where
   pub share1 : (lowShare chainA 0 2 1 ≡ 920000000) × (highShare chainA 0 2 1 ≡ 990000000)
   pub share2 : (lowShare chainA 1 2 1 ≡ 10000000) × (highShare chainA 1 2 1 ≡ 80000000)

@@ -4,28 +4,28 @@ use Prim.Native.Nat.{ℕ, zero, suc, _+_, _*_, _≤_}
 infixl 60 _⊕_
 infixl 70 _⊗_
 infix 40 _≼_
--- numerator and denominator
+-- Numerator and denominator.
 pub record Fraction : Type 0 where
   pub num : ℕ
   pub den : ℕ
 
--- a whole number as a fraction
+-- A whole number as a fraction.
 abbrev pub whole : ℕ → Fraction
 whole a = record { num = a; den = 1 }
 
--- the sum
+-- The sum.
 abbrev pub _⊕_ : Fraction → Fraction → Fraction
 x ⊕ y = record { num = x .num * y .den + y .num * x .den; den = x .den * y .den }
 
--- the product
+-- The product.
 abbrev pub _⊗_ : Fraction → Fraction → Fraction
 x ⊗ y = record { num = x .num * y .num; den = x .den * y .den }
 
--- x is at most y, multiplied out
+-- x is at most y, multiplied out.
 abbrev pub _≼_ : Fraction → Fraction → Type 0
 x ≼ y = x .num * y .den ≤ y .num * x .den
 
--- the sum of the fractions f at each index below n
+-- The sum of the fractions f at each index below n.
 unfoldable pub sumFractions : ℕ → (ℕ → Fraction) → Fraction
 sumFractions zero f = whole 0
 sumFractions (suc n) f = sumFractions n f ⊕ f n

@@ -8,11 +8,11 @@ use Rattle.setchain.specs.Sums.{onlyIf}
 use Rattle.setchain.specs.Fractions.{Fraction, whole, _⊗_, sumFractions}
 use Rattle.setchain.specs.Rows.{Row, Inside, SetChain}
 
--- "A matrix has one row for each class", each over an M of its own
+-- "A matrix has one row for each class", each over an M of its own.
 abbrev pub Matrix : Type 0
 Matrix = ℕ → Row
 
--- each row of each matrix lies inside the interval of its state; no row binds another
+-- Each row of each matrix lies inside the interval of its state; no row binds another.
 pub data InsideEach (c : SetChain) : List Matrix → Type 0 where
   none : InsideEach c []
   also : {p : Matrix} {ps : List Matrix} → ((i : ℕ) → i < c .states → Inside (c .states) (c .row i) (p i)) → InsideEach c ps → InsideEach c (p ∷ ps)
@@ -22,16 +22,16 @@ pub record PicksFor (c : SetChain) (t : ℕ) (ps : List Matrix) : Type 0 where
   pub years : length ps ≡ t
   pub inside : InsideEach c ps
 
--- "each entry counts as its whole number divided by that M"
+-- "each entry counts as its whole number divided by that M".
 abbrev pub entryOf : Row → ℕ → Fraction
 entryOf q j = record { num = q .entry j; den = q .over }
 
--- row i, entry j of the product of the matrices over n states, first year leftmost; of no matrix, 1 where i is j and 0 elsewhere
+-- Row i, entry j of the product of the matrices over n states, first year leftmost; of no matrix, 1 where i is j and 0 elsewhere.
 unfoldable pub product : ℕ → List Matrix → ℕ → ℕ → Fraction
 product n [] i j = whole (onlyIf (eqb i j) 1)
 product n (p ∷ ps) i j = sumFractions n (λ k. entryOf (p i) k ⊗ product n ps k j)
 
--- "The exact share of class j after t years is entry j of the start class's row in the product of the t picked matrices"
+-- "The exact share of class j after t years is entry j of the start class's row in the product of the t picked matrices".
 abbrev pub exactShare : ℕ → ℕ → List Matrix → ℕ → Fraction
 exactShare n j ps i = product n ps i j
 

@@ -15,11 +15,11 @@ use Rattle.setchain.specs.Laws.Sums.{below-two}
 use Rattle.setchain.specs.Theorems.{low-to-bound, bound-to-high, share-promise, mean-promise, exact-proper}
 use Rattle.setchain.specs.Examples.{from, chainA, premiumA}
 
--- a numerator over a denominator
+-- A numerator over a denominator.
 abbrev pub fraction : ℕ → ℕ → Fraction
 fraction a b = record { num = a; den = b }
 
--- "no further than t from it": 12 and 8 are near 10 for t = 2, and 13, 7 and what lies just past 12 and 8 are not
+-- "no further than t from it": 12 and 8 are near 10 for t = 2, and 13, 7 and what lies just past 12 and 8 are not.
 pub record NearExamples : Type 0 where
   pub above : Near 2 10 (whole 12)
   pub below : Near 2 10 (whole 8)
@@ -39,7 +39,7 @@ near-examples =
       justTooLow = λ h. omega (arith, h .over);
     }
 
--- "low ≤ exact … ≤ high": both ends count as between, and nothing outside does
+-- "low ≤ exact … ≤ high": both ends count as between, and nothing outside does.
 pub record BetweenExamples : Type 0 where
   pub low : Between 8 12 (whole 8)
   pub high : Between 8 12 (fraction 24 2)
@@ -55,11 +55,11 @@ between-examples =
       tooHigh = λ h. omega (arith, h .most);
     }
 
--- two whole numbers over M
+-- Two whole numbers over M.
 abbrev pair : ℕ → ℕ → ℕ → Row
 pair m first second = record { over = m; entry = from (first ∷ second ∷ []) }
 
--- class 1 in year 1 and 2: over 1, and over 20, where both entries are at an end of their intervals; class 2: over 5 and over 7
+-- Class 1 in year 1 and 2: over 1, and over 20, where both entries are at an end of their intervals; class 2: over 5 and over 7.
 abbrev firstYear : Matrix
 firstYear i = elim i [ zero ↦ pair 1 1 0 | suc k ↦ pair 5 4 1 ]
 
@@ -69,11 +69,11 @@ secondYear i = elim i [ zero ↦ pair 20 19 1 | suc k ↦ pair 7 6 1 ]
 abbrev pub picksA : List Matrix
 picksA = firstYear ∷ secondYear ∷ []
 
--- a year in which class 2 has a row outside: two thirds is less than its lower entry to class 1
+-- A year in which class 2 has a row outside: two thirds is less than its lower entry to class 1.
 abbrev outsideYear : Matrix
 outsideYear i = elim i [ zero ↦ pair 1 1 0 | suc k ↦ pair 3 2 1 ]
 
--- a row over two states, entry by entry
+-- A row over two states, entry by entry.
 module _ (r : IntervalRow) (m a b : ℕ) where
   inside-two : 1 ≤ m → a + b ≡ m → r .lower 0 * m ≤ a * ONE → a * ONE ≤ r .upper 0 * m → r .lower 1 * m ≤ b * ONE → b * ONE ≤ r .upper 1 * m
       → Inside 2 r (pair m a b)
@@ -86,7 +86,7 @@ module _ (r : IntervalRow) (m a b : ℕ) where
         below = below-two (λ j. from (a ∷ b ∷ []) j * ONE ≤ r .upper j * m) below₀ below₁;
       }
 
--- what lies inside: rows over 1, 5, 20 and 7, also where an entry is at an end; and what does not: a row that does not sum to M, entries below a lower and above an upper end, and no row over 0
+-- What lies inside: rows over 1, 5, 20 and 7, also where an entry is at an end; and what does not: a row that does not sum to M, entries below a lower and above an upper end, and no row over 0.
 pub record InsideExamples : Type 0 where
   pub overOne : Inside 2 (chainA .row 0) (pair 1 1 0)
   pub overFive : Inside 2 (chainA .row 1) (pair 5 4 1)
@@ -111,11 +111,11 @@ inside-examples =
       overNone = λ h. omega (arith, h .positive);
     }
 
--- class 2's row, with a payoff of 30 in class 1 and 10 in class 2
+-- Class 2's row, with a payoff of 30 in class 1 and 10 in class 2.
 abbrev ReachesA : Bool → (first second : ℕ) → ℕ → Type 0
 ReachesA high first second figure = Reaches high 2 (chainA .row 1) (from (30 ∷ 10 ∷ [])) (from (first ∷ second ∷ [])) figure
 
--- "a row inside the interval that reaches its unrounded figure": the least and the greatest row do; another row inside, another figure and a row outside do not
+-- "a row inside the interval that reaches its unrounded figure": the least and the greatest row do; another row inside, another figure and a row outside do not.
 pub record ReachesExamples : Type 0 where
   pub low : ReachesA false 800000000 200000000 26
   pub high : ReachesA true 900000000 100000000 28
@@ -142,11 +142,11 @@ reaches-examples =
     greatest : Parts 2 (chainA .row 1) (from (900000000 ∷ 100000000 ∷ []))
     greatest = inside-two (chainA .row 1) ONE 900000000 100000000 (omega arith) refl (omega arith) (omega arith) (omega arith) (omega arith)
 
--- the year that has the row outside is no pick
+-- The year that has the row outside is no pick.
 no-outside : {ps : List Matrix} → InsideEach chainA (outsideYear ∷ ps) → ⊥
 no-outside (also inside rest) = inside-examples .tooLow (inside 1 (omega arith))
 
--- "Picks for t years are a list of t matrices": two matrices are picks for 2 years alone, none for 0 years, and every row of every year has to lie inside
+-- "Picks for t years are a list of t matrices": two matrices are picks for 2 years alone, none for 0 years, and every row of every year has to lie inside.
 pub record PicksExamples : Type 0 where
   pub two : PicksFor chainA 2 picksA
   pub notOne : PicksFor chainA 1 picksA → ⊥
@@ -174,12 +174,12 @@ picks-examples =
     no-last : InsideEach chainA (firstYear ∷ outsideYear ∷ []) → ⊥
     no-last (also inside rest) = no-outside rest
 
--- the value of a fraction whose denominator is not 0
+-- The value of a fraction whose denominator is not 0.
 pub record HasValue (x : Fraction) (num den : ℕ) : Type 0 where
   pub proper : 0 < x .den
   pub same : x .num * den ≡ num * x .den
 
--- the exact figures that these picks bring from class 2: four fifths and one fifth after a year, then 163 and 12 of 175; the mean 72,400 / 7 cents, and the total 15,000 + 11,000 cents
+-- The exact figures that these picks bring from class 2: four fifths and one fifth after a year, then 163 and 12 of 175; the mean 72,400 / 7 cents, and the total 15,000 + 11,000 cents.
 pub record ExactA : Type 0 where
   pub share1 : HasValue (exactShare 2 0 picksA 1) 163 175
   pub share2 : HasValue (exactShare 2 1 picksA 1) 12 175
@@ -226,13 +226,13 @@ sound-a = below-two (λ i. SoundRow 2 (chainA .row i)) first second
           uppers = omega arith;
         }
 
--- the figures of year 1 from class 2
+-- The figures of year 1 from class 2.
 year-one : (lowShare chainA 0 1 1 ≡ 800000000) × (highShare chainA 0 1 1 ≡ 900000000) × (lowMean chainA premiumA 1 1 ≡ 10500) × (highMean chainA premiumA 1 1 ≡ 11000)
 unfolding yearsFigure stepFigure fillRow capacityBefore sumTo onlyIf
 year-one = (refl, refl, refl, refl)
 
 -- "always 0 and ONE for a share" is shut out by closeness: no picks for a year bring the share of class 1 within 1 of 0, or of ONE;
--- and none bring the mean within 1 cent of the lowest premium, or of the highest
+-- and none bring the mean within 1 cent of the lowest premium, or of the highest.
 pub record WorthlessA (ps : List Matrix) : Type 0 where
   pub zero : Near 1 0 (shareInParts 2 0 ps 1) → ⊥
   pub one : Near 1 ONE (shareInParts 2 0 ps 1) → ⊥

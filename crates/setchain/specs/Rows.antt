@@ -3,23 +3,23 @@ use Prim.Native.Nat.{ℕ, _*_, _≤_, _<_}
 use mathlib.Core.Path.{_≡_}
 use Rattle.setchain.specs.Sums.{sumTo}
 
--- ONE, a billion parts: the whole of a share (document 01, "Units and the scheme")
+-- ONE, a billion parts: the whole of a share (document 01, "Units and the scheme").
 abbrev pub ONE : ℕ
 ONE = 1000000000
 
--- the lower and the upper entry, in parts, from one state to each state
+-- The lower and the upper entry, in parts, from one state to each state.
 pub record IntervalRow : Type 0 where
   pub lower : ℕ → ℕ
   pub upper : ℕ → ℕ
 
--- a row over n states that some stochastic row can lie inside: entries in order, at most ONE, and sums that enclose ONE
+-- A row over n states that some stochastic row can lie inside: entries in order, at most ONE, and sums that enclose ONE.
 pub record SoundRow (n : ℕ) (r : IntervalRow) : Type 0 where
   pub ordered : (j : ℕ) → j < n → r .lower j ≤ r .upper j
   pub capped : (j : ℕ) → j < n → r .upper j ≤ ONE
   pub lowers : sumTo n (r .lower) ≤ ONE
   pub uppers : ONE ≤ sumTo n (r .upper)
 
--- whole numbers `entry` over M, here `over`: each entry counts as its whole number divided by M
+-- Whole numbers `entry` over M, here `over`: each entry counts as its whole number divided by M.
 pub record Row : Type 0 where
   pub over : ℕ
   pub entry : ℕ → ℕ
@@ -31,15 +31,15 @@ pub record Inside (n : ℕ) (r : IntervalRow) (q : Row) : Type 0 where
   pub above : (j : ℕ) → j < n → r .lower j * q .over ≤ q .entry j * ONE
   pub below : (j : ℕ) → j < n → q .entry j * ONE ≤ r .upper j * q .over
 
--- a row of whole parts: a stochastic row over ONE
+-- A row of whole parts: a stochastic row over ONE.
 abbrev pub ofParts : (ℕ → ℕ) → Row
 ofParts p = record { over = ONE; entry = p }
 
--- a set-chain: how many states, and the interval row of each
+-- A set-chain: how many states, and the interval row of each.
 pub record SetChain : Type 0 where
   pub states : ℕ
   pub row : ℕ → IntervalRow
 
--- every row of the chain is sound
+-- Every row of the chain is sound.
 abbrev pub SoundChain : SetChain → Type 0
 SoundChain c = (i : ℕ) → i < c .states → SoundRow (c .states) (c .row i)

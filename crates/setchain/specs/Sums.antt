@@ -2,16 +2,16 @@
 use Prim.Native.Nat.{ℕ, zero, suc, _+_, _*_}
 use mathlib.Core.Bool.{Bool, true, false}
 
--- the sum of f at each index below n
+-- The sum of f at each index below n.
 unfoldable pub sumTo : ℕ → (ℕ → ℕ) → ℕ
 sumTo zero f = 0
 sumTo (suc n) f = sumTo n f + f n
 
--- x where the test passes, and 0 where it fails
+-- x where the test passes, and 0 where it fails.
 unfoldable pub onlyIf : Bool → ℕ → ℕ
 onlyIf true x = x
 onlyIf false x = 0
 
--- the sum of part times payoff
+-- The sum of part times payoff.
 abbrev pub dot : ℕ → (ℕ → ℕ) → (ℕ → ℕ) → ℕ
 dot n p f = sumTo n (λ j. p j * f j)

@@ -15,7 +15,7 @@ use Rattle.setchain.specs.Laws.Fractions.{Proper, _≈_, BoundOf, bound-
 use Rattle.setchain.specs.Laws.Value.{value, inward, proper-value, value-bound, extremePicks, extreme-picks-for, value-near}
 use Rattle.setchain.specs.Laws.Exact.{proper-product, share-value, proper-exact-mean, mean-value, proper-exact-total, total-value}
 
--- no further than t: a bound, and the same moved inward by t, one on each side
+-- No further than t: a bound, and the same moved inward by t, one on each side.
 near-bound : (high : Bool) (t b : ℕ) (x : Fraction) → BoundOf high (whole b) x → BoundOf (not high) (whole (inward high t b)) x → Near t b x
 near-bound false t b x h k = record { under = omega arith; over = omega arith }
 near-bound true t b x h k = record { under = omega arith; over = omega (arith, mul-le-mul-right (x .den) (cover t b)) }
@@ -23,7 +23,7 @@ near-bound true t b x h k = record { under = omega arith; over = omega (arith, m
     cover : (t b : ℕ) → b ≤ b - t + t
     cover t b = omega arith
 
--- a figure from low to high that is near a bound: low lies at most t above the bound, and the bound at most t above high
+-- A figure from low to high that is near a bound: low lies at most t above the bound, and the bound at most t above high.
 module _ {t bound low high : ℕ} {x : Fraction} (proper : Proper x) (between : Between low high x) (near : Near t bound x) where
   pub low-to-bound : low ≤ bound + t
   low-to-bound = le-of-mul-le-mul-right {k = x .den} (omega (arith, between .least, near .under)) proper
@@ -32,7 +32,7 @@ module _ {t bound low high : ℕ} {x : Fraction} (proper : Proper x) (between : 
   bound-to-high = le-of-mul-le-mul-right {k = x .den} (omega (arith, between .most, near .over)) proper
 
 module _ (c : SetChain) (sound : SoundChain c) where
-  -- from the recursion's value to any figure of the same value
+  -- From the recursion's value to any figure of the same value.
   module _ (payoff gain : ℕ → ℕ) (exact : List Matrix → ℕ → Fraction)
       (proper : (ps : List Matrix) → InsideEach c ps → (i : ℕ) → i < c .states → Proper (exact ps i))
       (same : (ps : List Matrix) → InsideEach c ps → (i : ℕ) → i < c .states → exact ps i ≈ value (c .states) payoff gain ps i) where
@@ -68,7 +68,7 @@ module _ (c : SetChain) (sound : SoundChain c) where
           highClose = close true t;
         }
 
-  -- the share of state j after t years
+  -- The share of state j after t years.
   pub share-promise : (j t : ℕ) → Promise c t (lowShare c j t) (highShare c j t) (shareInParts (c .states) j)
   share-promise j t =
       promised (sharePayoff j) nothing (shareInParts (c .states) j)
@@ -76,17 +76,17 @@ module _ (c : SetChain) (sound : SoundChain c) where
       (λ ps inside i l. share-value c ps inside i j l)
       t
 
-  -- the mean premium of year t
+  -- The mean premium of year t.
   pub mean-promise : (premium : ℕ → ℕ) (t : ℕ) → Promise c t (lowMean c premium t) (highMean c premium t) (exactMean (c .states) premium)
   mean-promise premium t =
       promised premium nothing (exactMean (c .states) premium) (proper-exact-mean c premium) (mean-value c premium) t
 
-  -- the total of t premiums
+  -- The total of t premiums.
   pub total-promise : (premium : ℕ → ℕ) (t : ℕ) → Promise c t (lowTotal c premium t) (highTotal c premium t) (exactTotal (c .states) premium)
   total-promise premium t =
       promised nothing premium (exactTotal (c .states) premium) (proper-exact-total c premium) (total-value c premium) t
 
-  -- the promises are not empty: picks for any number of years exist, and no exact figure that they bring has the denominator 0
+  -- The promises are not empty: picks for any number of years exist, and no exact figure that they bring has the denominator 0.
   pub some-picks : (t : ℕ) → (ps : List Matrix) × PicksFor c t ps
   some-picks t = (extremePicks c sound nothing nothing false t, extreme-picks-for c sound nothing nothing false t)
 

@@ -11,7 +11,7 @@ unfoldable pub yearsFigure : (high : Bool) → SetChain → (payoff gain : ℕ �
 yearsFigure high c payoff gain zero i = payoff i
 yearsFigure high c payoff gain (suc t) i = gain i + stepFigure high (c .states) (c .row i) (yearsFigure high c payoff gain t)
 
--- 0 at every state
+-- 0 at every state.
 abbrev pub nothing : ℕ → ℕ
 nothing i = 0
 

@@ -16,7 +16,7 @@ use Rattle.sheet_text.specs.Laws.Answer.{answer-written}
 use Rattle.sheet.specs.Program.{ComposePre, ComposePost}
 
 module _ {input : List ℕ} {n : ℕ} {out : List ℕ} (w : ComposePre input n out) where
-  -- no sheet is declined for want of space
+  -- No sheet is declined for want of space.
   enough : spaceFor (take n input) ≤ length out
   enough = le-trans (enough-space (take n input) .most) (w .space)
 

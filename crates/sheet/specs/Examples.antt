@@ -10,7 +10,7 @@ use Rattle.sheet_spec.specs.Text.{digitsWithin}
 use Rattle.sheet_spec.specs.Sheet.{refusedLine, sheetText}
 use Rattle.sheet.specs.Program.{ComposePost}
 
--- seven bytes with a right length field and no class: cause 3
+-- Seven bytes with a right length field and no class: cause 3.
 abbrev seven : List ℕ
 seven = 1 ∷ 0 ∷ 7 ∷ 0 ∷ 0 ∷ 0 ∷ 0 ∷ []
 
@@ -24,7 +24,7 @@ seven-bytes (suc (suc (suc (suc (suc zero))))) = omega arith
 seven-bytes (suc (suc (suc (suc (suc (suc zero)))))) = omega arith
 seven-bytes (suc (suc (suc (suc (suc (suc (suc k))))))) = omega arith
 
--- of an input that begins with byte 1, in a buffer of one byte: REFUSED 2 is the sheet of that byte and not of these seven
+-- Of an input that begins with byte 1, in a buffer of one byte: REFUSED 2 is the sheet of that byte and not of these seven.
 pub record Forbidden : Type 0 where
   pub cut : ComposePost (1 ∷ []) 1 (refusedLine 2) 10 → ⊥
   pub nothing : ComposePost (1 ∷ []) 1 (refusedLine 2) 0 → ⊥

@@ -13,35 +13,35 @@ use Rattle.record_spec.specs.declared.WriteAnswer.the-variants.{Written, Declin
 use Rattle.record_spec.specs.Write.{writeNumber, writtenLength}
 use Rattle.sheet_spec.specs.Sheet.{sheetText}
 
--- the most bytes that the sheet of a scheme of this size may have: SCHEME 19, a class 40, PREMIUM 35, TOTAL 28
+-- The most bytes that the sheet of a scheme of this size may have: SCHEME 19, a class 40, PREMIUM 35, TOTAL 28.
 unfoldable pub spaceOf : Scheme → ℕ
 spaceOf s = 19 + suc (s .horizon) * (s .classes * 40 + 35) + 28
 
--- the space that the sheet of these bytes takes: a refusal has at most 11 bytes
+-- The space that the sheet of these bytes takes: a refusal has at most 11 bytes.
 unfoldable pub spaceFor : List ℕ → ℕ
 spaceFor bytes = cond (eqb (readCause bytes) 0) (spaceOf (schemeIn version1 bytes)) 11
 
--- a text into a slice of at least `space` bytes: its length, and 13 for a shorter slice
+-- A text into a slice of at least `space` bytes: its length, and 13 for a shorter slice.
 abbrev pub textAnswer : (space : ℕ) (text out : List ℕ) → WriteAnswer
 textAnswer space text out = cond (ltb (length out) space) (Declined 13) (Written (length text))
 
--- the text from the front on, and bytes past it unchanged; declined, all of them
+-- The text from the front on, and bytes past it unchanged; declined, all of them.
 abbrev pub textLeaves : (space : ℕ) (text out : List ℕ) → List ℕ
 textLeaves space text out = cond (ltb (length out) space) out (text ++ drop (length text) out)
 
--- what is answered for a text that takes so much space, and what the slice holds afterwards
+-- What is answered for a text that takes so much space, and what the slice holds afterwards.
 pub record TextAnswered (space : ℕ) (text before after : List ℕ) (r : WriteAnswer) : Type 0 where
   pub answer : r ≡ textAnswer space text before
   pub leaves : after ≡ textLeaves space text before
 
--- the answer for any bytes
+-- The answer for any bytes.
 unfoldable pub sheetAnswer : List ℕ → List ℕ → WriteAnswer
 sheetAnswer bytes out = textAnswer (spaceFor bytes) (sheetText bytes) out
 
--- the slice after it
+-- The slice after it.
 unfoldable pub sheetLeaves : List ℕ → List ℕ → List ℕ
 sheetLeaves bytes out = textLeaves (spaceFor bytes) (sheetText bytes) out
 
--- what the answer promises: the first bytes of the slice, as many as it says, are the sheet of all the bytes
+-- What the answer promises: the first bytes of the slice, as many as it says, are the sheet of all the bytes.
 abbrev pub TextPromise : (bytes after : List ℕ) → WriteAnswer → Type 0
 TextPromise bytes after r = writeNumber r ≡ 0 → take (writtenLength r) after ≡ sheetText bytes

@@ -21,11 +21,11 @@ use Rattle.sheet_spec.specs.Text.{digitsWithin, twoDigits, decimal}
 use Rattle.sheet_spec.specs.Answer.{TextPromise}
 use Rattle.sheet_spec.specs.Sheet.{classLine, premiumLine, yearLines, totalLine, refusedLine, schemeLine, sheetOf, sheetText}
 
--- 7 and 42 in two digits
+-- 7 and 42 in two digits.
 pub two-digits : (twoDigits 7 ≡ 48 ∷ 55 ∷ []) × (twoDigits 42 ≡ 52 ∷ 50 ∷ [])
 two-digits = (refl, refl)
 
--- 0, 10 and the largest 64-bit number, 18446744073709551615
+-- 0, 10 and the largest 64-bit number, 18446744073709551615.
 pub decimal-zero : decimal 0 ≡ 48 ∷ []
 unfolding digitsWithin
 decimal-zero = refl
@@ -38,28 +38,28 @@ pub decimal-most : decimal 18446744073709551615 ≡ 49 ∷ 56 ∷ 52 ∷ 52 ∷ 
 unfolding digitsWithin
 decimal-most = refl
 
--- YEAR 0 CLASS 1 0 0
+-- YEAR 0 CLASS 1 0 0.
 pub class-line-A : classLine 0 0 0 0 ≡ 89 ∷ 69 ∷ 65 ∷ 82 ∷ 32 ∷ 48 ∷ 32 ∷ 67 ∷ 76 ∷ 65 ∷ 83 ∷ 83 ∷ 32 ∷ 49 ∷ 32 ∷ 48 ∷ 32 ∷ 48 ∷ 10 ∷ []
 unfolding digitsWithin classLine
 class-line-A = refl
 
--- YEAR 1 PREMIUM 10500 11000
+-- YEAR 1 PREMIUM 10500 11000.
 pub premium-line-A : premiumLine 1 10500 11000
     ≡ 89 ∷ 69 ∷ 65 ∷ 82 ∷ 32 ∷ 49 ∷ 32 ∷ 80 ∷ 82 ∷ 69 ∷ 77 ∷ 73 ∷ 85 ∷ 77 ∷ 32 ∷ 49 ∷ 48 ∷ 53 ∷ 48 ∷ 48 ∷ 32 ∷ 49 ∷ 49 ∷ 48 ∷ 48 ∷ 48 ∷ 10 ∷ []
 unfolding digitsWithin premiumLine
 premium-line-A = refl
 
--- TOTAL 25500 26000
+-- TOTAL 25500 26000.
 pub total-line-A : totalLine 25500 26000 ≡ 84 ∷ 79 ∷ 84 ∷ 65 ∷ 76 ∷ 32 ∷ 50 ∷ 53 ∷ 53 ∷ 48 ∷ 48 ∷ 32 ∷ 50 ∷ 54 ∷ 48 ∷ 48 ∷ 48 ∷ 10 ∷ []
 unfolding digitsWithin totalLine
 total-line-A = refl
 
--- REFUSED 10
+-- REFUSED 10.
 pub refused-line-10 : refusedLine 10 ≡ 82 ∷ 69 ∷ 70 ∷ 85 ∷ 83 ∷ 69 ∷ 68 ∷ 32 ∷ 49 ∷ 48 ∷ 10 ∷ []
 unfolding digitsWithin refusedLine
 refused-line-10 = refl
 
--- Example A, year 0: its classes in order, then its premium
+-- Example A, year 0: its classes in order, then its premium.
 pub year-A : yearLines schemeA 0
     ≡ 89 ∷ 69 ∷ 65 ∷ 82 ∷ 32 ∷ 48 ∷ 32 ∷ 67 ∷ 76 ∷ 65 ∷ 83 ∷ 83 ∷ 32 ∷ 49 ∷ 32 ∷ 48 ∷ 32 ∷ 48 ∷ 10
     ∷ 89 ∷ 69 ∷ 65 ∷ 82 ∷ 32 ∷ 48 ∷ 32 ∷ 67 ∷ 76 ∷ 65 ∷ 83 ∷ 83 ∷ 32 ∷ 50 ∷ 32 ∷ 49 ∷ 48 ∷ 48 ∷ 48 ∷ 48 ∷ 48 ∷ 48 ∷ 48 ∷ 48 ∷ 48 ∷ 32 ∷ 49 ∷ 48 ∷ 48 ∷ 48 ∷ 48 ∷ 48 ∷ 48 ∷ 48 ∷ 48 ∷ 48 ∷ 10
@@ -68,7 +68,7 @@ pub year-A : yearLines schemeA 0
 unfolding digitsWithin classLine premiumLine yearLines joined yearsFigure onlyIf
 year-A = refl
 
--- Example A: the whole sheet of its bytes
+-- Example A: the whole sheet of its bytes.
 pub sheet-A : sheetText exampleA
     ≡ 83 ∷ 67 ∷ 72 ∷ 69 ∷ 77 ∷ 69 ∷ 32 ∷ 50 ∷ 32 ∷ 51 ∷ 32 ∷ 50 ∷ 32 ∷ 50 ∷ 10
     ∷ 89 ∷ 69 ∷ 65 ∷ 82 ∷ 32 ∷ 48 ∷ 32 ∷ 67 ∷ 76 ∷ 65 ∷ 83 ∷ 83 ∷ 32 ∷ 49 ∷ 32 ∷ 48 ∷ 32 ∷ 48 ∷ 10
@@ -86,7 +86,7 @@ unfolding sheetText frameCause beAt schemeOf upTo tab causeWhere sizeOut startOu
     anyBelow digitsWithin schemeLine classLine premiumLine yearLines totalLine sheetOf joined yearsFigure stepFigure fillRow capacityBefore sumTo onlyIf
 sheet-A = refl
 
--- the sheet in the first bytes of a slice, and a slice that lacks it
+-- The sheet in the first bytes of a slice, and a slice that lacks it.
 pub record TextPromises : Type 0 where
   pub kept : (rest : List ℕ) → TextPromise exampleA (sheetText exampleA ++ rest) (Written (length (sheetText exampleA)))
   pub broken : TextPromise exampleA [] (Written 0) → ⊥

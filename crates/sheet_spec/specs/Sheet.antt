@@ -17,25 +17,25 @@ use Rattle.sheet_spec.specs.Text.{field, newline, schemeWord, yearWord, 
 unfoldable pub schemeLine : Scheme → List ℕ
 schemeLine s = schemeWord ++ field (s .classes) ++ field (s .columns) ++ field (s .start) ++ field (s .horizon) ++ newline
 
--- "a line for each class in order, with year and class number": class j + 1
+-- "a line for each class in order, with year and class number": class j + 1.
 unfoldable pub classLine : (year j low high : ℕ) → List ℕ
 classLine year j low high = yearWord ++ field year ++ classWord ++ field (suc j) ++ field low ++ field high ++ newline
 
--- "and its PREMIUM line"
+-- "and its PREMIUM line".
 unfoldable pub premiumLine : (year low high : ℕ) → List ℕ
 premiumLine year low high = yearWord ++ field year ++ premiumWord ++ field low ++ field high ++ newline
 
--- the class lines of one year
+-- The class lines of one year.
 abbrev pub classLines : Scheme → ℕ → List ℕ
 classLines s year =
     joined (s .classes)
     (λ j. classLine year j (lowShare (chainOf s) j year (startOf s)) (highShare (chainOf s) j year (startOf s)))
 
--- the PREMIUM line of one year
+-- The PREMIUM line of one year.
 abbrev pub yearPremium : Scheme → ℕ → List ℕ
 yearPremium s year = premiumLine year (lowMean (chainOf s) (premiumAt s) year (startOf s)) (highMean (chainOf s) (premiumAt s) year (startOf s))
 
--- the lines of one year
+-- The lines of one year.
 unfoldable pub yearLines : Scheme → ℕ → List ℕ
 yearLines s year = classLines s year ++ yearPremium s year
 
@@ -43,14 +43,14 @@ yearLines s year = classLines s year ++ yearPremium s year
 unfoldable pub totalLine : (low high : ℕ) → List ℕ
 totalLine low high = totalWord ++ field low ++ field high ++ newline
 
--- "Then each year from 0 to the horizon"
+-- "Then each year from 0 to the horizon".
 unfoldable pub sheetOf : Scheme → List ℕ
 sheetOf s =
     schemeLine s
     ++ joined (suc (s .horizon)) (yearLines s)
     ++ totalLine (lowTotal (chainOf s) (premiumAt s) (s .horizon) (startOf s)) (highTotal (chainOf s) (premiumAt s) (s .horizon) (startOf s))
 
--- "or `REFUSED ` and the number"
+-- "or `REFUSED ` and the number".
 unfoldable pub refusedLine : ℕ → List ℕ
 refusedLine number = refusedWord ++ field number ++ newline
 

@@ -4,47 +4,47 @@ use mathlib.Core.Bool.{cond}
 use mathlib.Core.List.{List, [], _∷_, _++_}
 use lib.Dec.{ltb}
 
--- the decimal digits of x, at most as many as `most`
+-- The decimal digits of x, at most as many as `most`.
 unfoldable pub digitsWithin : ℕ → ℕ → List ℕ
 digitsWithin zero x = []
 digitsWithin (suc most) x = cond (ltb x 10) ((48 + x) ∷ []) (digitsWithin most (x / 10) ++ ((48 + x % 10) ∷ []))
 
--- the two digits of a number below 100
+-- The two digits of a number below 100.
 abbrev pub twoDigits : ℕ → List ℕ
 twoDigits x = (48 + x / 10) ∷ (48 + x % 10) ∷ []
 
--- "Numbers print in decimal without leading zeros": a 64-bit number has at most 20 digits
+-- "Numbers print in decimal without leading zeros": a 64-bit number has at most 20 digits.
 abbrev pub decimal : ℕ → List ℕ
 decimal x = digitsWithin 20 x
 
--- a field: one space, and the number
+-- A field: one space, and the number.
 abbrev pub field : ℕ → List ℕ
 field x = 32 ∷ decimal x
 
--- byte 0A
+-- Byte 0A.
 abbrev pub newline : List ℕ
 newline = 10 ∷ []
 
--- SCHEME
+-- SCHEME.
 abbrev pub schemeWord : List ℕ
 schemeWord = 83 ∷ 67 ∷ 72 ∷ 69 ∷ 77 ∷ 69 ∷ []
 
--- YEAR
+-- YEAR.
 abbrev pub yearWord : List ℕ
 yearWord = 89 ∷ 69 ∷ 65 ∷ 82 ∷ []
 
--- a space and CLASS
+-- A space and CLASS.
 abbrev pub classWord : List ℕ
 classWord = 32 ∷ 67 ∷ 76 ∷ 65 ∷ 83 ∷ 83 ∷ []
 
--- a space and PREMIUM
+-- A space and PREMIUM.
 abbrev pub premiumWord : List ℕ
 premiumWord = 32 ∷ 80 ∷ 82 ∷ 69 ∷ 77 ∷ 73 ∷ 85 ∷ 77 ∷ []
 
--- TOTAL
+-- TOTAL.
 abbrev pub totalWord : List ℕ
 totalWord = 84 ∷ 79 ∷ 84 ∷ 65 ∷ 76 ∷ []
 
--- REFUSED
+-- REFUSED.
 abbrev pub refusedWord : List ℕ
 refusedWord = 82 ∷ 69 ∷ 70 ∷ 85 ∷ 83 ∷ 69 ∷ 68 ∷ []

@@ -5,11 +5,11 @@ use mathlib.Core.List.{List}
 use lib.ListN.{length}
 use lib.Seq.{sets}
 
--- the slice has space for the text from the place on
+-- The slice has space for the text from the place on.
 pub record Space (slice : List ℕ) (at : ℕ) (text : List ℕ) : Type 0 where
   pub fits : at + length text ≤ length slice
 
--- the text stands from the place on, all else is as it was, and `to` is the place after it
+-- The text stands from the place on, all else is as it was, and `to` is the place after it.
 pub record Put (before : List ℕ) (at : ℕ) (text after : List ℕ) (to : ℕ) : Type 0 where
   pub holds : after ≡ sets before at text
   pub place : to ≡ at + length text

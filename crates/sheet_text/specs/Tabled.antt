@@ -5,11 +5,11 @@ use lib.ListN.{getD}
 use Rattle.record_spec.specs.Joined.{joined}
 use Rattle.sheet_spec.specs.Sheet.{classLine, premiumLine}
 
--- class j's line of a year, whose figures stand from place `base` on
+-- Class j's line of a year, whose figures stand from place `base` on.
 abbrev pub classText : (low high : List ℕ) → (year base j : ℕ) → List ℕ
 classText low high year base j = classLine year j (getD low (base + j) 0) (getD high (base + j) 0)
 
--- the lines of a year
+-- The lines of a year.
 unfoldable pub yearText : (low high : List ℕ) → (s year : ℕ) → List ℕ
 yearText low high s year =
     joined s (classText low high year (year * suc s))

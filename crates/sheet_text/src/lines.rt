@@ -7,7 +7,7 @@ ghost use Rattle.sheet_text.specs.Put.{Put, Space};
 use crate::text;
 use scheme::Scheme;
 
-// puts the two figures that end a line
+// Puts the two figures that end a line.
 fn ends(out: &mut [u8], at: usize, low: u64, high: u64) -> usize
     requires { ⌜ Space (now out) at (field low ++ field high ++ newline) ⌝ }
     ensures { λ r. ⌜ Put (now (out .entry)) at (field low ++ field high ++ newline) (now (out .exit)) r ⌝ }
@@ -17,7 +17,7 @@ fn ends(out: &mut [u8], at: usize, low: u64, high: u64) -> usize
     text::put_newline(out, b)
 }
 
-// puts the SCHEME line
+// Puts the SCHEME line.
 pub fn scheme_line(out: &mut [u8], at: usize, scheme: Scheme) -> usize
     requires { ⌜ Space (now out) at (schemeLine scheme) ⌝ }
     ensures { λ r. ⌜ Put (now (out .entry)) at (schemeLine scheme) (now (out .exit)) r ⌝ }
@@ -30,7 +30,7 @@ pub fn scheme_line(out: &mut [u8], at: usize, scheme: Scheme) -> usize
     text::put_newline(out, e)
 }
 
-// puts the line of a class in a year: class j + 1
+// Puts the line of a class in a year: class j + 1.
 pub fn class_line(out: &mut [u8], at: usize, year: usize, j: usize, low: u64, high: u64) -> usize
     requires { ⌜ Space (now out) at (classLine year j low high) × (j < 256) ⌝ }
     ensures { λ r. ⌜ Put (now (out .entry)) at (classLine year j low high) (now (out .exit)) r ⌝ }
@@ -42,7 +42,7 @@ pub fn class_line(out: &mut [u8], at: usize, year: usize, j: usize, low: u64, hi
     ends(out, d, low, high)
 }
 
-// puts the PREMIUM line of a year
+// Puts the PREMIUM line of a year.
 pub fn premium_line(out: &mut [u8], at: usize, year: usize, low: u64, high: u64) -> usize
     requires { ⌜ Space (now out) at (premiumLine year low high) ⌝ }
     ensures { λ r. ⌜ Put (now (out .entry)) at (premiumLine year low high) (now (out .exit)) r ⌝ }
@@ -53,7 +53,7 @@ pub fn premium_line(out: &mut [u8], at: usize, year: usize, low: u64, high: u64)
     ends(out, c, low, high)
 }
 
-// puts the TOTAL line
+// Puts the TOTAL line.
 pub fn total_line(out: &mut [u8], at: usize, low: u64, high: u64) -> usize
     requires { ⌜ Space (now out) at (totalLine low high) ⌝ }
     ensures { λ r. ⌜ Put (now (out .entry)) at (totalLine low high) (now (out .exit)) r ⌝ }
@@ -62,7 +62,7 @@ pub fn total_line(out: &mut [u8], at: usize, low: u64, high: u64) -> usize
     ends(out, a, low, high)
 }
 
-// puts the line of a refusal
+// Puts the line of a refusal.
 pub fn refused_line(out: &mut [u8], at: usize, number: u8) -> usize
     requires { ⌜ Space (now out) at (refusedLine number) ⌝ }
     ensures { λ r. ⌜ Put (now (out .entry)) at (refusedLine number) (now (out .exit)) r ⌝ }

@@ -2,13 +2,13 @@
 ghost use mathlib.Core.Path.{_≡_};
 ghost use lib.ListN.{length};
 ghost use Rattle.scheme.specs.Accepted.{Accepted};
-ghost use Rattle.bounds_spec.specs.Table.{tableSize};
+ghost use Rattle.bounds_spec.specs.Causes.{tableSize};
 ghost use Rattle.sheet_spec.specs.Sheet.{sheetOf};
 ghost use Rattle.sheet_text.specs.Put.{Put, Space};
 use crate::whole;
 use scheme::Scheme;
 
-// fills two slices of the tables' size, and puts the sheet from the front on
+// Fills two slices of the tables' size, and puts the sheet from the front on.
 fn filled(out: &mut [u8], scheme: Scheme, low: &mut [u64], high: &mut [u64]) -> usize
     requires { ⌜ Space (now out) 0 (sheetOf scheme) × Accepted scheme × (length (now low) ≡ tableSize scheme) × (length (now high) ≡ tableSize scheme) ⌝ }
     ensures { λ r. ⌜ Put (now (out .entry)) 0 (sheetOf scheme) (now (out .exit)) r ⌝ }
@@ -17,7 +17,7 @@ fn filled(out: &mut [u8], scheme: Scheme, low: &mut [u64], high: &mut [u64]) -> 
     whole::whole(out, 0, scheme, low, high)
 }
 
-// puts the sheet from the front on; 101 years of 33 figures and the total are the most
+// Puts the sheet from the front on; 101 years of 33 figures and the total are the most.
 pub fn put_sheet(out: &mut [u8], scheme: Scheme) -> usize
     requires { ⌜ Space (now out) 0 (sheetOf scheme) × Accepted scheme ⌝ }
     ensures { λ r. ⌜ Put (now (out .entry)) 0 (sheetOf scheme) (now (out .exit)) r ⌝ }

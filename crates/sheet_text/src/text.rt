@@ -5,7 +5,7 @@ ghost use lib.ListN.{length};
 ghost use Rattle.sheet_spec.specs.Text.{digitsWithin, twoDigits, decimal, field, newline};
 ghost use Rattle.sheet_text.specs.Put.{Put, Space};
 
-// puts the bytes of a word
+// Puts the bytes of a word.
 pub fn put_word(out: &mut [u8], at: usize, word: &[u8]) -> usize
     requires { ⌜ Space (now out) at (now word) ⌝ }
     ensures { λ r. ⌜ Put (now (out .entry)) at (now (word .entry)) (now (out .exit)) r ⌝ }
@@ -18,7 +18,7 @@ pub fn put_word(out: &mut [u8], at: usize, word: &[u8]) -> usize
     at + k
 }
 
-// a digit's byte
+// A digit's byte.
 fn digit(x: u64) -> u8
     requires { ⌜ x < 10 ⌝ }
     ensures { λ r. ⌜ r ≡ 48 + x ⌝ }
@@ -26,7 +26,7 @@ fn digit(x: u64) -> u8
     (48 + x) as u8
 }
 
-// puts the two digits of a number below 100
+// Puts the two digits of a number below 100.
 fn put_two(out: &mut [u8], at: usize, x: u64) -> usize
     requires { ⌜ (x < 100) × (at + 2 ≤ length (now out)) ⌝ }
     ensures { λ r. ⌜ Put (now (out .entry)) at (twoDigits x) (now (out .exit)) r ⌝ }
@@ -36,7 +36,7 @@ fn put_two(out: &mut [u8], at: usize, x: u64) -> usize
     at + 2
 }
 
-// puts the digits of a number, two at a time, by recursion on how many pairs of them there may be
+// Puts the digits of a number, two at a time, by recursion on how many pairs of them there may be.
 fn put_pairs(out: &mut [u8], at: usize, x: u64, pairs: u64) -> usize
     requires { ⌜ Space (now out) at (digitsWithin (pairs * 2) x) ⌝ }
     ensures { λ r. ⌜ Put (now (out .entry)) at (digitsWithin (pairs * 2) x) (now (out .exit)) r ⌝ }
@@ -55,7 +55,7 @@ fn put_pairs(out: &mut [u8], at: usize, x: u64, pairs: u64) -> usize
     put_two(out, to, x % 100)
 }
 
-// puts a number in decimal
+// Puts a number in decimal.
 pub fn put_number(out: &mut [u8], at: usize, x: u64) -> usize
     requires { ⌜ Space (now out) at (decimal x) ⌝ }
     ensures { λ r. ⌜ Put (now (out .entry)) at (decimal x) (now (out .exit)) r ⌝ }
@@ -63,7 +63,7 @@ pub fn put_number(out: &mut [u8], at: usize, x: u64) -> usize
     put_pairs(out, at, x, 10)
 }
 
-// puts a space and a number
+// Puts a space and a number.
 pub fn put_field(out: &mut [u8], at: usize, x: u64) -> usize
     requires { ⌜ Space (now out) at (field x) ⌝ }
     ensures { λ r. ⌜ Put (now (out .entry)) at (field x) (now (out .exit)) r ⌝ }
@@ -72,7 +72,7 @@ pub fn put_field(out: &mut [u8], at: usize, x: u64) -> usize
     put_number(out, at + 1, x)
 }
 
-// puts the end of a line
+// Puts the end of a line.
 pub fn put_newline(out: &mut [u8], at: usize) -> usize
     requires { ⌜ Space (now out) at newline ⌝ }
     ensures { λ r. ⌜ Put (now (out .entry)) at newline (now (out .exit)) r ⌝ }

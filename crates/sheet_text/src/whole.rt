@@ -8,7 +8,7 @@ use crate::lines;
 use crate::years;
 use scheme::Scheme;
 
-// puts the sheet
+// Puts the sheet.
 pub fn whole(out: &mut [u8], at: usize, scheme: Scheme, low: &[u64], high: &[u64]) -> usize
     requires { ⌜ Space (now out) at (sheetOf scheme) × SizeFits scheme × (now low ≡ lowTable scheme) × (now high ≡ highTable scheme) ⌝ }
     ensures { λ r. ⌜ Put (now (out .entry)) at (sheetOf scheme) (now (out .exit)) r ⌝ }

@@ -6,7 +6,7 @@ ghost use Rattle.sheet_text.specs.Tabled.{classText, yearText};
 ghost use Rattle.sheet_text.specs.Put.{Put, Space};
 use crate::lines;
 
-// puts the class lines of a year, whose figures stand in the tables from place `base` on
+// Puts the class lines of a year, whose figures stand in the tables from place `base` on.
 fn class_lines(
     out: &mut [u8],
     at: usize,
@@ -28,7 +28,7 @@ fn class_lines(
     to
 }
 
-// puts the lines of a year
+// Puts the lines of a year.
 fn year_lines(out: &mut [u8], at: usize, year: usize, s: usize, low: &[u64], high: &[u64]) -> usize
     requires { ⌜ Space (now out) at (yearText (now low) (now high) s year) × (s < 256) × (year * suc s + s < length (now low)) × (year * suc s + s < length (now high)) ⌝ }
     ensures { λ r. ⌜ Put (now (out .entry)) at (yearText (now (low .entry)) (now (high .entry)) s year) (now (out .exit)) r ⌝ }
@@ -38,7 +38,7 @@ fn year_lines(out: &mut [u8], at: usize, year: usize, s: usize, low: &[u64], hig
     lines::premium_line(out, to, year, low[base + s], high[base + s])
 }
 
-// puts the lines of the first n years
+// Puts the lines of the first n years.
 pub fn all_years(out: &mut [u8], at: usize, n: usize, s: usize, low: &[u64], high: &[u64]) -> usize
     requires { ⌜ Space (now out) at (joined n (yearText (now low) (now high) s)) × (s < 256) × (n * suc s ≤ length (now low)) × (n * suc s ≤ length (now high)) ⌝ }
     ensures { λ r. ⌜ Put (now (out .entry)) at (joined n (yearText (now (low .entry)) (now (high .entry)) s)) (now (out .exit)) r ⌝ }

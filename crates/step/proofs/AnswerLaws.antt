@@ -38,14 +38,14 @@ use Rattle.step.specs.Answer.{schemeCause, stepRefused}
 use Rattle.step.specs.Step.{StepPre, StepPost}
 use Rattle.order.specs.States.{identityOrder, at}
 
--- the classes in the order of their numbers, sorted, are sorted
+-- The classes in the order of their numbers, sorted, are sorted.
 pub numbers-sorted : (payoff before order : List ℕ) {order′ : List ℕ} {high : Bool} → length before ≡ length payoff → length payoff ≤ 128
     → order ≡ identityOrder before → order′ ≡ sorted payoff high order → SortedPermutation payoff high order′
 numbers-sorted payoff before order {order′} {high} e few n s =
     let numbers : Permutation (length payoff) (identityOrder before) = subst (λ k. Permutation k (identityOrder before)) e (identity-permutation before (omega arith)) in
     subst (SortedPermutation payoff high) (sym s) (sorted-holds payoff high order (subst (Permutation (length payoff)) (sym n) numbers) few)
 
--- a second test of cause 10 comes after all that the first has
+-- A second test of cause 10 comes after all that the first has.
 joined : (a b c d e f g h : Bool)
     → cond a 3 (cond b 5 (cond c 6 (cond d 7 (cond e 8 (cond f 9 (cond (g || h) 10 0))))))
     ≡ orElse (cond a 3 (cond b 5 (cond c 6 (cond d 7 (cond e 8 (cond f 9 (cond g 10 0))))))) (cond h 10 0)
@@ -58,7 +58,7 @@ joined false false false false false true g h = refl
 joined false false false false false false true h = refl
 joined false false false false false false false h = refl
 
--- the causes of acceptance are 10 at most
+-- The causes of acceptance are 10 at most.
 most : (b : Bool) (x y : ℕ) → x ≤ 10 → y ≤ 10 → cond b x y ≤ 10
 most true x y h k = h
 most false x y h k = k
@@ -74,7 +74,7 @@ cause-most s moneyOut =
     (most (sumOut s) 9 _ (omega arith)
     (most moneyOut 10 0 (omega arith) (omega arith)))))))
 
--- so a number of 11 is the class's cause, and any other is theirs
+-- So a number of 11 is the class's cause, and any other is theirs.
 apart : (a : ℕ) (out : Bool) → a ≤ 10 → schemeCause (orElse a (cond out 11 0)) ≡ a
 apart a out few = by (ℕ-discrete a 0)
   where
@@ -87,18 +87,18 @@ apart a out few = by (ℕ-discrete a 0)
     by (no h) = ap schemeCause (first-cause a (cond out 11 0) h) ∙ ap (λ b. cond b 0 a) (ne-eqb a 11 (λ e. omega arith))
 
 module _ (s : Scheme) (payoff : List ℕ) (class : ℕ) where
-  -- cause 10 of the payoffs
+  -- Cause 10 of the payoffs.
   payoffCause : ℕ
   payoffCause = limitCause 1000000000 payoff (s .classes)
 
-  -- the causes in the order of the code's tests
+  -- The causes in the order of the code's tests.
   in-turn : stepCause s payoff class ≡ orElse (orElse (causeOf s) payoffCause) (classCause s class)
   unfolding causeWhere payoffOut payoffCause
   in-turn =
       ap (λ x. orElse x (classCause s class))
       (joined (sizeOut s) (startOut s) (horizonOut s) (ruleOut s) (bandOut s) (sumOut s) (premiumOut s) (payoffOut s payoff))
 
-  -- a call that is declined: the number, and 0 everywhere else
+  -- A call that is declined: the number, and 0 everywhere else.
   pub step-declined : {high : Bool} {r : StepAnswer} (n : ℕ) → r ≡ stepRefused n → n ≡ stepCause s payoff class → (n ≡ 0 → ⊥) → StepAnswered high s payoff class r
   step-declined {high} n made is some =
       rw made
@@ -111,7 +111,7 @@ module _ (s : Scheme) (payoff : List ℕ) (class : ℕ) where
         reaches = λ z. absurd (some z);
       })
 
-  -- over the row operation's answer
+  -- Over the row operation's answer.
   module _ {interval : RowAnswer} (is : interval ≡ rowAnswer s class) where
     number-is : interval .number ≡ rowCause s class
     unfolding rowAt
@@ -122,11 +122,11 @@ module _ (s : Scheme) (payoff : List ℕ) (class : ℕ) where
         by (no h) = ap (λ r. r .number) (declined (rowCause s class) (rowAt s (class - 1)) (rowRefused (rowCause s class)) h)
 
     module _ {own : ℕ} (owns : own ≡ schemeCause (interval .number)) where
-      -- the scheme's own cause
+      -- The scheme's own cause.
       own-is : own ≡ causeOf s
       own-is = owns ∙ ap schemeCause number-is ∙ apart (causeOf s) (outside (s .classes) class) (cause-most s (premiumOut s))
 
-      -- comes first
+      -- Comes first.
       pub cause-scheme : (own ≡ 0 → ⊥) → own ≡ stepCause s payoff class
       cause-scheme h =
           let some : causeOf s ≡ 0 → ⊥ = λ z. h (own-is ∙ z) in
@@ -134,11 +134,11 @@ module _ (s : Scheme) (payoff : List ℕ) (class : ℕ) where
           own-is ∙ sym (in-turn ∙ ap (λ n. orElse n (classCause s class)) first ∙ first-cause (causeOf s) (classCause s class) some)
 
       module _ (none : own ≡ 0) where
-        -- without one there are 32 classes at most
+        -- Without one there are 32 classes at most.
         pub classes-fit : s .classes ≤ 32
         classes-fit = accepted-cause s (sym own-is ∙ none) .size .classes
 
-        -- and the payoffs' cause comes before the class's
+        -- And the payoffs' cause comes before the class's.
         pub cause-later : orElse (limitCause 1000000000 payoff (s .classes)) (interval .number) ≡ stepCause s payoff class
         unfolding payoffCause
         cause-later =
@@ -147,36 +147,36 @@ module _ (s : Scheme) (payoff : List ℕ) (class : ℕ) where
             ∙ ap (λ n. orElse n (classCause s class)) (sym (second-cause (causeOf s) payoffCause accepted))
             ∙ sym in-turn
 
-    -- a call that is not declined
+    -- A call that is not declined.
     module _ {number : ℕ} (counts : number ≡ stepCause s payoff class) (none : number ≡ 0) where
-      -- its causes in turn are all 0
+      -- Its causes in turn are all 0.
       turn-none : orElse (orElse (causeOf s) payoffCause) (classCause s class) ≡ 0
       turn-none = sym in-turn ∙ sym counts ∙ none
 
-      -- those before the class's too
+      -- Those before the class's too.
       before-none : orElse (causeOf s) payoffCause ≡ 0
       before-none = first-none (orElse (causeOf s) payoffCause) (classCause s class) turn-none
 
-      -- so the scheme is accepted
+      -- So the scheme is accepted.
       ok : Accepted s
       ok = accepted-cause s (first-none (causeOf s) payoffCause before-none)
 
-      -- the class is one of 1 to s
+      -- The class is one of 1 to s.
       range : (1 ≤ class) × (class ≤ s .classes)
       range = class-fits (s .classes) class (second-none (orElse (causeOf s) payoffCause) (classCause s class) turn-none)
 
-      -- and no payoff is above its limit
+      -- And no payoff is above its limit.
       payoff-fits : (j : ℕ) → j < s .classes → at payoff j ≤ 1000000000
       unfolding payoffCause
       payoff-fits j l =
           ltb-false 1000000000 (at payoff j)
           (any-false (s .classes) (λ i. ltb 1000000000 (at payoff i)) (test-none _ 10 (omega arith) (second-none (causeOf s) payoffCause before-none)) j l)
 
-      -- its row is sound
+      -- Its row is sound.
       sound : SoundRow (s .classes) (classRow s class)
       sound = accepted-sound s ok (class - 1) (omega (arith, range))
 
-      -- and is the one that the row operation answers
+      -- And is the one that the row operation answers.
       entries-are : interval ≡ rowAt s (class - 1)
       entries-are =
           is
@@ -184,7 +184,7 @@ module _ (s : Scheme) (payoff : List ℕ) (class : ℕ) where
           (second-cause (causeOf s) (classCause s class) (first-none (causeOf s) payoffCause before-none)
           ∙ second-none (orElse (causeOf s) payoffCause) (classCause s class) turn-none)
 
-      -- with a lower and an upper entry for each class
+      -- With a lower and an upper entry for each class.
       pub entries-fit : (s .classes ≤ length (interval .lower)) × (s .classes ≤ length (interval .upper))
       unfolding rowAt
       entries-fit =
@@ -197,7 +197,7 @@ module _ (s : Scheme) (payoff : List ℕ) (class : ℕ) where
             ok .size .classes,
           )
 
-      -- an entry of the 32, which is 0 beyond s, is that of the class
+      -- An entry of the 32, which is 0 beyond s, is that of the class.
       entry-is : (f : ℕ → ℕ) (entries : List ℕ) → entries ≡ tab 32 (λ j. onlyIf (ltb j (s .classes)) (f j)) → (j : ℕ) → j < s .classes
           → at (take (s .classes) entries) j ≡ f j
       entry-is f entries e j l =
@@ -206,7 +206,7 @@ module _ (s : Scheme) (payoff : List ℕ) (class : ℕ) where
           ∙ getD-tab 32 (λ j. onlyIf (ltb j (s .classes)) (f j)) j 0 (omega (arith, ok .size .classes))
           ∙ onlyIf-true (ltb j (s .classes)) (f j) (lt-ltb j (s .classes) l)
 
-      -- so the entries that are lent are the class's interval row
+      -- So the entries that are lent are the class's interval row.
       same : Agree (s .classes) (listsRow (take (s .classes) (interval .lower)) (take (s .classes) (interval .upper))) (classRow s class)
       unfolding rowAt
       same =
@@ -215,7 +215,7 @@ module _ (s : Scheme) (payoff : List ℕ) (class : ℕ) where
             upper = entry-is (classRow s class .upper) (interval .upper) (ap (λ r. r .upper) entries-are);
           }
 
-      -- of which as many are lent as there are classes
+      -- Of which as many are lent as there are classes.
       lower-count : length (take (s .classes) (interval .lower)) ≡ s .classes
       lower-count = length-take-le (s .classes) (interval .lower) (entries-fit .0)
 
@@ -223,7 +223,7 @@ module _ (s : Scheme) (payoff : List ℕ) (class : ℕ) where
       upper-count = length-take-le (s .classes) (interval .upper) (entries-fit .1)
 
       module _ (enough : s .classes ≤ length payoff) {high : Bool} where
-        -- what the step asks, with the sorted order back in its place
+        -- What the step asks, with the sorted order back in its place.
         pub answer-steps : (order rest : List ℕ) → SortedPermutation (take (s .classes) payoff) high order
             → StepPre (take (s .classes) (interval .lower)) (take (s .classes) (interval .upper)) (take (s .classes) payoff)
             (take (s .classes) (order ++ rest)) high (take (s .classes) (replicate 32 0))
@@ -244,7 +244,7 @@ module _ (s : Scheme) (payoff : List ℕ) (class : ℕ) where
             pays : length (take (s .classes) payoff) ≡ s .classes
             pays = length-take-le (s .classes) payoff enough
 
-        -- what it leaves is the answer
+        -- What it leaves is the answer.
         pub answer-made : (row : List ℕ) {figure : ℕ}
             → StepPost (take (s .classes) (interval .lower)) (take (s .classes) (interval .upper)) (take (s .classes) payoff) high row figure
             → StepAnswered high s payoff class (record { number = number; figure = figure; row = row ++ drop (s .classes) (replicate 32 0) })

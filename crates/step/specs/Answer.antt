@@ -5,10 +5,10 @@ use lib.Dec.{eqb}
 use lib.ListN.{replicate}
 use Rattle.step_spec.specs.declared.StepAnswer.{StepAnswer}
 
--- the scheme's own cause in the row operation's number: any but 11, which is the class's
+-- The scheme's own cause in the row operation's number: any but 11, which is the class's.
 abbrev pub schemeCause : ℕ → ℕ
 schemeCause number = cond (eqb number 11) 0 number
 
--- a refusal: the number, and 0 everywhere else
+-- A refusal: the number, and 0 everywhere else.
 abbrev pub stepRefused : ℕ → StepAnswer
 stepRefused number = record { number = number; figure = 0; row = replicate 32 0 }

@@ -7,11 +7,11 @@ use Rattle.setchain.specs.Sums.{sumTo}
 use Rattle.setchain.specs.Rows.{ONE}
 use Rattle.order.specs.States.{at}
 
--- the largest payoff for which every sum of part times payoff fits 64 bits
+-- The largest payoff for which every sum of part times payoff fits 64 bits.
 abbrev pub LARGEST : ℕ
 LARGEST = 10000000000
 
--- a row of parts and a payoff whose sum of part times payoff fits
+-- A row of parts and a payoff whose sum of part times payoff fits.
 pub record WeighPre (row payoff : List ℕ) : Type 0 where
   pub size : length payoff ≡ length row
   pub sums : sumTo (length row) (at row) ≡ ONE

@@ -11,21 +11,21 @@ use Rattle.order.specs.Order.{Occurs, Permutation}
 use Rattle.step.specs.Lists.{listsRow}
 use Rattle.order.specs.States.{at}
 
--- what a fill takes: lists of one length, a sound row, and an order of its classes
+-- What a fill takes: lists of one length, a sound row, and an order of its classes.
 pub record FillPre (lower upper order row : List ℕ) : Type 0 where
   pub uppers : length upper ≡ length lower
   pub rows : length row ≡ length lower
   pub permutation : Permutation (length lower) order
   pub sound : SoundRow (length lower) (listsRow lower upper)
 
--- the same where the row holds the lowers, and `parts` are left to give
+-- The same where the row holds the lowers, and `parts` are left to give.
 pub record FillSlackPre (lower upper order : List ℕ) (parts : ℕ) : Type 0 where
   pub uppers : length upper ≡ length lower
   pub permutation : Permutation (length lower) order
   pub sound : SoundRow (length lower) (listsRow lower upper)
   pub whole : sumTo (length lower) (at lower) + parts ≡ ONE
 
--- what it leaves: a row inside that is full before the place where it stopped, and bare after it
+-- What it leaves: a row inside that is full before the place where it stopped, and bare after it.
 pub record FillPost (lower upper order row : List ℕ) (stop : ℕ) : Type 0 where
   pub size : length row ≡ length lower
   pub parts : Parts (length lower) (listsRow lower upper) (at row)

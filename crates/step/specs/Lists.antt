@@ -4,6 +4,6 @@ use mathlib.Core.List.{List}
 use Rattle.setchain.specs.Rows.{IntervalRow}
 use Rattle.order.specs.States.{at}
 
--- the interval row that two lists hold
+-- The interval row that two lists hold.
 abbrev pub listsRow : List ℕ → List ℕ → IntervalRow
 listsRow lower upper = record { lower = at lower; upper = at upper }

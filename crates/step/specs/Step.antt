@@ -11,7 +11,7 @@ use Rattle.step.specs.Lists.{listsRow}
 use Rattle.step.specs.Figure.{LARGEST}
 use Rattle.order.specs.States.{at}
 
--- lists of one length, a sound row, payoffs that are not too large, and an order of the classes by payoff
+-- Lists of one length, a sound row, payoffs that are not too large, and an order of the classes by payoff.
 pub record StepPre (lower upper payoff order : List ℕ) (high : Bool) (row : List ℕ) : Type 0 where
   pub uppers : length upper ≡ length lower
   pub payoffs : length payoff ≡ length lower
@@ -20,7 +20,7 @@ pub record StepPre (lower upper payoff order : List ℕ) (high : Bool) (row : Li
   pub small : (j : ℕ) → j < length lower → at payoff j ≤ LARGEST
   pub sorted : SortedPermutation payoff high order
 
--- the row is one that reaches the figure r
+-- The row is one that reaches the figure r.
 pub record StepPost (lower upper payoff : List ℕ) (high : Bool) (row : List ℕ) (r : ℕ) : Type 0 where
   pub size : length row ≡ length lower
   pub reaches : Reaches high (length lower) (listsRow lower upper) (at payoff) (at row) r

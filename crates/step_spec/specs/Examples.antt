@@ -17,26 +17,26 @@ use Rattle.order.specs.States.{at}
 use Rattle.step_spec.specs.declared.StepAnswer.{StepAnswer}
 use Rattle.step_spec.specs.StepAnswer.{payoffOut, stepCause, classRow, StepAnswered}
 
--- a payoff of 30 in class 1 and 10 in class 2
+-- A payoff of 30 in class 1 and 10 in class 2.
 abbrev thirtyTen : List ℕ
 thirtyTen = 30 ∷ 10 ∷ []
 
--- four fifths and one fifth for the low figure, nine tenths and one tenth for the high one
+-- Four fifths and one fifth for the low figure, nine tenths and one tenth for the high one.
 pub figures-a : (stepFigure false 2 (classRow schemeA 2) (at thirtyTen) ≡ 26) × (stepFigure true 2 (classRow schemeA 2) (at thirtyTen) ≡ 28)
 unfolding stepFigure fillRow capacityBefore sumTo onlyIf
 figures-a = (refl, refl)
 
--- no cause; a class that there is not; and, before that, a payoff above its limit
+-- No cause; a class that there is not; and, before that, a payoff above its limit.
 pub causes-a : (stepCause schemeA thirtyTen 2 ≡ 0) × (stepCause schemeA thirtyTen 3 ≡ 11) × (stepCause schemeA (30 ∷ 1000000001 ∷ []) 3 ≡ 10)
 unfolding payoffOut causeWhere sizeOut startOut horizonOut ruleOut bandOut sumOut premiumOut anyBelow sumTo tab
 causes-a = (refl, refl, refl)
 
--- a payoff at its limit, and one above it that is stored beyond s
+-- A payoff at its limit, and one above it that is stored beyond s.
 pub limits-a : (stepCause schemeA (30 ∷ 1000000000 ∷ []) 2 ≡ 0) × (stepCause schemeA (30 ∷ 10 ∷ 1000000001 ∷ []) 2 ≡ 0)
 unfolding payoffOut causeWhere sizeOut startOut horizonOut ruleOut bandOut sumOut premiumOut anyBelow sumTo tab
 limits-a = (refl, refl)
 
--- the row that reaches the low figure: four fifths and one fifth, and 0 for the other 30
+-- The row that reaches the low figure: four fifths and one fifth, and 0 for the other 30.
 abbrev fourFifths : List ℕ
 fourFifths = 800000000 ∷ 200000000 ∷ replicate 30 0
 
@@ -55,7 +55,7 @@ reaches-a =
       rounded = refl;
     }
 
--- no state from 2 on has a part
+-- No state from 2 on has a part.
 beyond-a : (j : ℕ) → 2 ≤ j → at fourFifths j ≡ 0
 beyond-a zero h = absurd (omega arith)
 beyond-a (suc zero) h = absurd (omega arith)
@@ -65,12 +65,12 @@ beyond-a (suc (suc j)) h = by (decLt j 30)
     by (yes l) = getD-replicate 30 j 0 0 l
     by (no l) = List·getD-eq-default (replicate 30 0) 0 {n = j} (omega (arith, length-replicate {A = ℕ} 30 0))
 
--- an answer with this number, figure and row
+-- An answer with this number, figure and row.
 abbrev answerA : (number figure : ℕ) → List ℕ → StepAnswer
 answerA number figure row = record { number = number; figure = figure; row = row }
 
--- what the low step may answer for class 2, and what not: a part beyond s, another figure, another length; what the high step may not,
--- the low figure; and for class 3, which there is not, the number 11 with no figure and no part
+-- What the low step may answer for class 2, and what not: a part beyond s, another figure, another length; what the high step may not,
+-- the low figure; and for class 3, which there is not, the number 11 with no figure and no part.
 pub record StepAnswers : Type 0 where
   pub answered : StepAnswered false schemeA thirtyTen 2 (answerA 0 26 fourFifths)
   pub partBeyond : StepAnswered false schemeA thirtyTen 2 (answerA 0 26 (800000000 ∷ 200000000 ∷ 1 ∷ replicate 29 0)) → ⊥

@@ -18,7 +18,7 @@ use Rattle.order.specs.States.{at}
 use Rattle.step_spec.specs.declared.StepAnswer.{StepAnswer}
 use Rattle.step_spec.specs.StepAnswer.{payoffOut, stepCause, classRow, StepAnswered}
 
--- what is answered for one scheme and payoff is answered for the other
+-- What is answered for one scheme and payoff is answered for the other.
 module _ {s s′ : Scheme} (w : Alike s s′) (payoff payoff′ : List ℕ) (payoffs : (j : ℕ) → j < s .classes → at payoff j ≡ at payoff′ j) (class : ℕ) where
   cause-same : stepCause s payoff class ≡ stepCause s′ payoff′ class
   unfolding payoffOut
@@ -56,12 +56,12 @@ module _ {s s′ : Scheme} (w : Alike s s′) (payoff payoff′ : List ℕ) (pay
             (reaches-agree (agree-refl (s .classes) (classRow s class)) payoffs (λ j l. refl) (a .reaches z));
       }
 
--- the low and high step of one scheme and payoff have the same answers as those of another
+-- The low and high step of one scheme and payoff have the same answers as those of another.
 pub record SameSteps (s s′ : Scheme) (payoff payoff′ : List ℕ) : Type 0 where
   pub to : (high : Bool) (class : ℕ) (r : StepAnswer) → StepAnswered high s payoff class r → StepAnswered high s′ payoff′ class r
   pub back : (high : Bool) (class : ℕ) (r : StepAnswer) → StepAnswered high s′ payoff′ class r → StepAnswered high s payoff class r
 
--- schemes with the same values, and payoffs that agree up to s
+-- Schemes with the same values, and payoffs that agree up to s.
 pub same-steps : {s s′ : Scheme} → SameValues s s′ → (payoff payoff′ : List ℕ) → ((j : ℕ) → j < s .classes → at payoff j ≡ at payoff′ j)
     → SameSteps s s′ payoff payoff′
 same-steps v payoff payoff′ payoffs =
@@ -70,7 +70,7 @@ same-steps v payoff payoff′ payoffs =
       back = λ high class. alike-step (alike-back (same v)) payoff′ payoff (λ j l. sym (payoffs j (omega arith))) class high;
     }
 
--- "Values stored beyond s or m are ignored", of every scheme, accepted or not; "payoffs stored beyond s are ignored"
+-- "Values stored beyond s or m are ignored", of every scheme, accepted or not; "payoffs stored beyond s are ignored".
 pub step-ignored : (s : Scheme) (payoff payoff′ : List ℕ) → ((j : ℕ) → j < s .classes → at payoff j ≡ at payoff′ j)
     → SameSteps s (cleared s) payoff payoff′
 unfolding schemeOf

@@ -14,29 +14,29 @@ use Rattle.scheme.specs.Rows.{chainOf}
 use Rattle.step_spec.specs.declared.StepAnswer.{StepAnswer}
 use Rattle.order.specs.States.{at}
 
--- "A payoff is a whole number for each class, 0 to 1,000,000,000": some class's is above; "payoffs stored beyond s are ignored"
+-- "A payoff is a whole number for each class, 0 to 1,000,000,000": some class's is above; "payoffs stored beyond s are ignored".
 unfoldable pub payoffOut : Scheme → List ℕ → Bool
 payoffOut s payoff = anyBelow (s .classes) (λ i. ltb 1000000000 (at payoff i))
 
--- causes 3, 5 to 9, then 10, "a premium above 10,000,000, or in the one-year step a payoff above its limit", then 11
+-- Causes 3, 5 to 9, then 10, "a premium above 10,000,000, or in the one-year step a payoff above its limit", then 11.
 abbrev pub stepCause : Scheme → List ℕ → ℕ → ℕ
 stepCause s payoff class = orElse (causeWhere s (premiumOut s || payoffOut s payoff)) (classCause s class)
 
--- the interval row of a class, numbered from 1
+-- The interval row of a class, numbered from 1.
 abbrev pub classRow : Scheme → ℕ → IntervalRow
 classRow s class = chainOf s .row (class - 1)
 
--- what the low step answers (`high` is false), and the high step (`high` is true)
+-- What the low step answers (`high` is false), and the high step (`high` is true).
 pub record StepAnswered (high : Bool) (s : Scheme) (payoff : List ℕ) (class : ℕ) (r : StepAnswer) : Type 0 where
-  -- the first cause that applies, tests in number order, or 0
+  -- The first cause that applies, tests in number order, or 0.
   pub number : r .number ≡ stepCause s payoff class
-  -- the low figure of the class (for the high step: the high figure); 0 where the call is declined
+  -- The low figure of the class (for the high step: the high figure); 0 where the call is declined.
   pub figure : r .figure ≡ cond (eqb (stepCause s payoff class) 0) (stepFigure high (s .classes) (classRow s class) (at payoff)) 0
-  -- the row has 32 parts
+  -- The row has 32 parts.
   pub size : length (r .row) ≡ 32
-  -- all of them 0 where the call is declined
+  -- All of them 0 where the call is declined.
   pub declinedRow : (r .number ≡ 0 → ⊥) → r .row ≡ replicate 32 0
-  -- "with 0 beyond s"
+  -- "with 0 beyond s".
   pub beyond : r .number ≡ 0 → (j : ℕ) → s .classes ≤ j → at (r .row) j ≡ 0
-  -- where the call is not declined the row lies inside the class's interval and reaches its unrounded figure
+  -- Where the call is not declined the row lies inside the class's interval and reaches its unrounded figure.
   pub reaches : r .number ≡ 0 → Reaches high (s .classes) (classRow s class) (at payoff) (at (r .row)) (r .figure)

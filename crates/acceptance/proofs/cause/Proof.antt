@@ -12,7 +12,7 @@ form-cause-requires c κs = tt
 returns : tie.Need-returns
 returns c = cause-form _ _ _ (c .before .form-cause .ensures) (c .if1 .taken)
 
--- a form without a cause fits
+-- A form without a cause fits.
 fits : (c : tie.Else1) → SizeFits (c .before .before .args .scheme)
 fits c = size-fits _ _ (c .before .form-cause .ensures) (c .if1 .left)
 

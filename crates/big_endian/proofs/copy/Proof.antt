@@ -29,7 +29,7 @@ holds-requires-2 c κs = search needs
 returns-2 : tie.Need-returns-2 Inv-loop μ-loop
 returns-2 c = part-no-room _ _ _ _ _ (sym (c .before .holds2 .ensures) ∙ not-true (c .before .holds2 .result) (c .if2 .taken))
 
--- both slices hold the bytes
+-- Both slices hold the bytes.
 loop-holds : tie.Need-loop-holds Inv-loop μ-loop
 loop-holds c =
     let first = c .before .before in (

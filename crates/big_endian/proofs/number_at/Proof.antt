@@ -31,7 +31,7 @@ unfolding beAt
 loop-holds c =
     (omega arith, omega arith, leb-true _ _ (sym (c .before .holds .ensures) ∙ not-false (c .before .holds .result) (c .if2 .left)), refl, omega arith)
 
--- the number so far leaves room for one byte more
+-- The number so far leaves room for one byte more.
 room : (c : tie.In-loop Inv-loop μ-loop) → c .before .loop .number < 16777216
 room c = let turn = c .before .loop in read-room (turn .k) (turn .number) (omega arith) (turn .inv .4)
 

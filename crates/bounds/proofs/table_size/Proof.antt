@@ -6,7 +6,7 @@ use borrow.Author.Needs.{needs}
 use Rattle.bounds.proofs.table_size.Statement.{statement}
 use Rattle.bounds.proofs.table_size.Tie as tie
 
--- two bytes and 1 more multiplied
+-- Two bytes and 1 more multiplied.
 few : (horizon classes : ℕ) → horizon < 256 → classes < 256 → (horizon + 1) * (classes + 1) ≤ 65536
 few horizon classes h k = mul-le-mul {n₂ = 256} {m₂ = 256} (omega arith) (omega arith)
 

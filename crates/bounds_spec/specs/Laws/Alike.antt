@@ -19,7 +19,7 @@ use Rattle.bounds_spec.specs.Causes.{shareCause, moneyCause, sheetLength
 use Rattle.bounds_spec.specs.Answers.{startOf, figureShares}
 use Rattle.bounds_spec.specs.Table.{tableEntry, figureTable}
 
--- the figures of accepted schemes with the same values
+-- The figures of accepted schemes with the same values.
 module _ {s s′ : Scheme} (v : SameValues s s′) (none : causeOf s ≡ 0) where
   within : startOf s < s .classes
   within = let ok = accepted-cause s none in omega (arith, ok .start .positive, ok .start .within)
@@ -49,7 +49,7 @@ module _ {s s′ : Scheme} (v : SameValues s s′) (none : causeOf s ≡ 0) wher
     unfolding figureShares
     shares-same year = λ k. tab (v .classes k) (λ j. share-same year j k)
 
-    -- tables of the same figures
+    -- Tables of the same figures.
     pub table-same : figureTable high s ≡ figureTable high s′
     unfolding figureTable tableEntry
     table-same =
@@ -61,7 +61,7 @@ module _ {s s′ : Scheme} (v : SameValues s s′) (none : causeOf s ≡ 0) wher
         total : totalFigure high (chainOf s) (premiumAt s) (s .horizon) (startOf s) ≡ totalFigure high (chainOf s′) (premiumAt s′) (s′ .horizon) (startOf s′)
         total = total-same (s .horizon) ∙ ap (λ t. totalFigure high (chainOf s′) (premiumAt s′) t (startOf s′)) (v .horizon)
 
--- the causes of schemes that no operation tells apart, and what holds where there is none
+-- The causes of schemes that no operation tells apart, and what holds where there is none.
 module _ {s s′ : Scheme} (w : Alike s s′) where
   pub share-cause : (class year : ℕ) → shareCause s class year ≡ shareCause s′ class year
   share-cause class year = alike-next w (λ v. ap₂ orElse (class-same v class) (year-same v year))

@@ -21,13 +21,14 @@ use Rattle.scheme.specs.Laws.Judged.{accepted-cause}
 use Rattle.scheme.specs.Laws.Sound.{accepted-sound}
 use Rattle.scheme.specs.Laws.Tab.{getD-tab}
 use Rattle.bounds_spec.specs.declared.Bounds.the-variants.{Answered, Refused}
-use Rattle.bounds_spec.specs.Answers.{numberOf, lowOf, highOf, answerBy, startOf, shareCause, shareAnswer, moneyCause, meanAnswer, totalAnswer}
+use Rattle.bounds_spec.specs.Answers.{numberOf, lowOf, highOf, answerBy, startOf, shareAnswer, meanAnswer, totalAnswer}
 use Rattle.bounds_spec.specs.Answers.{sheetCause, sheetSlice, figureShares, lowShares, highShares}
 use Rattle.bounds_spec.specs.Promises.{Kept, startShare, startMean, startTotal, SharePromise, MeanPromise, TotalPromise, SheetPromise, TableKept, FiguresPromise}
-use Rattle.bounds_spec.specs.Table.{tableSize, lowTable, highTable, tableCause}
+use Rattle.bounds_spec.specs.Table.{lowTable, highTable, tableCause}
 use Rattle.bounds_spec.specs.Laws.Table.{share-at, mean-at, total-at}
+use Rattle.bounds_spec.specs.Causes.{shareCause, moneyCause, tableSize}
 
--- a promise for every state, at the start class
+-- A promise for every state, at the start class.
 at-start : (s : Scheme) → Accepted s → (t : ℕ) (low high : ℕ → ℕ) (exact : List Matrix → ℕ → Fraction) → Promise (chainOf s) t low high exact
     → Kept s t (λ ps. exact ps (startOf s)) (low (startOf s)) (high (startOf s))
 at-start s ok t low high exact p =
@@ -40,7 +41,7 @@ at-start s ok t low high exact p =
     within : startOf s < s .classes
     within = omega (arith, ok .start .positive, ok .start .within)
 
--- the three figures of a state, each by its theorem
+-- The three figures of a state, each by its theorem.
 module _ (s : Scheme) (ok : Accepted s) (t : ℕ) where
   share-at-start : (j : ℕ) → Kept s t (startShare s j) (lowShare (chainOf s) j t (startOf s)) (highShare (chainOf s) j t (startOf s))
   share-at-start j = at-start s ok t (lowShare (chainOf s) j t) (highShare (chainOf s) j t) (shareInParts (s .classes) j) (share-promise (chainOf s) (accepted-sound s ok) j t)
@@ -55,7 +56,7 @@ module _ (s : Scheme) (ok : Accepted s) (t : ℕ) where
       at-start s ok t (lowTotal (chainOf s) (premiumAt s) t) (highTotal (chainOf s) (premiumAt s) t) (exactTotal (s .classes) (premiumAt s))
       (total-promise (chainOf s) (accepted-sound s ok) (premiumAt s) t)
 
--- an answer's number is its cause
+-- An answer's number is its cause.
 answer-number : (n low high : ℕ) → numberOf (answerBy n low high) ≡ n
 answer-number n low high = by (ℕ-discrete n 0)
   where
@@ -63,7 +64,7 @@ answer-number n low high = by (ℕ-discrete n 0)
     by (yes z) = ap numberOf (answered n (Answered low high) (Refused n) z) ∙ sym z
     by (no h) = ap numberOf (declined n (Answered low high) (Refused n) h)
 
--- where there is no cause the figures are those of the definition
+-- Where there is no cause the figures are those of the definition.
 kept-answer : (s : Scheme) (t n low high : ℕ) (exact : List Matrix → Fraction) → (n ≡ 0 → Kept s t exact low high)
     → numberOf (answerBy n low high) ≡ 0 → Kept s t exact (lowOf (answerBy n low high)) (highOf (answerBy n low high))
 kept-answer s t n low high exact k e =
@@ -88,7 +89,7 @@ total-kept s year =
     kept-answer s year (moneyCause s year) _ _ (startTotal s)
     (λ z. total-at-start s (accepted-cause s (first-none (causeOf s) (yearCause s year) z)) year)
 
--- of the slices as a share sheet leaves them
+-- Of the slices as a share sheet leaves them.
 pub sheet-kept : (s : Scheme) (year : ℕ) (low high : List ℕ)
     → SheetPromise s year (sheetCause s year low high)
     (sheetSlice (sheetCause s year low high) (lowShares s year) low)
@@ -106,11 +107,11 @@ sheet-kept s year low high z j l = subst₂ (Kept s year (startShare s j)) (sym 
     written side before =
         ap (λ x. getD x j 0) (answered number (figureShares side s year) before z) ∙ getD-tab (s .classes) (λ k. shareFigure side (chainOf s) k year (startOf s)) j 0 l
 
--- the promises are not empty: picks for any number of years exist
+-- The promises are not empty: picks for any number of years exist.
 pub picks-exist : (s : Scheme) → Accepted s → (t : ℕ) → (ps : List Matrix) × PicksFor (chainOf s) t ps
 picks-exist s ok t = some-picks (chainOf s) (accepted-sound s ok) t
 
--- of an accepted scheme's tables
+-- Of an accepted scheme's tables.
 table-kept : (s : Scheme) → Accepted s → TableKept s (lowTable s) (highTable s)
 table-kept s ok =
     record {
@@ -119,7 +120,7 @@ table-kept s ok =
       total = subst₂ (Kept s (s .horizon) (startTotal s)) (sym (total-at false s)) (sym (total-at true s)) (total-at-start s ok (s .horizon));
     }
 
--- of the slices as a call for all figures leaves them
+-- Of the slices as a call for all figures leaves them.
 pub figures-kept : (s : Scheme) (low high : List ℕ)
     → FiguresPromise s (tableCause s low high)
     (sheetSlice (tableCause s low high) (lowTable s) low)

@@ -9,7 +9,7 @@ use Rattle.scheme.specs.declared.Scheme.{Scheme}
 use Rattle.scheme.specs.Rows.{chainOf}
 use Rattle.bounds_spec.specs.Promises.{Kept}
 
--- the lows are no further than t apart, and the highs
+-- The lows are no further than t apart, and the highs.
 pub record Pinned (t low high low′ high′ : ℕ) : Type 0 where
   pub lowBelow : low ≤ low′ + t
   pub lowAbove : low′ ≤ low + t

@@ -14,16 +14,17 @@ use Rattle.scheme.specs.Accepted.{Accepted}
 use Rattle.scheme.specs.Rows.{chainOf}
 use Rattle.scheme.specs.Laws.Tab.{getD-tab}
 use Rattle.bounds_spec.specs.Answers.{startOf}
-use Rattle.bounds_spec.specs.Table.{placeOf, totalPlace, tableSize, tableEntry, figureTable}
+use Rattle.bounds_spec.specs.Table.{placeOf, tableEntry, figureTable}
+use Rattle.bounds_spec.specs.Causes.{totalPlace, tableSize}
 
--- the table of an accepted scheme is not large
+-- The table of an accepted scheme is not large.
 pub table-at-most : (s : Scheme) → Accepted s → tableSize s ≤ 3334
 table-at-most s ok =
     let years : suc (s .horizon) ≤ 101 = omega (arith, ok .horizon .within) in
     let columns : suc (s .classes) ≤ 33 = omega (arith, ok .size .classes) in
     omega (arith, mul-le-mul years columns)
 
--- a place before the total, by its year and number
+-- A place before the total, by its year and number.
 module _ (s : Scheme) where
   pub place-below : (t j : ℕ) → t ≤ s .horizon → j ≤ s .classes → placeOf s t j < totalPlace s
   place-below t j h l =
@@ -64,7 +65,7 @@ module _ (s : Scheme) (share : ℕ → ℕ → ℕ) (mean : ℕ → ℕ) (total 
   unfolding tableEntry
   entry-total = simp (le-ltb (totalPlace s) (totalPlace s) (omega arith))
 
-  -- the same in the list
+  -- The same in the list.
   table-share : (t j : ℕ) → t ≤ s .horizon → j < s .classes → getD (tab (tableSize s) (tableEntry s share mean total)) (placeOf s t j) 0 ≡ share t j
   table-share t j h l =
       getD-tab (tableSize s) (tableEntry s share mean total) (placeOf s t j) 0 (let k = place-below s t j h (omega arith) in omega arith) ∙ entry-share t j h l
@@ -77,7 +78,7 @@ module _ (s : Scheme) (share : ℕ → ℕ → ℕ) (mean : ℕ → ℕ) (total 
   table-total : getD (tab (tableSize s) (tableEntry s share mean total)) (totalPlace s) 0 ≡ total
   table-total = getD-tab (tableSize s) (tableEntry s share mean total) (totalPlace s) 0 (omega arith) ∙ entry-total
 
--- the table of low or high figures
+-- The table of low or high figures.
 module _ (high : Bool) (s : Scheme) where
   module _ (t : ℕ) (h : t ≤ s .horizon) where
     pub share-at : (j : ℕ) → j < s .classes → getD (figureTable high s) (placeOf s t j) 0 ≡ shareFigure high (chainOf s) j t (startOf s)

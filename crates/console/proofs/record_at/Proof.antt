@@ -10,7 +10,7 @@ use Rattle.console.proofs.RecordLaws.{record-none, record-held}
 use Rattle.console.proofs.record_at.Statement.{statement}
 use Rattle.console.proofs.record_at.Tie as tie
 
--- the input holds the length
+-- The input holds the length.
 room : (c : tie.Else1) → c .before .before .before .args .at + 2 ≤ length (c .before .before .before .args .input .now)
 room c = leb-true _ _ (sym (c .before .holds .ensures) ∙ not-false (c .before .holds .result) (c .if1 .left))
 

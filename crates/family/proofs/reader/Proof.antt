@@ -83,33 +83,33 @@ use Rattle.family.proofs.reader.Code.Mir as parts
 abbrev stayed : Stays (it.ended .signature .params) (it.ended .kept)
 stayed = (stay-none-slice (0 ∷ []) tt (plain (λ _. u8)) yes, tt)
 
--- what a turn runs where its test holds: the reader is lent, called, and its band shown
+-- What a turn runs where its test holds: the reader is lent, called, and its band shown.
 abbrev more : Code
 more =
     seq (assign (place 11 []) (addrOf (place 3 []))) (seq (call #record-parts·next (copy (place 11 []) ∷ []) (place 10 []))
     (seq (call #family·shown-band (copy (place 10 []) ∷ []) (place 9 [])) (assign (place 4 []) (op2 (add unsigned) (copy (place 4 [])) (int w8 1)))))
 
--- the calls made so far, at most nine, and the reader that they left
+-- The calls made so far, at most nine, and the reader that they left.
 abbrev Made : Type 0
 Made = ((n : ℕ) × (n ≤ 9)) × Reader
 
--- fewer calls are left to be made
+-- Fewer calls are left to be made.
 abbrev Nearer : Made → Made → Type 0
 Nearer x y = 9 - x .0 .0 < 9 - y .0 .0
 
 Nearer-wf : WellFounded Nearer
 Nearer-wf = InvImage·wf (λ (x : Made). 9 - x .0 .0) (Nat·lt-wfRel .wf)
 
--- the count is a byte
+-- The count is a byte.
 fits : (x : Made) → x .0 .0 < 2 ^ 8
 fits x = lt-of-le-of-lt (x .0 .1) (lit< tt)
 
--- one call more, which left the reader g
+-- One call more, which left the reader g.
 abbrev one-more : (x : Made) (g : Reader) → Holds (ltb (x .0 .0) 9) → Made
 one-more x g less = ((x .0 .0 + 1, add-one-le (ltb→lt (x .0 .0) 9 less)), g)
 
 module _ {M : Type 1} (𝓤 : URA M) (H : Heap 𝓤) (A : Atoms 𝓤) (mem : Memory → SProp 𝓤) (run : Routine → Fun 𝓤) where
-  -- the contracts of the callees that print
+  -- The contracts of the callees that print.
   abbrev Number : Contract 𝓤
   Number = tripleOf 𝓤 H A opened.signature (opened.spec 𝓤 H A mem run)
 
@@ -121,14 +121,14 @@ module _ {M : Type 1} (𝓤 : URA M) (H : Heap 𝓤) (A : Atoms 𝓤) (W : Given
   abbrev Post : Val → SProp 𝓤
   Post = walkOf 𝓤 H A it.ended stayed (it.clauses 𝓤 H A at-mem run) .post (((κ, tt), (q, tt), tt, (s, tt), (value s ∷ [], tt)), tt)
 
-  -- the call of `opened`
+  -- The call of `opened`.
   abbrev to-number : ℕ → Number 𝓤 H A at-mem run .Ghost
   to-number n = ((tt, tt, tt, (n, tt), (vint w8 n ∷ [], tt)), tt)
 
   goes-number : (n : ℕ) → n < 2 ^ 8 → ent 𝓤 (emp 𝓤) (Number 𝓤 H A at-mem run .pre (to-number n))
   goes-number n small = qed W [] ∵ nothing ! $ owned ! u8 (Is u8) (uint-makes 𝓤 H A W w8) n _ (refl, small) $ fjoin ! $ nothing ! $ join ! $ frame ! $ done !
 
-  -- the call of `shown_band`
+  -- The call of `shown_band`.
   abbrev to-shown : Band → Val → Shown 𝓤 H A at-mem run .Ghost
   to-shown t u = ((tt, tt, tt, (t, tt), (u ∷ [], tt)), tt)
 
@@ -144,7 +144,7 @@ module _ {M : Type 1} (𝓤 : URA M) (H : Heap 𝓤) (A : Atoms 𝓤) (W : Given
   module _ (𝓣 : Tables 𝓤 H) (known-open : Triple 𝓤 (𝓣 .C #record-parts·open) (Opening 𝓤 H A at-mem run))
       (known-number : Triple 𝓤 (𝓣 .C #family·opened) (Number 𝓤 H A at-mem run)) (known-next : Triple 𝓤 (𝓣 .C #record-parts·next) (Next 𝓤 H A at-mem run))
       (known-shown : Triple 𝓤 (𝓣 .C #family·shown-band) (Shown 𝓤 H A at-mem run)) where
-    -- the tables of calls and loops
+    -- The tables of calls and loops.
     abbrev C : Calls 𝓤 H
     C = 𝓣 .C
 
@@ -155,21 +155,21 @@ module _ {M : Type 1} (𝓤 : URA M) (H : Heap 𝓤) (A : Atoms 𝓤) (W : Given
     fm = fmOf 𝓤 H (W .laws) 𝓣
 
     module _ (l₀ l₁ l₂ l₃ l₄ l₅ l₆ l₇ l₈ l₉ m₀ m₁ : ℕ) where
-      -- the locals, at these places
+      -- The locals, at these places.
       abbrev E : Env 𝓤 H
       E = placed parts.locals (l₀ ∷ l₁ ∷ l₂ ∷ l₃ ∷ l₄ ∷ l₅ ∷ l₆ ∷ l₇ ∷ l₈ ∷ l₉ ∷ m₀ ∷ m₁ ∷ [])
 
-      -- before a turn: [the reader in _3; the token; the calls in _4; room for _8 at 3, for _9, for _10 and for _11 at 9; the ends of _3 and _4;
-      -- room for _0 at 13, for _1 and for _2; room for _5 at 19, for _6 and for _7; what s owns]
+      -- Before a turn: [the reader in _3; the token; the calls in _4; room for _8 at 3, for _9, for _10 and for _11 at 9; the ends of _3 and _4;
+      -- room for _0 at 13, for _1 and for _2; room for _5 at 19, for _6 and for _7; what s owns].
       abbrev At : Made → List (Item 𝓤)
       At x = ‵ (mem (R κ) .lies (x .1) l₃ 0) ∷ Token κ q ∷ ‵ (fat fullShare (tyInt w8) l₄ 0 (vint w8 (x .0 .0))) ∷ vacant (after 8 E)
           (‵ (fdies (T′.mir erased) l₃) ∷ ‵ (fdies (tyInt w8) l₄) ∷ vacant (take 3 E) (vacant (take 3 (after 5 E)) (‵ (Own κ s) ∷ [])))
 
-      -- a turn's postcondition: it ends nearer to nine calls, or the loop is left and the rest of the body runs
+      -- A turn's postcondition: it ends nearer to nine calls, or the loop is left and the rest of the body runs.
       abbrev Turned : Made → Out → SProp 𝓤
       Turned x = afterTurn 𝓤 H (Below 𝓤 H A Nearer At x) (afterBlock 𝓤 H (afterSeq 𝓤 H (Wp 𝓤 H C Λ E parts.t-8 (atReturn 𝓤 H E Post)) (atReturn 𝓤 H E Post)))
 
-      -- a turn makes one call more and shows its band, or it leaves the loop, and the function returns
+      -- A turn makes one call more and shows its band, or it leaves the loop, and the function returns.
       turns : (x : Made) → Sq W (At x) (runs C Λ E parts.turn-1 (anyQ (Turned x)))
       unfolding afterTurn
       turns x =
@@ -178,7 +178,7 @@ module _ {M : Type 1} (𝓤 : URA M) (H : Heap 𝓤) (A : Atoms 𝓤) (W : Given
           (λ less. skips ! $ exec ! C Λ E more (anyQ (Turned x)) $
           assigns ! (addr ! (from ! (stop !))) (from ! (stop !)) (init ! 9 refl (tt, tt)) $
           round W at-mem run κ q C Λ fm known-next ! l₃ (x .1) (λ ν δ. and-then ! (load ! (from ! (stop !)) (look ! 10 refl)) (no-more !)) (λ u t g is e.
-          -- [the band; the reader in _3; the token; the calls; _8 at 4; …; room for _9 at 6, for _10 at 8; …]
+          -- [the band; the reader in _3; the token; the calls; _8 at 4; …; room for _9 at 6, for _10 at 8; …].
           land ! (from ! (stop !)) (init ! 8 refl (EL.lawful B.the-type B′.the-laws 𝓤 H A W tt .typed t _ is .0)) $
           use1 W (raw (Shown 𝓤 H A at-mem run .pre (to-shown t u))) (goes-shown t u) $
           calls-at ! fm (Shown 𝓤 H A at-mem run) known-shown (to-shown t u) (and-then ! (load ! (from ! (stop !)) (look ! 8 refl)) (no-more !)) (λ u′.
@@ -193,11 +193,11 @@ module _ {M : Type 1} (𝓤 : URA M) (H : Heap 𝓤) (A : Atoms 𝓤) (W : Given
           (λ over. jumps ! $ exec ! C Λ E parts.t-8 (atRet E Post) $
           assigns ! (of-opd ! (unit-lit !)) (from ! (stop !)) (init ! 13 refl (tt, tt)) $
           use1 W (‵ (Cell (x .1) l₃)) (lies-out W κ (x .1) l₃) $ returns ! (look ! 13 refl) $ forget ! 0 refl $ forget ! 2 refl $ forget ! 3 refl $ forget ! 13 refl $
-          -- the locals in their order, from _0 on
+          -- The locals in their order, from _0 on.
           move ! (13 ∷ 14 ∷ 15 ∷ 16 ∷ 17 ∷ 18 ∷ 0 ∷ 11 ∷ 2 ∷ 12 ∷ 19 ∷ 20 ∷ 21 ∷ 22 ∷ 23 ∷ 24 ∷ 3 ∷ 4 ∷ 5 ∷ 6 ∷ 7 ∷ 8 ∷ 9 ∷ 10 ∷ []) $
           free-all ! E $ by ! exits)
 
-    -- the function up to the loop, and the loop
+    -- The function up to the loop, and the loop.
     walk : Is (ShrSlice (named 0) κ u8) s (value s ∷ [])
         → ent 𝓤 (onEntry 𝓤 H A it.signature (κ, tt) (q, tt) (s, tt) (value s ∷ [], tt)) (WpFn 𝓤 H C Λ code.function (value s ∷ []) Post)
     walk p =
@@ -211,7 +211,7 @@ module _ {M : Type 1} (𝓤 : URA M) (H : Heap 𝓤) (A : Atoms 𝓤) (W : Given
         use1 W (later (some (λ (r : Opened). (Token κ q ⊛ ‵ (OwnO κ r u))
         ⊛ raw (ensured 𝓤 H A opening.ended (opening.clauses 𝓤 H A at-mem run) (κ, tt) (s, tt) tt r)))) (id⊢ 𝓤 _) $ await ! tt $ pick ! (λ r.
         split ! $ move ! (1 ∷ []) $ drop ! $ split ! $ move ! (1 ∷ []) $
-        -- [what the answer owns; the token; what s owns; room for _11 at 3; …; _7 at 11; …; _6 at 13; …; _5 at 15; …; _4 at 17; …; _3 at 19; …; _2 at 21; …; _1; …; _0; …]
+        -- [what the answer owns; the token; what s owns; room for _11 at 3; …; _7 at 11; …; _6 at 13; …; _5 at 15; …; _4 at 17; …; _3 at 19; …; _2 at 21; …; _1; …; _0; …].
         peeks ! (O.the-row (lifetime κ)) (Is (O.the-row (lifetime κ))) (shows 𝓤 H A (O.the-row (lifetime κ))) r (u ∷ []) (λ is.
         land ! (from ! (stop !)) (init ! 21 refl (LL.lawful (O.the-type (in-local κ)) (O′.the-laws (in-local κ)) 𝓤 H A W .typed r _ is .0)) $
         rewrite ! 21 (λ (y : Val). ‵ (fat fullShare (O′.mir erased) l₂ 0 y)) (ap only (LL.tells (O.the-type (lifetime κ)) (O′.the-laws (lifetime κ)) r _ is)) refl $
@@ -229,11 +229,11 @@ module _ {M : Type 1} (𝓤 : URA M) (H : Heap 𝓤) (A : Atoms 𝓤) (W : Given
         assigns ! (of-opd ! (load ! (from ! (stop !)) (look ! 11 refl))) (from ! (stop !))
         (init ! 19 refl (typed W κ (r .reader) _ (LL.owed (O.the-type (lifetime κ)) (O′.the-laws (lifetime κ)) r _ is .1 .0))) $
         assigns ! (of-opd ! (lit ! tt)) (from ! (stop !)) (init ! 17 refl (tt, record { fits = lit< tt })) $
-        -- the reader is taken out of the answer, and lies in the local
+        -- The reader is taken out of the answer, and lies in the local.
         use1 W (given (O′.lowered r ∷ [] ≡ O′.lowered r ∷ []) (‵ (all-own (O.the-type (lifetime κ) .parts) (O′.the-laws (lifetime κ)) (r .number, (r .reader, tt)))))
         (own-open 𝓤 H A W (O.the-type (lifetime κ)) (O′.the-laws (lifetime κ)) (r .number, (r .reader, tt)) (O′.lowered r)) $ learn ! (λ _.
         fsplit ! $ drop ! $ fsplit ! $ move ! (20 ∷ 0 ∷ []) $ use2 W (‵ (mem (R κ) .lies (r .reader) l₃ 0)) (lies-in W κ (r .reader) l₃) $
-        -- [the reader in _3; …; the token; what s owns; room for _11 at 4; …; _7 at 12; …; _6; …; _5; …; _4 at 18; …; _3's end; _2 at 21; …; _1; …; room for _0 at 25; …]
+        -- [the reader in _3; …; the token; what s owns; room for _11 at 4; …; _7 at 12; …; _6; …; _5; …; _4 at 18; …; _3's end; _2 at 21; …; _1; …; room for _0 at 25; …].
         forget ! 12 refl $ forget ! 14 refl $ forget ! 16 refl $ forget ! 21 refl $ forget ! 23 refl $
         keep ! (0 ∷ 2 ∷ 18 ∷ 10 ∷ 11 ∷ 8 ∷ 9 ∷ 6 ∷ 7 ∷ 4 ∷ 5 ∷ 20 ∷ 19 ∷ 25 ∷ 26 ∷ 23 ∷ 24 ∷ 21 ∷ 22 ∷ 16 ∷ 17 ∷ 14 ∷ 15 ∷ 12 ∷ 13 ∷ 3 ∷ []) $
         first ! $ blocks ! $

@@ -11,19 +11,19 @@ use Rattle.record_spec.specs.Layout.{version1, schemeIn}
 use Rattle.record_spec.specs.Read.{frameCause, readCause, readAnswer}
 use Rattle.record_spec.specs.Laws.Read.{read-cause, read-passed, read-in}
 
--- a test's number is the one that it gives, or 0
+-- A test's number is the one that it gives, or 0.
 pub cause-only : (b : Bool) (k : ℕ) {n : ℕ} → n ≡ cond b k 0 → (n ≡ 0 → ⊥) → n ≡ k
 cause-only true k e some = e
 cause-only false k e some = absurd (some e)
 
--- the first cause, and the second where there is no first
+-- The first cause, and the second where there is no first.
 pub cause-first : {n first : ℕ} (second : ℕ) → n ≡ first → (n ≡ 0 → ⊥) → n ≡ orElse first second
 cause-first {n} {first} second e some = e ∙ sym (first-cause first second (λ z. some (e ∙ z)))
 
 pub cause-second : {n first second : ℕ} → first ≡ 0 → n ≡ second → n ≡ orElse first second
 cause-second {n} {first} {second} none e = e ∙ sym (second-cause first second none)
 
--- a record with a cause of reading, and without
+-- A record with a cause of reading, and without.
 module _ (bytes : List ℕ) {a : ReadAnswer} (is : a ≡ readAnswer bytes) where
   pub stopped-number : (second : ℕ) → (a .number ≡ 0 → ⊥) → a .number ≡ orElse (readCause bytes) second
   stopped-number second some = cause-first second (read-cause bytes is) some
@@ -31,7 +31,7 @@ module _ (bytes : List ℕ) {a : ReadAnswer} (is : a ≡ readAnswer bytes) where
   pub passed-number : {n second : ℕ} → a .number ≡ 0 → n ≡ second → n ≡ orElse (readCause bytes) second
   passed-number none e = cause-second (read-passed bytes is none) e
 
-  -- the scheme that is read has no cause
+  -- The scheme that is read has no cause.
   pub passed-scheme : a .number ≡ 0 → causeOf (a .scheme) ≡ 0
   passed-scheme none =
       ap causeOf (read-in bytes is none) ∙ second-none (frameCause bytes) (causeOf (schemeIn version1 bytes)) (read-passed bytes is none)

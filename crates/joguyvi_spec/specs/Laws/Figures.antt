@@ -16,15 +16,15 @@ use Rattle.bounds_spec.specs.Laws.Kept.{share-kept, mean-kept, total-kept}
 use Rattle.joguyvi_spec.specs.Buffers.{bufferCause, BufferPost}
 use Rattle.joguyvi_spec.specs.Figures.{putNumber, lowAndHigh, boundsNumber, BoundsCall, ShareCall, MeanCall, TotalCall}
 
--- what is answered and left for low and high of a record: the cause of reading comes first
+-- What is answered and left for low and high of a record: the cause of reading comes first.
 abbrev pub RecordBoundsPost : (query : Scheme → Bounds) (bytes out : List ℕ) (number : ℕ) (out′ : List ℕ) → Type 0
 RecordBoundsPost query bytes out = BufferPost (boundsNumber bytes (query (schemeIn version1 bytes)) out) (lowAndHigh (query (schemeIn version1 bytes))) out
 
--- what low and high of a scheme promise where they are answered
+-- What low and high of a scheme promise where they are answered.
 abbrev pub BoundsPromise : (exact : Scheme → List Matrix → Fraction) (year : ℕ) → Scheme → Bounds → Type 0
 BoundsPromise exact year s b = numberOf b ≡ 0 → Kept s year (exact s) (lowOf b) (highOf b)
 
--- the buffer keeps it where the number is 0
+-- The buffer keeps it where the number is 0.
 pub bounds-call : {query : Scheme → Bounds} {exact : Scheme → List Matrix → Fraction} {year : ℕ} (bytes out : List ℕ) {number : ℕ} {out′ : List ℕ}
     → BoundsPromise exact year (schemeIn version1 bytes) (query (schemeIn version1 bytes)) → RecordBoundsPost query bytes out number out′
     → BoundsCall query exact bytes year out number out′
@@ -40,7 +40,7 @@ bounds-call {query} bytes out {number} {out′} kept put =
           rw full (kept (first-none (numberOf b) (bufferCause 2 out) none));
     }
 
--- the share of a class, the mean premium of a year, and the total
+-- The share of a class, the mean premium of a year, and the total.
 module _ (bytes : List ℕ) (year : ℕ) (out : List ℕ) {number : ℕ} {out′ : List ℕ} where
   pub share-call : (class : ℕ) → RecordBoundsPost (λ s. shareAnswer s class year) bytes out number out′ → ShareCall bytes class year out number out′
   share-call class = bounds-call bytes out (share-kept (schemeIn version1 bytes) class year)

@@ -17,7 +17,7 @@ use Rattle.step_spec.specs.StepAnswer.{stepCause, classRow, StepAnswered}
 use Rattle.joguyvi_spec.specs.Buffers.{BuffersPost}
 use Rattle.joguyvi_spec.specs.Steps.{payoffRead, stepBuffers, stepNumber, StepCall}
 
--- an answer of the step, put into its buffers
+-- An answer of the step, put into its buffers.
 module _ (high : Bool) (bytes payoff : List ℕ) (class : ℕ) (figure row : List ℕ) {answer : StepAnswer}
     (is : StepAnswered high (schemeIn version1 bytes) (payoffRead payoff) class answer)
     {n : ℕ} {figure′ row′ : List ℕ} (put : BuffersPost (stepNumber bytes payoff class figure row) (answer .figure ∷ []) (answer .row) figure row n figure′ row′) where

@@ -10,7 +10,7 @@ use Rattle.joguyvi_spec.specs.Buffers.{bufferCause, BuffersPost}
 use Rattle.joguyvi_spec.specs.Laws.Buffers.{buffer-out, buffer-fits, thirteen, unfilled, one}
 use Rattle.joguyvi_spec.specs.Laws.Causes.{cause-first, cause-second}
 
--- what is answered and left for a text of length v with the cause n, where `out` is then to hold `full`
+-- What is answered and left for a text of length v with the cause n, where `out` is then to hold `full`.
 abbrev pub TextPost : (n v : ℕ) (full out size : List ℕ) (number : ℕ) (out′ size′ : List ℕ) → Type 0
 TextPost n v full out size = BuffersPost (orElse n (bufferCause 1 size)) full (v ∷ []) out size
 
@@ -18,7 +18,7 @@ thirteen-whole : (n : ℕ) (size : List ℕ) → ((n ≡ 0 → ⊥) → n ≡ 13
 thirteen-whole n size only e (yes z) = cause-second z (sym e)
 thirteen-whole n size only e (no h) = cause-first (bufferCause 1 size) (sym (only h)) thirteen
 
--- a cause that is 13 where it is not 0, and `out` is then left as it was
+-- A cause that is 13 where it is not 0, and `out` is then left as it was.
 module _ {n v : ℕ} {full out size : List ℕ} (only : (n ≡ 0 → ⊥) → n ≡ 13) (left : (n ≡ 0 → ⊥) → full ≡ out) where
   pub text-out : (length size ≡ 1 → ⊥) → TextPost n v full out size 13 out size
   text-out wrong =

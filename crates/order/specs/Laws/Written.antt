@@ -9,7 +9,7 @@ use lib.Seq.{getD-set-same, getD-set-other, ext-getD}
 use borrow.Author.Count.{below-none, below-more}
 use Rattle.order.specs.States.{at}
 
--- the n places of the list, of which those below i hold what the rule says
+-- The n places of the list, of which those below i hold what the rule says.
 pub record Written (n : ℕ) (f : ℕ → ℕ) (a : List ℕ) (i : ℕ) : Type 0 where
   pub size : length a ≡ n
   pub inside : i ≤ n
@@ -29,11 +29,11 @@ written-more n f a i v l e w =
           (getD-set-same a i v 0 (omega (arith, w .size)) ∙ e);
     }
 
--- a list written whole from another is that list
+-- A list written whole from another is that list.
 pub written-copy : {b a : List ℕ} {i : ℕ} → length b ≤ i → Written (length b) (at b) a i → a ≡ b
 written-copy {b} {a} h w = ext-getD 0 a b (w .size) (λ k l. w .done k (omega (arith, w .size)))
 
--- of a list's n places those below i hold what the rule makes of what stood there, and the others what stood there
+-- Of a list's n places those below i hold what the rule makes of what stood there, and the others what stood there.
 pub record Rewritten (n : ℕ) (rule : ℕ → ℕ → ℕ) (before after : List ℕ) (i : ℕ) : Type 0 where
   pub size : length after ≡ n
   pub inside : i ≤ n

@@ -7,7 +7,7 @@ use borrow.Author.Needs.{needs}
 use Rattle.record.proofs.length_of.Statement.{statement}
 use Rattle.record.proofs.length_of.Tie as tie
 
--- s × m fits
+-- s × m fits.
 product : (c : tie.Start) → c .args .classes * c .args .columns ≤ 255 * 255
 product c =
     let s : c .args .classes ≤ 255 = omega arith in

@@ -14,7 +14,7 @@ frame-requires c κs = search needs
 declined-requires : tie.Need-declined-requires
 declined-requires c κs = search needs
 
--- no cause in the frame: the scheme's cause is the answer's number
+-- No cause in the frame: the scheme's cause is the answer's number.
 next : (c : tie.After-cause) → let at-frame = c .before .before .before in c .cause .result ≡ readCause (at-frame .before .before .args .bytes .now)
 next c =
     scheme-next _ (sym (c .before .before .before .frame .ensures) ∙ c .before .before .if1 .left)

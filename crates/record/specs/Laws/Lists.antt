@@ -6,20 +6,19 @@ use native.Mathlib.Omega.{arith}
 use native.Mathlib.Nat.{add-zero, zero-add}
 use lib.ListN.{length, getD, take, drop, set, length-set, length-drop}
 use lib.Seq.{sets, sets-eq, getD-drop, getD-take, length-take-le, getD-set-other, getD-set-same}
-pub use Rattle.big_endian_spec.specs.Laws.{sets-append, sets-more}
 
--- a part of a list: its length and its entries
+-- A part of a list: its length and its entries.
 pub part-length : (n p : ℕ) (l : List ℕ) → p + n ≤ length l → length (take n (drop p l)) ≡ n
 part-length n p l h = length-take-le n (drop p l) (rw (length-drop p l) (omega arith))
 
 pub part-at : (n p : ℕ) (l : List ℕ) (k : ℕ) → k < n → getD (take n (drop p l)) k 0 ≡ getD l (p + k) 0
 part-at n p l k h = getD-take n (drop p l) k 0 h ∙ getD-drop p l k 0
 
--- laid from the front: the values, then the rest as it was
+-- Laid from the front: the values, then the rest as it was.
 pub sets-front : (l a : List ℕ) → length a ≤ length l → sets l 0 a ≡ a ++ drop (length a) l
 sets-front l a h = let e : 0 + length a ≡ length a = zero-add (length a) in sets-eq a l 0 (omega arith) ∙ ap (λ n. a ++ drop n l) e
 
--- what stands below, at and past the values
+-- What stands below, at and past the values.
 pub sets-below : (l : List ℕ) (i : ℕ) (a : List ℕ) (q : ℕ) → q < i → getD (sets l i a) q 0 ≡ getD l q 0
 sets-below l i [] q h = refl
 sets-below l i (x ∷ a) q h = sets-below (set l i x) (suc i) a q (omega arith) ∙ getD-set-other l i q x 0 (λ e. omega arith)

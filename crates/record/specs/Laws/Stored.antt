@@ -13,12 +13,12 @@ use Rattle.scheme.specs.Laws.Tab.{length-tab, getD-tab, as-tab}
 use Rattle.scheme.specs.Laws.Stored.{split, upTo-below, upTo-past}
 use Rattle.record.specs.Laws.Lists.{sets-below, sets-within, sets-past}
 
--- an array of 0 has none of its entries filled
+-- An array of 0 has none of its entries filled.
 pub stored-none : (n : ℕ) (f : ℕ → ℕ) → replicate n 0 ≡ tab n (upTo 0 f)
 stored-none n f =
     as-tab 0 (replicate n 0) n (upTo 0 f) (length-replicate n 0) (λ k lt. getD-replicate n k 0 0 lt ∙ sym (upTo-past 0 f k (omega arith)))
 
--- one more entry
+-- One more entry.
 pub stored-more : (n k : ℕ) (f : ℕ → ℕ) (l : List ℕ) (x : ℕ) → k < n → l ≡ tab n (upTo k f) → x ≡ f k → set l k x ≡ tab n (upTo (k + 1) f)
 stored-more n k f l x lt filled e = as-tab 0 (set l k x) n (upTo (k + 1) f) (length-set l k x ∙ size) (λ j jn. entry j jn (ℕ-discrete j k))
   where
@@ -37,13 +37,13 @@ stored-more n k f l x lt filled e = as-tab 0 (set l k x) n (upTo (k + 1) f) (len
         (λ past. upTo-past k f j past ∙ sym (upTo-past (k + 1) f j (omega arith)))
         (split j k)
 
--- an array of 0 has no row of rules
+-- An array of 0 has no row of rules.
 pub rows-none : (m : ℕ) (rule : ℕ → ℕ → ℕ) → replicate 256 0 ≡ tab 256 (rulesUpTo 0 m rule)
 rows-none m rule =
     as-tab 0 (replicate 256 0) 256 (rulesUpTo 0 m rule) (length-replicate {A = ℕ} 256 0)
     (λ q lt. getD-replicate 256 q 0 0 lt ∙ sym (upTo-past 0 (λ i. upTo m (rule i) (q % 8)) (q / 8) (omega arith)))
 
--- one more row of rules, m of 8 places
+-- One more row of rules, m of 8 places.
 pub rows-more : (i m : ℕ) (rule : ℕ → ℕ → ℕ) (l row : List ℕ) → i < 32 → m ≤ 8 → length row ≡ m → ((k : ℕ) → k < m → getD row k 0 ≡ rule i k)
     → l ≡ tab 256 (rulesUpTo i m rule) → sets l (i * 8) row ≡ tab 256 (rulesUpTo (i + 1) m rule)
 rows-more i m rule l row lt most size holds filled =

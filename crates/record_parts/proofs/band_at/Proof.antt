@@ -15,7 +15,7 @@ use Rattle.record_parts.proofs.band_at.Tie as tie
 stored-requires : tie.Need-stored-requires
 stored-requires c κs = search needs
 
--- a band is stored for the column
+-- A band is stored for the column.
 stood : (c : tie.Else1) → stored (c .before .before .before .args .bytes .now) (c .before .before .before .args .column) ≡ true
 stood c = sym (c .before .stored .ensures) ∙ not-false (c .before .stored .result) (c .if1 .left)
 

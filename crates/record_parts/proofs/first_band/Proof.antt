@@ -73,7 +73,7 @@ module _ {M : Type 1} (𝓤 : URA M) (H : Heap 𝓤) (A : Atoms 𝓤) (W : Given
   abbrev Post : Val → SProp 𝓤
   Post = walkOf 𝓤 H A first.ended stayed (first.clauses 𝓤 H A at-mem run) .post (((κ, tt), (q, tt), tt, (s, tt), (value s ∷ [], tt)), tt)
 
-  -- what is known of the answer of `open`
+  -- What is known of the answer of `open`.
   abbrev Is-open : Opened → Type 0
   Is-open r =
       (r .number ≡ readCause (now s)) × (now (r .reader .bytes) ≡ openPart (now s)) × (readCause (now s) ≡ 0 → r .reader .bytes ≡ s) × (r .reader .at ≡ 0)
@@ -81,11 +81,11 @@ module _ {M : Type 1} (𝓤 : URA M) (H : Heap 𝓤) (A : Atoms 𝓤) (W : Given
   open-said : (r : Opened) → ent 𝓤 (ensured 𝓤 H A opening.ended (opening.clauses 𝓤 H A at-mem run) (κ, tt) (s, tt) tt r) (fact 𝓤 (Is-open r))
   open-said r = exE 𝓤 _ (λ ws. snd∗ 𝓤 (sem 𝓤 H A (lasts opening.ended (κ, tt) (s, tt) ws)) (fact 𝓤 (Is-open r)))
 
-  -- what is known of the reader inside that answer
+  -- What is known of the reader inside that answer.
   abbrev is-reader : (r : Opened) (u : Val) → Is (O.the-row (lifetime κ)) r (u ∷ []) → Is (R κ) (r .reader) (T′.lowered (r .reader) ∷ [])
   is-reader r u is = LL.owed (O.the-type (lifetime κ)) (O′.the-laws (lifetime κ)) r _ is .1 .0
 
-  -- the answer is that at column 0 of the record
+  -- The answer is that at column 0 of the record.
   answers-first : (r : Opened) (t : Band) (g′ : Reader) → Is-open r → Is-next (r .reader) t g′ → BandAnswered (now s) 0 t
   answers-first r t g′ e e′ =
       band-answered (now s) 0 (e′ .0 .answer ∙ ap (λ l. bandAt l (r .reader .at)) (e .1) ∙ ap (bandAt (openPart (now s))) (e .3) ∙ part-answer (now s) 0)
@@ -110,7 +110,7 @@ module _ {M : Type 1} (𝓤 : URA M) (H : Heap 𝓤) (A : Atoms 𝓤) (W : Given
         use1 W (later (some (λ (r : Opened). (Token κ q ⊛ ‵ (OwnO κ r u))
         ⊛ raw (ensured 𝓤 H A opening.ended (opening.clauses 𝓤 H A at-mem run) (κ, tt) (s, tt) tt r)))) (id⊢ 𝓤 _) $ await ! tt $ pick ! (λ r.
         split ! $ move ! (1 ∷ []) $ use1 W (raw (fact 𝓤 (Is-open r))) (open-said r) $ heard ! (Is-open r) (λ e. split ! $ move ! (1 ∷ []) $
-        -- [what the answer owns; the token; what s owns; room for _5; …; _4; …; _3; …; _2; …; _1; …; _0; …]
+        -- [what the answer owns; the token; what s owns; room for _5; …; _4; …; _3; …; _2; …; _1; …; _0; …].
         peeks ! (O.the-row (lifetime κ)) (Is (O.the-row (lifetime κ))) (shows 𝓤 H A (O.the-row (lifetime κ))) r (u ∷ []) (λ is.
         land ! (from ! (stop !)) (init ! 9 refl (LL.lawful (O.the-type (in-local κ)) (O′.the-laws (in-local κ)) 𝓤 H A W .typed r _ is .0)) $
         rewrite ! 9 (λ (y : Val). ‵ (fat fullShare (O′.mir erased) l₂ 0 y)) (ap only (LL.tells (O.the-type (lifetime κ)) (O′.the-laws (lifetime κ)) r _ is)) refl $
@@ -119,13 +119,13 @@ module _ {M : Type 1} (𝓤 : URA M) (H : Heap 𝓤) (A : Atoms 𝓤) (W : Given
         (init ! 5 refl (typed W κ (r .reader) _ (is-reader r u is))) $
         assigns ! (of-opd ! (load ! (from ! (stop !)) (look ! 5 refl))) (from ! (stop !)) (init ! 7 refl (typed W κ (r .reader) _ (is-reader r u is))) $
         assigns ! (addr ! (from ! (stop !))) (from ! (stop !)) (init ! 3 refl (tt, tt)) $
-        -- the reader is taken out of the answer, and the local that holds it is lent
+        -- The reader is taken out of the answer, and the local that holds it is lent.
         use1 W (given (O′.lowered r ∷ [] ≡ O′.lowered r ∷ [])
         (‵ (all-own (O.the-type (lifetime κ) .parts) (O′.the-laws (lifetime κ)) (r .number, (r .reader, tt)))))
         (own-open 𝓤 H A W (O.the-type (lifetime κ)) (O′.the-laws (lifetime κ)) (r .number, (r .reader, tt)) (O′.lowered r)) $ learn ! (λ _.
         fsplit ! $ drop ! $ fsplit ! $ move ! (8 ∷ 0 ∷ []) $ use2 W (‵ (mem (R κ) .lies (r .reader) l₃ 0)) (lies-in W κ (r .reader) l₃) $ move ! (0 ∷ 2 ∷ []) $
         round W at-mem run κ q C Λ fm known-next ! l₃ (r .reader) (λ ν δ. and-then ! (load ! (from ! (stop !)) (look ! 5 refl)) (no-more !)) (λ u′ t g is′ e′.
-        -- [the band; the reader in _3; the token; …; what s owns; _5 at 5; …; _4; …; _3's end; _2 at 10; …; _1; …; room for _0 at 14; …]
+        -- [the band; the reader in _3; the token; …; what s owns; _5 at 5; …; _4; …; _3's end; _2 at 10; …; _1; …; room for _0 at 14; …].
         land ! (from ! (stop !)) (init ! 14 refl (EL.lawful B.the-type B′.the-laws 𝓤 H A W tt .typed t _ is′ .0)) $
         move ! (1 ∷ []) $ use1 W (‵ (Cell g l₃)) (lies-out W κ g l₃) $ returns ! (look ! 14 refl) $
         forget ! 0 refl $ forget ! 5 refl $ forget ! 7 refl $ forget ! 10 refl $ forget ! 12 refl $ forget ! 14 refl $

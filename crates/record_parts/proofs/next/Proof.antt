@@ -65,14 +65,14 @@ use Rattle.record_parts.proofs.next as next
 use Rattle.record_parts.proofs.next.Statement as stated
 use Rattle.record_parts.proofs.next.Code as code
 
--- 'a, and the struct's type at it
+-- 'a, and the struct's type at it.
 abbrev α : Lft → NamedLft
 α κ′ = record { mir = named 1; lft = κ′ }
 
 abbrev R : Lft → RattleType
 R κ′ = T.the-row (α κ′)
 
--- `Reader<'a>`, as the referent's place in the signature
+-- `Reader<'a>`, as the referent's place in the signature.
 abbrev behind : Slot 2
 behind = plain (λ κs. T.the-row (namedLft 2 1 tt κs))
 
@@ -80,7 +80,7 @@ abbrev stayed : Stays (next.ended .signature .params) (next.ended .kept)
 stayed = (stay-ref (0 ∷ []) tt behind, tt)
 
 module _ {M : Type 1} (𝓤 : URA M) (H : Heap 𝓤) (A : Atoms 𝓤) (mem : Memory → SProp 𝓤) (run : Routine → Fun 𝓤) where
-  -- the contracts that the proof cites
+  -- The contracts that the proof cites.
   abbrev BandAt : Contract 𝓤
   BandAt = tripleOf 𝓤 H A band.signature (band.spec 𝓤 H A mem run)
 
@@ -92,25 +92,25 @@ module _ {M : Type 1} (𝓤 : URA M) (H : Heap 𝓤) (A : Atoms 𝓤) (W : Given
   abbrev x : RefT Reader × Unit {0}
   x = (record { ptr = (b, o); name = γ; now = h }, tt)
 
-  -- the struct with the number m
+  -- The struct with the number m.
   abbrev h′ : ℕ → Reader
   h′ m = record { bytes = h .bytes; at = m }
 
   abbrev at : List Val × Unit {0}
   at = (vptr b o ∷ [], tt)
 
-  -- the machine value of the slice
+  -- The machine value of the slice.
   abbrev s : Val
   s = sliceVal (h .bytes .ptr) (length (h .bytes .now))
 
   abbrev Post : Val → SProp 𝓤
   Post = walkOf 𝓤 H A next.ended stayed (next.clauses 𝓤 H A at-mem run) .post (((κ, (κ′, tt)), (q, (q′, tt)), bounds, x, at), tt)
 
-  -- what the struct owns
+  -- What the struct owns.
   abbrev Own : Reader → Fml
   Own g = R κ′ .own g (T′.lowered g ∷ [])
 
-  -- what both callees are passed
+  -- What both callees are passed.
   abbrev passed : Vals band.signature (κ′, tt)
   passed = (s ∷ [], (vint w64 (h .at) ∷ [], tt))
 
@@ -120,7 +120,7 @@ module _ {M : Type 1} (𝓤 : URA M) (H : Heap 𝓤) (A : Atoms 𝓤) (W : Given
   abbrev to-after : After 𝓤 H A at-mem run .Ghost
   to-after = (((κ′, tt), (q′, tt), tt, (h .bytes, (h .at, tt)), passed), tt)
 
-  -- what a callee is passed is owned of the struct, which is kept
+  -- What a callee is passed is owned of the struct, which is kept.
   apart : h .at < 2 ^ 64 → ent 𝓤 (sem 𝓤 H A (Own h)) (sep 𝓤 (sem 𝓤 H A (owns (ShrSlice (named 0) κ′ u8 ∷ usize ∷ []) (h .bytes, (h .at, tt)) passed)) (sem 𝓤 H A (Own h)))
   apart fits =
       qed W (‵ (Own h) ∷ []) ∵ use1 W (‵ (Own h) ⊛ ‵ (Own h)) (LL.copy (T.the-type (α κ′)) (T′.the-copy (α κ′)) 𝓤 H A W .twice h (T′.lowered h ∷ [])) $ split ! $
@@ -147,7 +147,7 @@ module _ {M : Type 1} (𝓤 : URA M) (H : Heap 𝓤) (A : Atoms 𝓤) (W : Given
   after-said : (m : ℕ) → ent 𝓤 (ensured 𝓤 H A after.ended (after.clauses 𝓤 H A at-mem run) (κ′, tt) (h .bytes, (h .at, tt)) tt m) (fact 𝓤 (m ≡ afterAt (now (h .bytes)) (h .at)))
   after-said m = exE 𝓤 _ (λ ws. snd∗ 𝓤 (sem 𝓤 H A (lasts after.ended (κ′, tt) (h .bytes, (h .at, tt)) ws)) (fact 𝓤 (m ≡ afterAt (now (h .bytes)) (h .at))))
 
-  -- what the slice owns is kept, and the number's facts are made anew
+  -- What the slice owns is kept, and the number's facts are made anew.
   again : (m : ℕ) → m < 2 ^ 64 → ent 𝓤 (sem 𝓤 H A (Own h)) (sem 𝓤 H A (Own (h′ m)))
   again m fits =
       qed W (‵ (Own h) ∷ []) ∵ owned ! usize (Is usize) (uint-makes 𝓤 H A W w64) m _ (refl, fits) $ move ! (1 ∷ 0 ∷ []) $
@@ -160,7 +160,7 @@ module _ {M : Type 1} (𝓤 : URA M) (H : Heap 𝓤) (A : Atoms 𝓤) (W : Given
       suffices ! _ (ends-at 𝓤 H A next.ended stayed (next.clauses 𝓤 H A at-mem run) W (((κ, (κ′, tt)), (q, (q′, tt)), bounds, x, at), tt) u t (h′ m, tt) (tt, tt)) $ says ! (e, refl, e′) $
       move ! (2 ∷ 3 ∷ []) $ join ! $ frame ! $ feqI ! (List Val) (vptr b o ∷ []) (vptr b o ∷ []) refl $ fjoin3 ! $ nothing ! $ move ! (1 ∷ 0 ∷ []) $ fjoin ! $ frame ! $ done !
 
-  -- what whoever holds the struct knows of its fields
+  -- What whoever holds the struct knows of its fields.
   n-fits : Is (R κ′) h (T′.lowered h ∷ []) → h .at < 2 ^ 64
   n-fits g = LL.owed (T.the-type (α κ′)) (T′.the-laws (α κ′)) h _ g .1 .0 .1
 
@@ -178,7 +178,7 @@ module _ {M : Type 1} (𝓤 : URA M) (H : Heap 𝓤) (A : Atoms 𝓤) (W : Given
         (λ vs. spelt ! (R κ′) (Is (R κ′)) (shows 𝓤 H A (R κ′)) (LL.vals (T.the-type (α κ′)) (T′.the-laws (α κ′))) (LL.tells (T.the-type (α κ′)) (T′.the-laws (α κ′))) fullShare h vs b o $
         use1 W (‵ (fat fullShare (T′.mir erased) b o (T′.lowered h))) (W .laws .raw-at fullShare (T′.mir erased) b o (T′.lowered h)) $
         move ! (1 ∷ []) $ peeks ! (R κ′) (Is (R κ′)) (shows 𝓤 H A (R κ′)) h (T′.lowered h ∷ []) (λ g. move ! (1 ∷ 0 ∷ []) $
-        -- [the struct's cell; what it owns; the open borrow; obs; auth; 'a's token; …; room for _5; …; _4; …; _3; …; _2; …; _1; …; _0; …]
+        -- [the struct's cell; what it owns; the open borrow; obs; auth; 'a's token; …; room for _5; …; _4; …; _3; …; _2; …; _1; …; _0; …].
         assigns ! (of-opd ! (load ! (from ! (hop ! (look ! 15 refl) (fld ! refl (stop !)))) (look-in ! 0 (sub ! 0 refl (whole !))))) (from ! (stop !))
         (init ! 13 refl (tt, (tt, (record { fits = room g .0 }, tt)))) $
         assigns ! (of-opd ! (load ! (from ! (hop ! (look ! 15 refl) (fld ! refl (stop !)))) (look-in ! 0 (sub ! 1 refl (whole !))))) (from ! (stop !))
@@ -188,7 +188,7 @@ module _ {M : Type 1} (𝓤 : URA M) (H : Heap 𝓤) (A : Atoms 𝓤) (W : Given
         use1 W (later (some (λ (t : Band). ((‵ (flft κ′ q′) ⊛ ‵ ftrue) ⊛ ‵ (B.the-row .own t (u ∷ []))) ⊛ raw
         (ensured 𝓤 H A band.ended (band.clauses 𝓤 H A at-mem run) (κ′, tt) (h .bytes, (h .at, tt)) tt t)))) (id⊢ 𝓤 _) $ await ! tt $ pick ! (λ t.
         split ! $ move ! (1 ∷ []) $ use1 W (raw (fact 𝓤 (BandAnswered (now (h .bytes)) (h .at) t))) (band-said t) $ heard ! (BandAnswered (now (h .bytes)) (h .at) t) (λ e. split ! $ move ! (1 ∷ []) $
-        -- [the answer; 'a's token; what the struct owns; its cell; the open borrow; obs; auth; …; room for _5; …; _4; …; _3; …; _2; …; _1; …; _0; …]
+        -- [the answer; 'a's token; what the struct owns; its cell; the open borrow; obs; auth; …; room for _5; …; _4; …; _3; …; _2; …; _1; …; _0; …].
         peeks ! B.the-row (Is B.the-row) (shows 𝓤 H A B.the-row) t (u ∷ []) (λ is.
         land ! (from ! (stop !)) (init ! 10 refl (EL.lawful B.the-type B′.the-laws 𝓤 H A W tt .typed t _ is .0)) $
         move ! (1 ∷ 2 ∷ []) $ use2 W (raw (After 𝓤 H A at-mem run .pre to-after) ⊛ ‵ (Own h)) (goes-after (n-fits g)) $ split ! $
@@ -196,16 +196,16 @@ module _ {M : Type 1} (𝓤 : URA M) (H : Heap 𝓤) (A : Atoms 𝓤) (W : Given
         use1 W (later (some (λ (m : ℕ). ((‵ (flft κ′ q′) ⊛ ‵ ftrue) ⊛ ‵ (usize .own m (u′ ∷ []))) ⊛ raw
         (ensured 𝓤 H A after.ended (after.clauses 𝓤 H A at-mem run) (κ′, tt) (h .bytes, (h .at, tt)) tt m)))) (id⊢ 𝓤 _) $ await ! tt $ pick ! (λ m.
         split ! $ move ! (1 ∷ []) $ use1 W (raw (fact 𝓤 (m ≡ afterAt (now (h .bytes)) (h .at)))) (after-said m) $ heard ! (m ≡ afterAt (now (h .bytes)) (h .at)) (λ e′. split ! $ move ! (1 ∷ []) $
-        -- [the column; 'a's token; what the struct owns; the answer; the struct's cell; the open borrow; obs; auth; …; room for _5; …; _4; …; _3; …; _2; …; _1; …; _0; …]
+        -- [the column; 'a's token; what the struct owns; the answer; the struct's cell; the open borrow; obs; auth; …; room for _5; …; _4; …; _3; …; _2; …; _1; …; _0; …].
         peeks ! usize (Is usize) (shows 𝓤 H A usize) m (u′ ∷ []) (λ is′.
         land ! (from ! (stop !)) (init ! 9 refl (uint-lawful 𝓤 H A W w64 .typed m _ is′ .0)) $ rewrite ! 9 (λ (y : Val). ‵ (fat fullShare (tyInt w64) l₅ 0 y)) (ap only (is′ .0)) refl $ drop ! $
         assigns ! (of-opd ! (load ! (from ! (stop !)) (look ! 8 refl))) (from ! (hop ! (look ! 16 refl) (fld ! refl (stop !)))) (store-in ! 3 (sub ! 1 refl (whole !)) (tt, record { fits = is′ .1 })) $
         assigns ! (of-opd ! (load ! (from ! (stop !)) (look ! 10 refl))) (from ! (stop !)) (init ! 18 refl (EL.lawful B.the-type B′.the-laws 𝓤 H A W tt .typed t _ is .0)) $
-        -- the struct is put together again, at the new number, and the borrow is closed
+        -- The struct is put together again, at the new number, and the borrow is closed.
         move ! (1 ∷ []) $ use1 W (‵ (Own (h′ m))) (again m (is′ .1)) $
         move ! (3 ∷ []) $ use1 W (‵ (cellAt fullShare (R κ′ .mir) (T′.lowered (h′ m) ∷ []) b o)) (W .laws .at-raw fullShare (T′.mir erased) b o (T′.lowered (h′ m))) $
         move ! (0 ∷ 1 ∷ 4 ∷ 5 ∷ 6 ∷ []) $ closes ! tt (R κ′) (h′ m) (T′.lowered (h′ m) ∷ []) b o $
-        -- [obs; the borrow; its token; 'a's token; the answer; …; _5; …; _4; …; _3; …; _2; …; _1; …; _0; …]
+        -- [obs; the borrow; its token; 'a's token; the answer; …; _5; …; _4; …; _3; …; _2; …; _1; …; _0; …].
         returns ! (look ! 16 refl) $ forget ! 6 refl $ forget ! 8 refl $ forget ! 10 refl $ forget ! 12 refl $ forget ! 14 refl $ forget ! 16 refl $
         move ! (16 ∷ 17 ∷ []) $ free1 ! $ move ! (14 ∷ 15 ∷ []) $ free1 ! $ move ! (12 ∷ 13 ∷ []) $ free1 ! $ move ! (10 ∷ 11 ∷ []) $ free1 ! $
         move ! (8 ∷ 9 ∷ []) $ free1 ! $ move ! (6 ∷ 7 ∷ []) $ free1 ! $ free0 ! $

@@ -64,7 +64,7 @@ abbrev stayed : Stays (it.ended .signature .params) (it.ended .kept)
 stayed = (stay-none-slice (0 ∷ []) tt (plain (λ _. u8)) yes, tt)
 
 module _ {M : Type 1} (𝓤 : URA M) (H : Heap 𝓤) (A : Atoms 𝓤) (mem : Memory → SProp 𝓤) (run : Routine → Fun 𝓤) where
-  -- the contracts that the proof cites
+  -- The contracts that the proof cites.
   abbrev Cause : Contract 𝓤
   Cause = tripleOf 𝓤 H A cause.signature (cause.spec 𝓤 H A mem run)
 
@@ -75,11 +75,11 @@ module _ {M : Type 1} (𝓤 : URA M) (H : Heap 𝓤) (A : Atoms 𝓤) (W : Given
   abbrev α : NamedLft
   α = namedLft 1 0 tt (κ, tt)
 
-  -- the machine value that s has
+  -- The machine value that s has.
   abbrev v : Val
   v = sliceVal (s .ptr) (length (s .now))
 
-  -- the structs, of the number n and the part p
+  -- The structs, of the number n and the part p.
   abbrev reader : RefT (List ℕ) → Reader
   reader p = record { bytes = p; at = 0 }
 
@@ -89,18 +89,18 @@ module _ {M : Type 1} (𝓤 : URA M) (H : Heap 𝓤) (A : Atoms 𝓤) (W : Given
   abbrev Post : Val → SProp 𝓤
   Post = walkOf 𝓤 H A it.ended stayed (it.clauses 𝓤 H A mem run) .post (((κ, tt), (q, tt), tt, (s, tt), (v ∷ [], tt)), tt)
 
-  -- what a slice owns at a machine value
+  -- What a slice owns at a machine value.
   abbrev Own : RefT (List ℕ) → Val → Fml
   Own p u = ShrSlice (named 0) κ u8 .own p (u ∷ [])
 
-  -- what both callees are passed
+  -- What both callees are passed.
   abbrev to-cause : Cause 𝓤 H A mem run .Ghost
   to-cause = (((κ, tt), (q, tt), tt, (s, tt), (v ∷ [], tt)), tt)
 
   abbrev to-kept : Kept 𝓤 H A mem run .Ghost
   to-kept = (((κ, tt), (q, tt), tt, (s, tt), (v ∷ [], tt)), tt)
 
-  -- what each asks is had of the token and a copy of the slice, and the slice is kept
+  -- What each asks is had of the token and a copy of the slice, and the slice is kept.
   goes-cause : ent 𝓤 (⋆ 𝓤 H A ((‵ (flft κ q) ⊛ ‵ ftrue) ∷ ‵ (Own s v) ∷ [])) (sep 𝓤 (Cause 𝓤 H A mem run .pre to-cause) (sem 𝓤 H A (Own s v)))
   goes-cause =
       qed W ((‵ (flft κ q) ⊛ ‵ ftrue) ∷ ‵ (Own s v) ∷ []) ∵
@@ -120,14 +120,14 @@ module _ {M : Type 1} (𝓤 : URA M) (H : Heap 𝓤) (A : Atoms 𝓤) (W : Given
   cause-said : (n : ℕ) → ent 𝓤 (ensured 𝓤 H A cause.ended (cause.clauses 𝓤 H A mem run) (κ, tt) (s, tt) tt n) (fact 𝓤 (n ≡ readCause (now s)))
   cause-said n = exE 𝓤 _ (λ ws. snd∗ 𝓤 (sem 𝓤 H A (lasts cause.ended (κ, tt) (s, tt) ws)) (fact 𝓤 (n ≡ readCause (now s))))
 
-  -- what is known of the part
+  -- What is known of the part.
   abbrev Is-kept : RefT (List ℕ) → Type 0
   Is-kept p = (now p ≡ openPart (now s)) × (readCause (now s) ≡ 0 → p ≡ s)
 
   kept-said : (p : RefT (List ℕ)) → ent 𝓤 (ensured 𝓤 H A kept.ended (kept.clauses 𝓤 H A mem run) (κ, tt) (s, tt) tt p) (fact 𝓤 (Is-kept p))
   kept-said p = exE 𝓤 _ (λ ws. snd∗ 𝓤 (sem 𝓤 H A (lasts kept.ended (κ, tt) (s, tt) ws)) (fact 𝓤 (Is-kept p)))
 
-  -- the machine value of the part
+  -- The machine value of the part.
   abbrev w : RefT (List ℕ) → Val
   w p = sliceVal (p .ptr) (length (p .now))
 
@@ -138,7 +138,7 @@ module _ {M : Type 1} (𝓤 : URA M) (H : Heap 𝓤) (A : Atoms 𝓤) (W : Given
       suffices ! _ (ends-at 𝓤 H A it.ended stayed (it.clauses 𝓤 H A mem run) W (((κ, tt), (q, tt), tt, (s, tt), (v ∷ [], tt)), tt) (O′.lowered (made n p))
       (made n p) (tt, tt) (tt, tt)) $ says ! (e, e′ .0, e′ .1, refl) $
       move ! (1 ∷ []) $ frame ! $ nothing ! $ move ! (2 ∷ 0 ∷ []) $ fjoin ! $ frame ! $
-      -- [what p owns]: with at's facts it is what the reader owns, and with number's facts that is what the whole owns
+      -- [what p owns]: with at's facts it is what the reader owns, and with number's facts that is what the whole owns.
       nothing ! $ owned ! usize (Is usize) (uint-makes 𝓤 H A W w64) 0 _ (refl, lit< tt) $ fjoin ! $ move ! (1 ∷ 0 ∷ []) $ fjoin ! $
       use1 W (‵ (R.the-row α .own (reader p) (R′.lowered (reader p) ∷ []))) (own-shut 𝓤 H A W (R.the-type α) (R′.the-laws α) (p, (0, tt))) $
       nothing ! $ move ! (1 ∷ 0 ∷ []) $ fjoin ! $ owned ! u8 (Is u8) (uint-makes 𝓤 H A W w8) n _ (refl, fits) $ fjoin ! $
@@ -151,14 +151,14 @@ module _ {M : Type 1} (𝓤 : URA M) (H : Heap 𝓤) (A : Atoms 𝓤) (W : Given
         qed W ((‵ (flft κ q) ⊛ ‵ ftrue) ∷ ‵ (owns (ShrSlice (named 0) κ u8 ∷ []) (s, tt) (v ∷ [], tt)) ∷ []) ∵ enter ! C Λ code.function (v ∷ []) _ $
         alloc1 ! (λ l₀. alloc1 ! (λ l₁. alloc1 ! (λ l₂. alloc1 ! (λ l₃. alloc1 ! (λ l₄. alloc0 ! $ params1 ! $
         pass1 ! (init ! 6 refl (shr-slice-lawful 𝓤 H A W (named 0) κ u8 .typed s (v ∷ []) p .0)) $ pass0 ! $
-        -- [room for _4; …; _3; …; _2; …; _1; …; room for _0; …; the token; what s owns]
+        -- [room for _4; …; _3; …; _2; …; _1; …; room for _0; …; the token; what s owns].
         move ! (11 ∷ []) $ fsplit ! $ move ! (1 ∷ []) $ drop ! $ move ! (11 ∷ 0 ∷ []) $
         use2 W (raw (Cause 𝓤 H A mem run .pre to-cause) ⊛ ‵ (Own s v)) goes-cause $ split ! $
         calls-at ! fm (Cause 𝓤 H A mem run) known-cause to-cause (and-then ! (load ! (from ! (stop !)) (look ! 8 refl)) (no-more !)) (λ u.
         use1 W (later (some (λ (n : ℕ). ((‵ (flft κ q) ⊛ ‵ ftrue) ⊛ ‵ (u8 .own n (u ∷ []))) ⊛ raw
         (ensured 𝓤 H A cause.ended (cause.clauses 𝓤 H A mem run) (κ, tt) (s, tt) tt n)))) (id⊢ 𝓤 _) $ await ! tt $ pick ! (λ n.
         split ! $ move ! (1 ∷ []) $ use1 W (raw (fact 𝓤 (n ≡ readCause (now s)))) (cause-said n) $ heard ! (n ≡ readCause (now s)) (λ e. split ! $ move ! (1 ∷ []) $
-        -- [the number; the token; what s owns; room for _4; …; _3; …; _2; …; _1; …; _0; …]
+        -- [the number; the token; what s owns; room for _4; …; _3; …; _2; …; _1; …; _0; …].
         peeks ! u8 (Is u8) (shows 𝓤 H A u8) n (u ∷ []) (λ is.
         land ! (from ! (stop !)) (init ! 7 refl (uint-lawful 𝓤 H A W w8 .typed n _ is .0)) $ rewrite ! 7 (λ (x : Val). ‵ (fat fullShare (tyInt w8) l₂ 0 x)) (ap only (is .0)) refl $ drop ! $
         use2 W (raw (Kept 𝓤 H A mem run .pre to-kept) ⊛ ‵ (Own s v)) goes-kept $ split ! $
@@ -166,7 +166,7 @@ module _ {M : Type 1} (𝓤 : URA M) (H : Heap 𝓤) (A : Atoms 𝓤) (W : Given
         use1 W (later (some (λ (r : RefT (List ℕ)). ((‵ (flft κ q) ⊛ ‵ ftrue) ⊛ ‵ (Own r u′)) ⊛ raw
         (ensured 𝓤 H A kept.ended (kept.clauses 𝓤 H A mem run) (κ, tt) (s, tt) tt r)))) (id⊢ 𝓤 _) $ await ! tt $ pick ! (λ r.
         split ! $ move ! (1 ∷ []) $ use1 W (raw (fact 𝓤 (Is-kept r))) (kept-said r) $ heard ! (Is-kept r) (λ e′. split ! $ move ! (1 ∷ []) $
-        -- [what the part owns; the token; what s owns; room for _4; …; _3; …; _2; …; _1; …; _0; …]
+        -- [what the part owns; the token; what s owns; room for _4; …; _3; …; _2; …; _1; …; _0; …].
         peeks ! (ShrSlice (named 0) κ u8) (Is (ShrSlice (named 0) κ u8)) (shows 𝓤 H A (ShrSlice (named 0) κ u8)) r (u′ ∷ []) (λ is′.
         land ! (from ! (stop !)) (init ! 5 refl (shr-slice-lawful 𝓤 H A W erased κ u8 .typed r (u′ ∷ []) is′ .0)) $
         rewrite ! 5 (λ (x : Val). ‵ (fat fullShare (sliceTy (tyRef erased imm (tyInt w8))) l₃ 0 x)) (ap only (is′ .0 .0)) refl $ rewrite ! 0 (λ (x : Val). ‵ (Own r x)) (ap only (is′ .0 .0)) refl $

@@ -8,7 +8,7 @@ use borrow.Author.Needs.{needs}
 use Rattle.record_parts.proofs.stored.Statement.{statement}
 use Rattle.record_parts.proofs.stored.Tie as tie
 
--- the bytes are an accepted record
+-- The bytes are an accepted record.
 framed : (c : tie.Else1) → Framed (c .before .before .before .args .bytes .now)
 framed c = read-framed _ (sym (c .before .cause .ensures) ∙ c .if1 .left)
 

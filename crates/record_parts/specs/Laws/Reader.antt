@@ -22,7 +22,7 @@ use Rattle.record_spec.specs.Reader.{handedOut, endsOf, stored, bandIn, bandAt,
 use Rattle.record_spec.specs.Laws.Read.{read-framed}
 use Rattle.scheme.specs.Laws.Stored.{lower-made, upper-made}
 
--- both tests pass
+-- Both tests pass.
 pub both-left : (a b : Bool) → (a && b) ≡ true → a ≡ true
 both-left true b e = refl
 both-left false b e = e
@@ -32,12 +32,12 @@ both-right true b e = e
 both-right false true e = refl
 both-right false false e = e
 
--- the second fails
+-- The second fails.
 pub second-fails : (a b : Bool) → b ≡ false → (a && b) ≡ false
 second-fails true b e = e
 second-fails false b e = refl
 
--- the answer's number and values follow from the answer
+-- The answer's number and values follow from the answer.
 pub band-answered : (bytes : List ℕ) (cursor : ℕ) {b : Band} → b ≡ bandAt bytes cursor → BandAnswered bytes cursor b
 unfolding bandAt
 band-answered bytes cursor e = record { answer = e; number = ap handedOut e ∙ number (stored bytes cursor); ends = ap endsOf e ∙ ends (stored bytes cursor) }
@@ -50,13 +50,13 @@ band-answered bytes cursor e = record { answer = e; number = ap handedOut e ∙ 
     ends true = refl
     ends false = refl
 
--- no byte is declined
+-- No byte is declined.
 pub empty-declined : readCause [] ≡ 1
 unfolding frameCause
 empty-declined = refl
 
 module _ (bytes : List ℕ) where
-  -- the part of an accepted record is all of it, and that of a declined one is empty
+  -- The part of an accepted record is all of it, and that of a declined one is empty.
   pub part-accepted : {n : ℕ} → n ≡ readCause bytes → n ≡ 0 → bytes ≡ openPart bytes
   unfolding openPart
   part-accepted {n} e none = rw (← e, eq-eqb n 0 none)
@@ -66,14 +66,14 @@ module _ (bytes : List ℕ) where
   part-declined {n} e some = rw (← e, ne-eqb n 0 some)
 
   module _ (column : ℕ) where
-    -- whether a band is stored, by cases
+    -- Whether a band is stored, by cases.
     pub stored-declined : {n : ℕ} → n ≡ readCause bytes → (n ≡ 0 → ⊥) → false ≡ stored bytes column
     stored-declined {n} e some = rw (← e, ne-eqb n 0 some)
 
     pub stored-accepted : {n : ℕ} → n ≡ readCause bytes → n ≡ 0 → ltb column (columnsIn bytes) ≡ stored bytes column
     stored-accepted {n} e none = rw (← e, eq-eqb n 0 none)
 
-    -- a stored band: the record is accepted, and the column is one of its m
+    -- A stored band: the record is accepted, and the column is one of its m.
     pub stored-read : stored bytes column ≡ true → readCause bytes ≡ 0
     stored-read e = eqb-true (readCause bytes) 0 (both-left (eqb (readCause bytes) 0) (ltb column (columnsIn bytes)) e)
 
@@ -86,7 +86,7 @@ module _ (bytes : List ℕ) where
     pub past-stored : columnsIn bytes ≤ column → stored bytes column ≡ false
     past-stored le = second-fails (eqb (readCause bytes) 0) _ (le-ltb column (columnsIn bytes) le)
 
-    -- where it stands, and that its 8 bytes lie within the record
+    -- Where it stands, and that its 8 bytes lie within the record.
     abbrev place : ℕ
     place = bandPlace version1 (classesIn bytes) (columnsIn bytes) column
 
@@ -96,7 +96,7 @@ module _ (bytes : List ℕ) where
         let less : classesIn bytes * columnsIn bytes ≤ 32 * 8 = mul-le-mul (framed .classes) (framed .columns) in
         (omega (arith, stored-column e), omega arith)
 
-    -- the answer and the cursor after it, by cases
+    -- The answer and the cursor after it, by cases.
     pub answer-band : stored bytes column ≡ true → bandIn bytes column ≡ bandAt bytes column
     unfolding bandAt
     answer-band e = rw e
@@ -120,7 +120,7 @@ module _ (bytes : List ℕ) where
     pub after-none : stored bytes column ≡ false → column ≡ afterAt bytes column
     after-none e = sym (add-zero column) ∙ ap (_+_ column) (none-handed e)
 
-    -- the cursor stays within what it was, or the record's columns
+    -- The cursor stays within what it was, or the record's columns.
     pub after-within : afterAt bytes column ≤ max column 8
     after-within = by (stored bytes column) refl
       where
@@ -128,12 +128,12 @@ module _ (bytes : List ℕ) where
         by true e = omega (arith, after-band e, stored-column e, read-framed bytes (stored-read e) .columns)
         by false e = omega (arith, after-none e)
 
--- over an empty part there is no more
+-- Over an empty part there is no more.
 pub none-empty : (column : ℕ) → NoMore ≡ bandAt [] column
 unfolding bandAt frameCause
 none-empty column = refl
 
--- over what a reader is opened over, the answer at each column is that over the record
+-- Over what a reader is opened over, the answer at each column is that over the record.
 pub part-answer : (bytes : List ℕ) (column : ℕ) → bandAt (openPart bytes) column ≡ bandAt bytes column
 part-answer bytes column = by (ℕ-discrete (readCause bytes) 0)
   where
@@ -144,7 +144,7 @@ part-answer bytes column = by (ℕ-discrete (readCause bytes) 0)
         ∙ answer-none bytes column (sym (stored-declined bytes column refl some))
 
 module _ (bytes : List ℕ) where
-  -- once there is no more, further calls change nothing
+  -- Once there is no more, further calls change nothing.
   pub no-more-calls : (n cursor : ℕ) → stored bytes cursor ≡ false → (answers bytes n cursor ≡ replicate n NoMore) × (cursorAfter bytes n cursor ≡ cursor)
   unfolding answers cursorAfter
   no-more-calls zero cursor e = (refl, refl)
@@ -153,7 +153,7 @@ module _ (bytes : List ℕ) where
       let rest = no-more-calls n cursor e in
       (rw (still, ← (answer-none bytes cursor e), rest .0), rw (still, rest .1))
 
-  -- k calls at columns that are stored hand out their bands
+  -- k calls at columns that are stored hand out their bands.
   bands-next : (k cursor n : ℕ) (f : ℕ → Band) → ((j : ℕ) → j < k → stored bytes (cursor + j) ≡ true) → ((j : ℕ) → j < k → bandIn bytes (cursor + j) ≡ f j)
       → (answers bytes (k + n) cursor ≡ tab k f ++ answers bytes n (cursor + k)) × (cursorAfter bytes (k + n) cursor ≡ cursorAfter bytes n (cursor + k))
   unfolding answers cursorAfter tab
@@ -177,7 +177,7 @@ module _ (bytes : List ℕ) where
         ap (λ c. cursorAfter bytes c cursor) count ∙ ap (cursorAfter bytes (k + n)) on ∙ rest .1 ∙ ap (cursorAfter bytes n) last,
       )
 
--- m calls hand out the record's bands in order, and further calls change nothing
+-- m calls hand out the record's bands in order, and further calls change nothing.
 pub handed-out : (bytes : List ℕ) → readCause bytes ≡ 0 → (n : ℕ)
     → (answers (openPart bytes) (columnsIn bytes + n) 0 ≡ storedBands bytes ++ replicate n NoMore)
     × (cursorAfter (openPart bytes) (columnsIn bytes + n) 0 ≡ columnsIn bytes)
@@ -189,24 +189,24 @@ handed-out bytes none n =
     let at : 0 + m ≡ m = start m in
     rw (← (part-accepted bytes refl none), first .0, first .1, at, rest .0, rest .1) (refl, refl)
 
--- m + 1 calls: exactly the record's bands in order, and then no more
+-- m + 1 calls: exactly the record's bands in order, and then no more.
 pub in-order : (bytes : List ℕ) → readCause bytes ≡ 0 → answers (openPart bytes) (columnsIn bytes + 1) 0 ≡ storedBands bytes ++ (NoMore ∷ [])
 in-order bytes none = handed-out bytes none 1 .0
 
--- on a declined record there is no more from the first call on
+-- On a declined record there is no more from the first call on.
 pub none-handed-out : (bytes : List ℕ) → (readCause bytes ≡ 0 → ⊥) → (n : ℕ)
     → (answers (openPart bytes) n 0 ≡ replicate n NoMore) × (cursorAfter (openPart bytes) n 0 ≡ 0)
 none-handed-out bytes some n =
     rw (← (part-declined bytes refl some)) (no-more-calls [] n 0 (past-stored [] 0 (le-refl 0)))
 
--- a stored band is that of the scheme in the bytes
+-- A stored band is that of the scheme in the bytes.
 pub band-read : (bytes : List ℕ) → readCause bytes ≡ 0 → (k : ℕ) → k < columnsIn bytes
     → bandIn bytes k ≡ Ends (lowerAt (schemeIn version1 bytes) 0 k) (upperAt (schemeIn version1 bytes) 0 k)
 band-read bytes none k lt =
     let most : columnsIn bytes ≤ 8 = read-framed bytes none .columns in
     rw (lower-made _ (columnsIn bytes) _ _ _ _ _ _ 0 k most lt, upper-made _ (columnsIn bytes) _ _ _ _ _ _ 0 k most lt)
 
--- so the bands handed out are those of the scheme that reading answers
+-- So the bands handed out are those of the scheme that reading answers.
 pub bands-read : (bytes : List ℕ) → readCause bytes ≡ 0
     → storedBands bytes ≡ tab (columnsIn bytes) (λ k. Ends (lowerAt (schemeIn version1 bytes) 0 k) (upperAt (schemeIn version1 bytes) 0 k))
 bands-read bytes none = tab-eq NoMore (columnsIn bytes) _ _ (band-read bytes none)

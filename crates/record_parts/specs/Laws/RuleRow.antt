@@ -26,14 +26,14 @@ module _ (bytes : List ℕ) (class : ℕ) where
   unfolding ruleRow
   row-empty {n} e some = rw (← e, ne-eqb n 0 some)
 
-  -- a row that is shown: its class is one of 1 to s, and the bands follow it
+  -- A row that is shown: its class is one of 1 to s, and the bands follow it.
   pub row-framed : ruleRowCause bytes class ≡ 0 → Framed bytes
   row-framed e = read-framed bytes (first-none (readCause bytes) _ e)
 
   pub row-class : ruleRowCause bytes class ≡ 0 → (1 ≤ class) × (class ≤ classesIn bytes)
   row-class e = class-fits (classesIn bytes) class (second-none (readCause bytes) (cond (outside (classesIn bytes) class) 11 0) e)
 
-  -- where it stands
+  -- Where it stands.
   abbrev place : ℕ
   place = rowPlace version1 (columnsIn bytes) (class - 1)
 

@@ -15,13 +15,13 @@ use Rattle.record_spec.specs.Layout.{HEADER, version1, lengthOf, classes
 use Rattle.record_spec.specs.Read.{versionCause, fieldCause, lengthCause, frameCause}
 use Rattle.record_spec.specs.Frame.{Framed}
 
--- the header of bytes without the causes 1 and 2
+-- The header of bytes without the causes 1 and 2.
 pub head-long : (bytes : List ℕ) → orElse (versionCause bytes) (fieldCause bytes) ≡ 0 → HEADER ≤ length bytes
 head-long bytes e =
     let test = test-none (ltb (length bytes) HEADER || not (eqb (beAt 2 bytes 1) (length bytes))) 2 (omega arith) (second-none (versionCause bytes) (fieldCause bytes) e) in
     ltb-false (length bytes) HEADER (or-false-left (ltb (length bytes) HEADER) _ test)
 
--- bytes without the causes 1 to 4 are framed
+-- Bytes without the causes 1 to 4 are framed.
 pub frame-clear : (bytes : List ℕ) → frameCause bytes ≡ 0 → Framed bytes
 unfolding frameCause
 frame-clear bytes e =
@@ -42,7 +42,7 @@ frame-clear bytes e =
       whole = eqb-true (length bytes) _ (not-false _ whole);
     }
 
--- the causes 1 to 4 in two steps
+-- The causes 1 to 4 in two steps.
 pub frame-head : (bytes : List ℕ) {n : ℕ} → n ≡ orElse (versionCause bytes) (fieldCause bytes) → (n ≡ 0 → ⊥) → n ≡ frameCause bytes
 unfolding frameCause
 frame-head bytes e some = rw e (sym (first-cause (orElse (versionCause bytes) (fieldCause bytes)) _ (λ z. some (e ∙ z))))
@@ -52,7 +52,7 @@ pub frame-shape : (bytes : List ℕ) {n : ℕ} → orElse (versionCause bytes) (
 unfolding frameCause
 frame-shape bytes none e = e ∙ sym (second-cause (orElse (versionCause bytes) (fieldCause bytes)) _ none)
 
--- framed bytes have none of the causes 1 to 4
+-- Framed bytes have none of the causes 1 to 4.
 pub framed : (bytes : List ℕ) → Framed bytes → frameCause bytes ≡ 0
 unfolding frameCause
 framed bytes h =

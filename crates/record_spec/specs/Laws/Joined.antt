@@ -14,7 +14,7 @@ use Rattle.record_spec.specs.Joined.{joined}
 use Rattle.record_spec.specs.Layout.{Layout, lengthOf}
 use Rattle.record_spec.specs.Bytes.{headerBytes, headerOf, rulesOf, bandBytes, bandsOf, premiumsOf, bytesOf}
 
--- equal lists one after another
+-- Equal lists one after another.
 pub joined-eq : (n : ℕ) (f g : ℕ → List ℕ) → ((i : ℕ) → i < n → f i ≡ g i) → joined n f ≡ joined n g
 unfolding joined
 joined-eq zero f g h = refl
@@ -23,7 +23,7 @@ joined-eq (suc n) f g h = let e : joined n f ≡ joined n g = joined-eq n f g (�
 as-many : {n n′ : ℕ} → n ≡ n′ → (f g : ℕ → List ℕ) → ((i : ℕ) → i < n → f i ≡ g i) → joined n f ≡ joined n′ g
 as-many {n} e f g h = joined-eq n f g h ∙ ap (λ k. joined k g) e
 
--- the record is that of the values up to s and m: the bands are those of the first class
+-- The record is that of the values up to s and m: the bands are those of the first class.
 module _ (y : Layout) {s s′ : Scheme} (v : SameValues s s′) (some : 0 < s .classes) where
   header-same : headerOf y s ≡ headerOf y s′
   header-same = λ t. headerBytes (y .version) (lengthOf y (v .classes t) (v .columns t)) (v .classes t) (v .columns t) (v .start t) (v .horizon t)

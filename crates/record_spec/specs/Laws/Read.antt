@@ -13,11 +13,11 @@ use Rattle.record_spec.specs.Read.{frameCause, readCause, declinedWith, 
 use Rattle.record_spec.specs.Laws.Frame.{frame-clear}
 
 module _ (bytes : List ℕ) where
-  -- one of the causes 1 to 4 is the bytes' cause
+  -- One of the causes 1 to 4 is the bytes' cause.
   pub frame-first : {n : ℕ} → n ≡ frameCause bytes → (n ≡ 0 → ⊥) → n ≡ readCause bytes
   frame-first e some = rw e (sym (first-cause (frameCause bytes) (causeOf (schemeIn version1 bytes)) (λ z. some (e ∙ z))))
 
-  -- none of them: the scheme's cause is
+  -- None of them: the scheme's cause is.
   pub scheme-next : {n : ℕ} → frameCause bytes ≡ 0 → n ≡ causeOf (schemeIn version1 bytes) → n ≡ readCause bytes
   scheme-next none e = e ∙ sym (second-cause (frameCause bytes) (causeOf (schemeIn version1 bytes)) none)
 
@@ -29,11 +29,11 @@ module _ (bytes : List ℕ) where
   unfolding readAnswer
   answer-scheme {n} e none = rw (← e, eq-eqb n 0 none, none)
 
-  -- bytes without a cause are framed
+  -- Bytes without a cause are framed.
   pub read-framed : readCause bytes ≡ 0 → Framed bytes
   read-framed e = frame-clear bytes (first-none (frameCause bytes) (causeOf (schemeIn version1 bytes)) e)
 
-  -- what a reading answers
+  -- What a reading answers.
   pub read-number : readAnswer bytes .number ≡ readCause bytes
   unfolding readAnswer
   read-number = by (ℕ-discrete (readCause bytes) 0)
@@ -46,7 +46,7 @@ module _ (bytes : List ℕ) where
   unfolding readAnswer
   read-scheme none = rw (eq-eqb (readCause bytes) 0 none)
 
--- what an answer that is the reading's tells
+-- What an answer that is the reading's tells.
 module _ (bytes : List ℕ) {a : ReadAnswer} (is : a ≡ readAnswer bytes) where
   pub read-cause : a .number ≡ readCause bytes
   read-cause = ap (λ r. r .number) is ∙ read-number bytes

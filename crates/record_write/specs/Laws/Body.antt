@@ -22,11 +22,11 @@ use Rattle.record_write.specs.Laws.Numbers.{length-band}
 use Rattle.scheme.specs.Laws.Stored.{rule-made, lower-made, upper-made, premium-made}
 use Rattle.record_write.specs.Laws.Bytes.{length-rules, length-bands}
 
--- an index below s among s lists of w entries
+-- An index below s among s lists of w entries.
 within : (s w i k : ℕ) → i < s → k < w → i * w + k < s * w
 within s w i k is ks = omega (arith, mul-le-mul-right w is)
 
--- put after read: the body of the scheme that was read is the bytes past the header
+-- Put after read: the body of the scheme that was read is the bytes past the header.
 module _ (y : Layout) (bytes : List ℕ) (s m : ℕ) (small : (k : ℕ) → getD bytes k 0 < 256) (most : s ≤ 32) (few : m ≤ 8)
     (whole : length bytes ≡ lengthOf y s m) where
   abbrev found : Scheme
@@ -76,7 +76,7 @@ module _ (y : Layout) (bytes : List ℕ) (s m : ℕ) (small : (k : ℕ) → getD
       let all : take (s * m + m * 8 + s * y .width) (drop h bytes) ≡ drop h bytes = take-all (s * m + m * 8 + s * y .width) (drop h bytes) (rw (length-drop h bytes) (omega arith)) in
       rw (rules-put, bands-put, premiums-put, two, three, all)
 
--- read after put: behind any header, the values of the scheme stand where the layout says
+-- Read after put: behind any header, the values of the scheme stand where the layout says.
 module _ (y : Layout) (s : Scheme) (front : List ℕ) (size : length front ≡ y .header) where
   abbrev laidOut : List ℕ
   laidOut = front ++ (rulesOf s ++ (bandsOf s ++ premiumsOf y s))
@@ -99,7 +99,7 @@ module _ (y : Layout) (s : Scheme) (front : List ℕ) (size : length front ≡ y
       ap (λ q. getD laidOut q 0) (add-assoc (y .header) n p) ∙ behind (n + p)
       ∙ rw e (getD-append-add (rulesOf s) (bandsOf s ++ premiumsOf y s) p 0)
 
-  -- byte j of the band of column k
+  -- Byte j of the band of column k.
   band-byte : (k j : ℕ) → k < s .columns → j < 8
       → getD laidOut (bandPlace y (s .classes) (s .columns) k + j) 0 ≡ getD (bandBytes (lowerAt s 0 k) (upperAt s 0 k)) j 0
   band-byte k j ks js =

@@ -33,14 +33,14 @@ module _ (y : Layout) (s : Scheme) where
   pub length-premiums : length (premiumsOf y s) ≡ s .classes * y .width
   length-premiums = length-joined (y .width) (s .classes) _ (λ i lt. length-beBytes (y .width) (premiumAt s i))
 
-  -- the record is as long as the formula says, where the layout's header has this length
+  -- The record is as long as the formula says, where the layout's header has this length.
   pub length-bytes : y .header ≡ HEADER → length (bytesOf y s) ≡ lengthOf y (s .classes) (s .columns)
   unfolding bytesOf
   length-bytes same =
       let whole : length (bytesOf y s) ≡ length (headerOf y s) + length (rulesOf s) + length (bandsOf s) + length (premiumsOf y s) = simp length-append in
       omega (arith, whole, length-header, length-rules, length-bands, length-premiums)
 
-  -- the parts laid one by one, each where the last one ends
+  -- The parts laid one by one, each where the last one ends.
   pub laid : y .header ≡ HEADER → (l : List ℕ) → lengthOf y (s .classes) (s .columns) ≤ length l
       → sets (sets (sets (sets l 0 (headerOf y s)) HEADER (rulesOf s)) (HEADER + s .classes * s .columns) (bandsOf s))
       (HEADER + s .classes * s .columns + s .columns * 8) (premiumsOf y s)
@@ -52,7 +52,7 @@ module _ (y : Layout) (s : Scheme) where
       ∙ sets-front l (bytesOf y s) (omega (arith, length-bytes same))
       ∙ ap (λ n. bytesOf y s ++ drop n l) (length-bytes same)
 
--- what the writer lays, in its own terms
+-- What the writer lays, in its own terms.
 pub wrote : (s : Scheme) (l : List ℕ) {size : ℕ} {h r m p : List ℕ} → size ≡ recordLength s → size ≤ length l
     → h ≡ sets l 0 (headerBytes 1 size (s .classes) (s .columns) (s .start) (s .horizon))
     → r ≡ sets h HEADER (joined (s .classes) (λ i. tab (s .columns) (λ k. getD (s .rules) (i * 8 + k) 0)))

@@ -14,7 +14,7 @@ use Rattle.big_endian_spec.specs.Laws.{sets-append}
 use Rattle.record_spec.specs.Joined.{joined}
 use Rattle.record.specs.Laws.Lists.{part-length, part-at}
 
--- four lists, each laid where the last one ends
+-- Four lists, each laid where the last one ends.
 pub sets-4 : (l h r b p : List ℕ) (i j k : ℕ) → length h ≡ i → i + length r ≡ j → j + length b ≡ k
     → sets (sets (sets (sets l 0 h) i r) j b) k p ≡ sets l 0 (h ++ r ++ b ++ p)
 sets-4 l h r b p i j k eh er eb =
@@ -26,12 +26,12 @@ sets-4 l h r b p i j k eh er eb =
     let three : sets (sets l 0 ((h ++ r) ++ b)) k p ≡ sets l 0 (((h ++ r) ++ b) ++ p) = rw hk at (sets-append l 0 ((h ++ r) ++ b) p) in
     rw (one, two, three)
 
--- a table of a list's entries is that part of the list
+-- A table of a list's entries is that part of the list.
 pub tab-part : (n p : ℕ) (l : List ℕ) → p + n ≤ length l → tab n (λ k. getD l (p + k) 0) ≡ take n (drop p l)
 tab-part n p l h =
     sym (as-tab 0 (take n (drop p l)) n (λ k. getD l (p + k) 0) (part-length n p l h) (part-at n p l))
 
--- lists one after another: length, entries, equal lists, parts of one list
+-- Lists one after another: length, entries, equal lists, parts of one list.
 pub length-joined : (w n : ℕ) (f : ℕ → List ℕ) → ((i : ℕ) → i < n → length (f i) ≡ w) → length (joined n f) ≡ n * w
 unfolding joined
 length-joined w zero f h = omega arith
@@ -45,7 +45,7 @@ joined-parts w p (suc n) l =
     let e : suc n * w ≡ n * w + w = suc-mul n w in
     rw (e, take-add (n * w) w (drop p l), drop-drop (n * w) p l, joined-parts w p n l)
 
--- entry k of list i stands at i × w + k, where each list has w entries
+-- Entry k of list i stands at i × w + k, where each list has w entries.
 pub getD-joined : (w n : ℕ) (f : ℕ → List ℕ) → ((i : ℕ) → i < n → length (f i) ≡ w) → (i k : ℕ) → i < n → k < w
     → getD (joined n f) (i * w + k) 0 ≡ getD (f i) k 0
 unfolding joined
@@ -64,7 +64,7 @@ getD-joined w (suc n) f h i k lt kw =
     before : length (joined n f) ≡ n * w
     before = length-joined w n f (λ j l. h j (omega arith))
 
--- one more list laid after those that are there
+-- One more list laid after those that are there.
 pub join-more : (w : ℕ) (f : ℕ → List ℕ) (l : List ℕ) (at i : ℕ) → ((j : ℕ) → j < i → length (f j) ≡ w)
     → sets (sets l at (joined i f)) (at + i * w) (f i) ≡ sets l at (joined (i + 1) f)
 unfolding joined

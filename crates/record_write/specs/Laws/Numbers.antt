@@ -21,7 +21,7 @@ put-band l p lower upper fits =
     let next : p + 4 ≡ p + length (beBytes 4 lower) = omega (arith, length-beBytes 4 lower) in
     rw (low, high, next) (sets-append l p (beBytes 4 lower) (beBytes 4 upper))
 
--- the header's bytes, one by one
+-- The header's bytes, one by one.
 pub put-header : (l : List ℕ) (size s m start horizon : ℕ)
     → set (set (set (set (sets (set l 0 1) 1 (beBytes 2 size)) 3 s) 4 m) 5 start) 6 horizon ≡ sets l 0 (headerBytes 1 size s m start horizon)
 unfolding headerBytes beBytes

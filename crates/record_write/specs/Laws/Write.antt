@@ -14,7 +14,7 @@ use Rattle.record_spec.specs.Bytes.{bytesOf}
 use Rattle.record_spec.specs.Write.{recordLength, writeCause, writeAnswer, writeLeaves, writeNumber, writtenLength}
 
 module _ (s : Scheme) (out : List ℕ) where
-  -- a cause n
+  -- A cause n.
   pub declined : {n : ℕ} → n ≡ writeCause s out → (n ≡ 0 → ⊥) → (Declined n ≡ writeAnswer s out) × (out ≡ writeLeaves s out)
   unfolding writeAnswer writeLeaves
   declined {n} e some = (rw (← e, ne-eqb n 0 some), rw (← e, ne-eqb n 0 some))
@@ -25,7 +25,7 @@ module _ (s : Scheme) (out : List ℕ) where
   pub by-slice : causeOf s ≡ 0 → length out < recordLength s → 13 ≡ writeCause s out
   by-slice none short = sym (second-cause (causeOf s) _ none ∙ rw (lt-ltb (length out) (recordLength s) short))
 
-  -- none
+  -- none.
   pub written : {size : ℕ} {left : List ℕ} → causeOf s ≡ 0 → size ≡ recordLength s → size ≤ length out → left ≡ bytesOf version1 s ++ drop size out
       → (Written size ≡ writeAnswer s out) × (left ≡ writeLeaves s out)
   unfolding writeAnswer writeLeaves
@@ -33,7 +33,7 @@ module _ (s : Scheme) (out : List ℕ) where
       let clear : writeCause s out ≡ 0 = second-cause (causeOf s) _ none ∙ rw (le-ltb (length out) (recordLength s) (rw is at fits)) in
       (rw (eq-eqb (writeCause s out) 0 clear, is), rw (eq-eqb (writeCause s out) 0 clear, e, is))
 
-  -- the number and the value of the answer
+  -- The number and the value of the answer.
   pub answer-number : writeNumber (writeAnswer s out) ≡ writeCause s out
   unfolding writeAnswer
   answer-number = by (ℕ-discrete (writeCause s out) 0)

@@ -15,13 +15,13 @@ use Rattle.scheme.specs.Tables.{tab}
 use Rattle.scheme.specs.SumByTarget.{sumByTarget, Capped, addedToTarget}
 use Rattle.scheme.specs.Laws.Tab.{length-tab, getD-tab, as-tab, tab-eq}
 
--- a rule that leads to none of the entries leaves them
+-- A rule that leads to none of the entries leaves them.
 pub added-none : (l : List ℕ) (rule end : ℕ) → Capped l → ((j : ℕ) → j < length l → rule ≡ suc j → ⊥) → l ≡ addedToTarget l rule end
 added-none l rule end capped away =
     as-tab 0 l (length l) (λ j. min ONE (getD l j 0 + onlyIf (eqb rule (suc j)) end)) refl
     (λ j g. omega (arith, onlyIf-false (eqb rule (suc j)) end (ne-eqb rule (suc j) (away j g)), capped j))
 
--- a rule that leads to one of them changes that one
+-- A rule that leads to one of them changes that one.
 pub added-set : (l : List ℕ) (rule end : ℕ) → Capped l → 1 ≤ rule → rule ≤ length l
     → set l (rule - 1) (min ONE (getD l (rule - 1) 0 + end)) ≡ addedToTarget l rule end
 added-set l rule end capped low high =
@@ -42,7 +42,7 @@ added-set l rule end capped low high =
         ∙ omega (arith, onlyIf-false (eqb rule (suc j)) end (ne-eqb rule (suc j) (λ e. d (omega arith))), capped j)
 
 module _ (n : ℕ) (rules band : List ℕ) where
-  -- the entries after the first k cells
+  -- The entries after the first k cells.
   unfoldable pub gatheredTo : ℕ → List ℕ
   gatheredTo k = tab n (λ j. min ONE (sumTo k (λ c. onlyIf (eqb (getD rules c 0) (suc j)) (getD band c 0))))
 
@@ -78,7 +78,7 @@ module _ (n : ℕ) (rules band : List ℕ) where
       term : ℕ → ℕ → ℕ
       term j c = onlyIf (eqb (getD rules c 0) (suc j)) (getD band c 0)
 
--- the loop over the cells: where it begins, one turn more, and its end
+-- The loop over the cells: where it begins, one turn more, and its end.
 module _ (rules band : List ℕ) where
   pub loop-begins : (n : ℕ) (l : List ℕ) → l ≡ replicate n 0 → l ≡ gatheredTo (length l) rules band 0
   loop-begins n l e =
@@ -94,7 +94,7 @@ module _ (rules band : List ℕ) where
   pub loop-length : (n k : ℕ) (l : List ℕ) → l ≡ gatheredTo n rules band k → length l ≡ n
   loop-length n k l e = ap length e ∙ summed-length n rules band k
 
-  -- m is the length that the loop began with
+  -- m is the length that the loop began with.
   pub loop-ends : (m k : ℕ) (l₀ l : List ℕ) → l₀ ≡ replicate m 0 → l ≡ gatheredTo (length l₀) rules band k → k ≡ min (length rules) (length band)
       → (length l ≡ m) × (l ≡ tab m (sumByTarget rules band))
   unfolding gatheredTo

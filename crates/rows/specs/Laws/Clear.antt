@@ -7,7 +7,7 @@ use lib.Seq.{drop-length}
 use native.Mathlib.Omega.{arith}
 use borrow.Author.Fill.{fill-none, fill-more}
 
--- the first i entries are 0, and the rest as they were
+-- The first i entries are 0, and the rest as they were.
 pub record Cleared (before : List ℕ) (i : ℕ) (now : List ℕ) : Type 0 where
   pub within : i ≤ length before
   pub size : length now ≡ length before

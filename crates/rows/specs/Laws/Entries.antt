@@ -24,7 +24,7 @@ use Rattle.rows.specs.Rows.{entriesOf, classRules, rowFrom}
 use Rattle.rows.specs.Laws.Front.{front-lent, whole-size, whole-front, whole-beyond}
 use Rattle.scheme.specs.Laws.Tab.{length-tab, getD-tab, as-tab, tab-eq}
 
--- summed entries followed by what stood beyond them
+-- Summed entries followed by what stood beyond them.
 pub entries-joined : (rules ends : List ℕ) (classes : ℕ) (g : List ℕ) → classes ≤ 32
     → g ≡ tab (length (take classes (replicate {A = ℕ} 32 0))) (sumByTarget rules ends)
     → g ++ drop classes (replicate 32 0) ≡ entriesOf rules ends classes
@@ -48,7 +48,7 @@ entries-joined rules ends classes g h e =
         whole-beyond classes g h size j (omega arith)
         ∙ sym (onlyIf-false (ltb j classes) (sumByTarget rules ends j) (le-ltb j classes (omega arith)))
 
--- for an accepted scheme they are those of its interval row
+-- For an accepted scheme they are those of its interval row.
 module _ (s : Scheme) (ok : Accepted s) (i : ℕ) (l : i < s .classes) where
   pub row-is : rowFrom (s .rules) (s .lowers) (s .uppers) (s .columns) (s .classes) i ≡ rowAt s i
   unfolding rowAt entriesOf
@@ -60,7 +60,7 @@ module _ (s : Scheme) (ok : Accepted s) (i : ℕ) (l : i < s .classes) where
         upper = tab-eq 0 32 _ _ (λ j g. ap (onlyIf (ltb j (s .classes))) (upper-is s ok i l j)) k;
       }
 
--- the code's parts of the rules run from i * 8 to i * 8 + columns
+-- The code's parts of the rules run from i * 8 to i * 8 + columns.
 pub row-made : (rules lowers uppers : List ℕ) (columns classes i : ℕ) (lower upper : List ℕ)
     → lower ≡ entriesOf (classRules (i * 8 + columns - i * 8) rules i) (take columns lowers) classes
     → upper ≡ entriesOf (classRules (i * 8 + columns - i * 8) rules i) (take columns uppers) classes
@@ -74,7 +74,7 @@ row-made rules lowers uppers columns classes i lower upper e g =
     size : i * 8 + columns - i * 8 ≡ columns
     size = omega arith
 
--- the row operation's answer in each of its cases
+-- The row operation's answer in each of its cases.
 module _ (s : Scheme) (class : ℕ) where
   pub row-declined : (n : ℕ) → n ≡ causeOf s → (n ≡ 0 → ⊥) → rowRefused n ≡ rowAnswer s class
   row-declined n e h =

@@ -8,7 +8,7 @@ use lib.Seq.{length-take-le, getD-append-add, getD-drop}
 use native.Mathlib.Decide.{decLt}
 use native.Mathlib.Omega.{arith}
 
--- a front of n, after it was written
+-- A front of n, after it was written.
 module _ (n : ℕ) (after rest : List ℕ) (size : length after ≡ n) where
   pub front-fits : n ≤ length (after ++ rest)
   front-fits = omega (arith, length-append after rest)
@@ -16,11 +16,11 @@ module _ (n : ℕ) (after rest : List ℕ) (size : length after ≡ n) where
   pub front-size : n ≡ length (take n (after ++ rest))
   front-size = sym (length-take-le n (after ++ rest) front-fits)
 
--- a front of n of an array of 32 that is 0 everywhere
+-- A front of n of an array of 32 that is 0 everywhere.
 pub front-lent : (n : ℕ) → n ≤ 32 → length (take n (replicate {A = ℕ} 32 0)) ≡ n
 front-lent n few = length-take-le {A = ℕ} n (replicate 32 0) (omega (arith, length-replicate {A = ℕ} 32 0))
 
--- the whole of that array, after its front was written
+-- The whole of that array, after its front was written.
 module _ (n : ℕ) (after : List ℕ) (few : n ≤ 32) (size : length after ≡ n) where
   pub whole-size : length (after ++ drop n (replicate 32 0)) ≡ 32
   whole-size =

@@ -22,7 +22,7 @@ use Rattle.rows.specs.Rows.{classRules}
 use Rattle.scheme.specs.Laws.Sound.{accepted-cells}
 use Rattle.scheme.specs.SumByTarget.{sumByTarget}
 
--- a rule is class j + 1 exactly where its target is state j
+-- A rule is class j + 1 exactly where its target is state j.
 same-test : (rule j : ℕ) → 1 ≤ rule → eqb rule (suc j) ≡ eqb (rule - 1) j
 same-test rule j h = by (ℕ-discrete rule (suc j))
   where
@@ -30,7 +30,7 @@ same-test rule j h = by (ℕ-discrete rule (suc j))
     by (yes e) = eq-eqb rule (suc j) e ∙ sym (eq-eqb (rule - 1) j (omega arith))
     by (no d) = ne-eqb rule (suc j) d ∙ sym (ne-eqb (rule - 1) j (λ e. d (omega arith)))
 
--- a part of the rules and of the bands' ends, read where they stand
+-- A part of the rules and of the bands' ends, read where they stand.
 summed-part : (rules ends : List ℕ) (columns from j : ℕ)
     → sumByTarget (take columns (drop from rules)) (take columns ends) j
     ≡ min ONE (sumTo columns (λ k. onlyIf (eqb (getD rules (from + k) 0) (suc j)) (getD ends k 0)))
@@ -73,7 +73,7 @@ summed-part rules ends columns from j =
     longer : sumTo columns term ≡ sumTo count term
     longer = sumTo-longer count columns term within nothing-there
 
--- for an accepted scheme the entries are those of its interval row
+-- For an accepted scheme the entries are those of its interval row.
 module _ (s : Scheme) (ok : Accepted s) (i : ℕ) (l : i < s .classes) where
   into : (band : ℕ → ℕ) (j : ℕ) → sumTo (s .columns) (λ k. onlyIf (eqb (ruleAt s i k) (suc j)) (band k)) ≡ sumInto (cellsOf s i) band j
   into band j =

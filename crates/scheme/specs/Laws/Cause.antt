@@ -13,7 +13,7 @@ use Rattle.scheme.specs.Accepted.{SizeFits}
 use Rattle.scheme.specs.Stages.{formCause, bandCause}
 use Rattle.scheme.specs.Laws.Tables.{or-false-left, or-false-right, any-same}
 
--- a number that passed the test is one of 1 to max
+-- A number that passed the test is one of 1 to max.
 pub outside-false : (max x : ℕ) → outside max x ≡ false → (1 ≤ x) × (x ≤ max)
 outside-false max x e =
     let zero-not : (x ≡ 0 → ⊥) = eqb-false x 0 (or-false-left (eqb x 0) (ltb max x) e) in
@@ -22,19 +22,19 @@ outside-false max x e =
 pub inside-outside : (max x : ℕ) → 1 ≤ x → x ≤ max → outside max x ≡ false
 inside-outside max x h k = simp (ne-eqb x 0 (λ e. omega arith), le-ltb max x k)
 
--- sizes that passed the test
+-- Sizes that passed the test.
 sizes-inside : (s m : ℕ) → sizesOut s m ≡ false → ((1 ≤ s) × (s ≤ 32)) × ((1 ≤ m) × (m ≤ 8))
 sizes-inside s m test =
     (outside-false 32 s (or-false-left (outside 32 s) (outside 8 m) test), outside-false 8 m (or-false-right (outside 32 s) (outside 8 m) test))
 
--- the first of two causes
+-- The first of two causes.
 pub first-cause : (a b : ℕ) → (a ≡ 0 → ⊥) → orElse a b ≡ a
 first-cause a b h = simp (ne-eqb a 0 h)
 
 pub second-cause : (a b : ℕ) → a ≡ 0 → orElse a b ≡ b
 second-cause a b e = simp (eq-eqb a 0 e)
 
--- where two causes come to 0, each of them is 0
+-- Where two causes come to 0, each of them is 0.
 pub first-none : (a b : ℕ) → orElse a b ≡ 0 → a ≡ 0
 first-none a b e = by (ℕ-discrete a 0)
   where
@@ -45,12 +45,12 @@ first-none a b e = by (ℕ-discrete a 0)
 pub second-none : (a b : ℕ) → orElse a b ≡ 0 → b ≡ 0
 second-none a b e = sym (second-cause a b (first-none a b e)) ∙ e
 
--- a test whose number is not given failed
+-- A test whose number is not given failed.
 pub test-none : (b : Bool) (n : ℕ) → 0 < n → cond b n 0 ≡ 0 → b ≡ false
 test-none true n h e = absurd (omega arith)
 test-none false n h e = refl
 
--- a slice without cause 13 is of the size asked for, and so are two
+-- A slice without cause 13 is of the size asked for, and so are two.
 pub slice-fits : (size given : ℕ) → sliceCause size given ≡ 0 → given ≡ size
 slice-fits size given e = by (ℕ-discrete given size)
   where
@@ -64,27 +64,27 @@ slices-fit size one other e = (
   slice-fits size other (second-none (sliceCause size one) (sliceCause size other) e),
 )
 
--- no cause in the sizes
+-- No cause in the sizes.
 pub sizes-clear : (s m : ℕ) → sizesCause s m ≡ 0 → ((1 ≤ s) × (s ≤ 32)) × ((1 ≤ m) × (m ≤ 8))
 sizes-clear s m e = sizes-inside s m (test-none (sizesOut s m) 3 (omega arith) e)
 
--- a cause in the sizes is the first of those of the form
+-- A cause in the sizes is the first of those of the form.
 pub sizes-first : (a : Bool) (rest : ℕ) {n : ℕ} → n ≡ cond a 3 0 → (n ≡ 0 → ⊥) → n ≡ cond a 3 rest
 sizes-first true rest e some = e
 sizes-first false rest e some = absurd (some e)
 
--- no cause in the number of a class
+-- No cause in the number of a class.
 pub class-fits : (s class : ℕ) → _≡_ {A = ℕ} (cond (outside s class) 11 0) 0 → (1 ≤ class) × (class ≤ s)
 class-fits s class e = outside-false s class (test-none (outside s class) 11 (omega arith) e)
 
--- an answer by its cause
+-- An answer by its cause.
 pub declined {ℓ} : {A : Type ℓ} (n : ℕ) (x y : A) → (n ≡ 0 → ⊥) → cond (eqb n 0) x y ≡ y
 declined n x y h = ap (λ b. cond b x y) (ne-eqb n 0 h)
 
 pub answered {ℓ} : {A : Type ℓ} (n : ℕ) (x y : A) → n ≡ 0 → cond (eqb n 0) x y ≡ x
 answered n x y e = ap (λ b. cond b x y) (eq-eqb n 0 e)
 
--- answers with the same cause are the same, where what they answer without one is
+-- Answers with the same cause are the same, where what they answer without one is.
 pub by-cause {ℓ} : {A : Type ℓ} {n n′ : ℕ} {x x′ y y′ : A} → n ≡ n′ → (n ≡ 0 → x ≡ x′) → y ≡ y′ → cond (eqb n 0) x y ≡ cond (eqb n′ 0) x′ y′
 by-cause {n = n} {n′ = n′} {x = x} {x′ = x′} {y = y} {y′ = y′} e same other = by (ℕ-discrete n 0)
   where
@@ -92,7 +92,7 @@ by-cause {n = n} {n′ = n′} {x = x} {x′ = x′} {y = y} {y′ = y′} e sam
     by (yes z) = answered n x y z ∙ same z ∙ sym (answered n′ x′ y′ (sym e ∙ z))
     by (no h) = declined n x y h ∙ other ∙ sym (declined n′ x′ y′ (λ z. h (e ∙ z)))
 
--- over the tests' outcomes: a stage's number that is not 0 is the whole's, and 0 leads on to the rest
+-- Over the tests' outcomes: a stage's number that is not 0 is the whole's, and 0 leads on to the rest.
 form-hit : (a b c : Bool) (rest n : ℕ) → n ≡ cond a 3 (cond b 5 (cond c 6 0)) → (n ≡ 0 → ⊥) → n ≡ cond a 3 (cond b 5 (cond c 6 rest))
 form-hit true b c rest n e h = e
 form-hit false true c rest n e h = e
@@ -105,7 +105,7 @@ form-on false true c rest n e h = absurd (omega arith)
 form-on false false true rest n e h = absurd (omega arith)
 form-on false false false rest n e h = refl
 
--- the stages after the form, joined
+-- The stages after the form, joined.
 joined : (a b c d : Bool) → orElse (cond a 7 0) (orElse (cond b 8 (cond c 9 0)) (cond d 10 0)) ≡ cond a 7 (cond b 8 (cond c 9 (cond d 10 0)))
 joined true b c d = refl
 joined false true c d = refl
@@ -123,13 +123,13 @@ form-size : (a b c : Bool) (n : ℕ) → n ≡ cond a 3 (cond b 5 (cond c 6 0)) 
 form-size true b c n e h = absurd (omega arith)
 form-size false b c n e h = refl
 
--- a scheme whose form has no cause is of a size that fits
+-- A scheme whose form has no cause is of a size that fits.
 pub size-fits : (s : Scheme) (n : ℕ) → n ≡ formCause (s .classes) (s .columns) (s .start) (s .horizon) → n ≡ 0 → SizeFits s
 size-fits s n e h =
     let sizes = sizes-inside (s .classes) (s .columns) (form-size (sizesOut (s .classes) (s .columns)) (outside (s .classes) (s .start)) (ltb 100 (s .horizon)) n e h) in
     record { someClass = sizes .0 .0; classes = sizes .0 .1; someColumn = sizes .1 .0; columns = sizes .1 .1 }
 
--- the stages of the code, for a scheme
+-- The stages of the code, for a scheme.
 module _ (s : Scheme) (moneyOut : Bool) where
   afterForm : ℕ
   afterForm = cond (ruleOut s) 7 (cond (bandOut s) 8 (cond (sumOut s) 9 (cond moneyOut 10 0)))

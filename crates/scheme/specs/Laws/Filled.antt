@@ -9,7 +9,7 @@ use borrow.Author.Count.{below-none, below-more}
 use Rattle.scheme.specs.Tables.{tab}
 use Rattle.scheme.specs.Laws.Tab.{as-tab}
 
--- the list has n entries, and those below i are the rule's
+-- The list has n entries, and those below i are the rule's.
 pub record Filled (n : ℕ) (f : ℕ → ℕ) (i : ℕ) (a : List ℕ) : Type 0 where
   pub long : length a ≡ n
   pub done : (k : ℕ) → k < i → getD a k 0 ≡ f k

@@ -15,14 +15,14 @@ use Rattle.scheme.specs.Cause.{outside, bandTest, sizeOut, startOut, hor
 use Rattle.scheme.specs.Laws.Tables.{or-false-left, or-false-right, or-false, any-clear, any-false}
 use Rattle.scheme.specs.Laws.Cause.{outside-false, inside-outside}
 
--- a test over all classes and cells, read at each
+-- A test over all classes and cells, read at each.
 all-false : (n m : ℕ) (test : ℕ → ℕ → Bool) → anyBelow n (λ i. anyBelow m (test i)) ≡ false → (i k : ℕ) → i < n → k < m → test i k ≡ false
 all-false n m test e i k l g = any-false m (test i) (any-false n (λ i. anyBelow m (test i)) e i l) k g
 
 all-clear : (n m : ℕ) (test : ℕ → ℕ → Bool) → ((i k : ℕ) → i < n → k < m → test i k ≡ false) → anyBelow n (λ i. anyBelow m (test i)) ≡ false
 all-clear n m test h = any-clear n (λ i. anyBelow m (test i)) (λ i l. any-clear m (test i) (λ k g. h i k l g))
 
--- a test that fails exactly where a fact holds
+-- A test that fails exactly where a fact holds.
 pub record Tells (test : Bool) (Fact : Type 0) : Type 0 where
   pub fits : test ≡ false → Fact
   pub passes : Fact → test ≡ false
@@ -115,7 +115,7 @@ module _ (s : Scheme) where
         passes = λ h. any-clear (s .classes) (λ i. ltb 10000000 (premiumAt s i)) (λ i l. le-ltb 10000000 (premiumAt s i) (h .within i l));
       }
 
-  -- what the scheme's cause says of it
+  -- What the scheme's cause says of it.
   pub data Judged : ℕ → Type 0 where
     accepted : Accepted s → Judged 0
     refused : {n : ℕ} → Refused s n → Judged n
@@ -123,7 +123,7 @@ module _ (s : Scheme) where
   contrary : {test : Bool} {Fact : Type 0} → Tells test Fact → test ≡ true → ¬ Fact
   contrary w e h = true≢false (sym e ∙ w .passes h)
 
-  -- by the outcomes of the tests in their order
+  -- By the outcomes of the tests in their order.
   by-tests : (a b c d e f g : Bool) → sizeOut s ≡ a → startOut s ≡ b → horizonOut s ≡ c → ruleOut s ≡ d → bandOut s ≡ e → sumOut s ≡ f → premiumOut s ≡ g
       → Judged (cond a 3 (cond b 5 (cond c 6 (cond d 7 (cond e 8 (cond f 9 (cond g 10 0)))))))
   by-tests true b c d e f g e1 e2 e3 e4 e5 e6 e7 = refused (Refused.size (contrary size-tells e1))
@@ -154,7 +154,7 @@ module _ (s : Scheme) where
   judged =
       by-tests (sizeOut s) (startOut s) (horizonOut s) (ruleOut s) (bandOut s) (sumOut s) (premiumOut s) refl refl refl refl refl refl refl
 
-  -- "A scheme is accepted exactly when this list holds"
+  -- "A scheme is accepted exactly when this list holds".
   pub cause-accepted : Accepted s → causeOf s ≡ 0
   unfolding causeWhere
   cause-accepted h =

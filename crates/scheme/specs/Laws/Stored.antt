@@ -12,7 +12,7 @@ use Rattle.scheme.specs.Access.{ruleAt, lowerAt, upperAt, premiumAt}
 use Rattle.scheme.specs.Stored.{upTo, rulesUpTo, schemeOf, cleared, noScheme}
 use Rattle.scheme.specs.Laws.Tab.{getD-tab, tab-eq}
 
--- one of two orders holds
+-- One of two orders holds.
 pub split : (a b : ℕ) → (a < b) ⊎ (b ≤ a)
 split a b = by (decLt a b)
   where
@@ -32,7 +32,7 @@ pub upTo-eq : (n : ℕ) (f g : ℕ → ℕ) (k : ℕ) → (k < n → f k ≡ g k
 upTo-eq n f g k h =
     ⊎-elim (λ lt. upTo-below n f k lt ∙ h lt ∙ sym (upTo-below n g k lt)) (λ le. upTo-past n f k le ∙ sym (upTo-past n g k le)) (split k n)
 
--- an array filled up to n holds its entries
+-- An array filled up to n holds its entries.
 pub stored-at : (size n : ℕ) (f : ℕ → ℕ) (k : ℕ) → k < size → k < n → getD (tab size (upTo n f)) k 0 ≡ f k
 stored-at size n f k fits lt = getD-tab size (upTo n f) k 0 fits ∙ upTo-below n f k lt
 
@@ -45,7 +45,7 @@ rule-stored s m rule i k most few is ks =
     getD-tab 256 (rulesUpTo s m rule) q 0 (omega arith)
     ∙ rw (class, column) (upTo-below s (λ j. upTo m (rule j) k) i is ∙ upTo-below m (rule i) k ks)
 
--- filled again with what it holds, it is the same array
+-- Filled again with what it holds, it is the same array.
 stored-again : (size n : ℕ) (f : ℕ → ℕ) → tab size (upTo n (λ k. getD (tab size (upTo n f)) k 0)) ≡ tab size (upTo n f)
 stored-again size n f = tab-eq 0 size _ _ (λ k fits. upTo-eq n _ f k (λ lt. stored-at size n f k fits lt))
 
@@ -57,7 +57,7 @@ rules-again s m rule =
     upTo-eq s _ _ (q / 8)
     (λ is. upTo-eq m _ (rule (q / 8)) (q % 8) (λ ks. rule-stored s m rule (q / 8) (q % 8) (omega arith) (omega arith) is ks)))
 
--- the values of a made scheme
+-- The values of a made scheme.
 module _ (s m start horizon : ℕ) (rule : ℕ → ℕ → ℕ) (lower upper premium : ℕ → ℕ) where
   abbrev made : Scheme
   made = schemeOf s m start horizon rule lower upper premium
@@ -78,12 +78,12 @@ module _ (s m start horizon : ℕ) (rule : ℕ → ℕ → ℕ) (lower upper pre
   unfolding schemeOf
   premium-made i most is = stored-at 32 s premium i (omega arith) is
 
-  -- "every operation that makes a scheme sets them to 0"
+  -- "every operation that makes a scheme sets them to 0".
   pub made-cleared : cleared made ≡ made
   unfolding schemeOf
   made-cleared = rw (rules-again s m rule, stored-again 8 m lower, stored-again 8 m upper, stored-again 32 s premium)
 
-  -- schemes made from values that are equal up to s and m are equal
+  -- Schemes made from values that are equal up to s and m are equal.
   pub made-eq : (rule′ : ℕ → ℕ → ℕ) (lower′ upper′ premium′ : ℕ → ℕ)
       → ((i k : ℕ) → i < s → k < m → rule i k ≡ rule′ i k)
       → ((k : ℕ) → k < m → lower k ≡ lower′ k)
@@ -100,7 +100,7 @@ module _ (s m start horizon : ℕ) (rule : ℕ → ℕ → ℕ) (lower upper pre
       let premiums : tab 32 (upTo s premium) ≡ tab 32 (upTo s premium′) = tab-eq 0 32 _ _ (λ i lt. upTo-eq s _ _ i (ep i)) in
       rw (rules, lowers, uppers, premiums)
 
--- and a scheme of 0 beside a refusal's number has 0 there too
+-- And a scheme of 0 beside a refusal's number has 0 there too.
 pub none-cleared : cleared noScheme ≡ noScheme
 unfolding noScheme schemeOf upTo tab
 none-cleared = refl

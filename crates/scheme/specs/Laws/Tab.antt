@@ -19,12 +19,12 @@ module _ {ℓ} {A : Type ℓ} where
   getD-tab (suc n) f zero d h = refl
   getD-tab (suc n) f (suc i) d h = getD-tab n (λ k. f (suc k)) i d (le-of-suc-le-suc h)
 
-  -- a list is the rule that gives its elements
+  -- A list is the rule that gives its elements.
   pub as-tab : (d : A) (l : List A) (n : ℕ) (f : ℕ → A) → length l ≡ n → ((i : ℕ) → i < n → getD l i d ≡ f i) → l ≡ tab n f
   as-tab d l n f e h =
       ext-getD d l (tab n f) (e ∙ sym (length-tab n f))
       (λ i g. let k : i < n = rw (← e) g in h i k ∙ sym (getD-tab n f i d k))
 
-  -- equal at each place
+  -- Equal at each place.
   pub tab-eq : (d : A) (n : ℕ) (f g : ℕ → A) → ((i : ℕ) → i < n → f i ≡ g i) → tab n f ≡ tab n g
   tab-eq d n f g h = as-tab d (tab n f) n g (length-tab n f) (λ i l. getD-tab n f i d l ∙ h i l)

@@ -23,16 +23,16 @@ pub any-none : (test : ℕ → Bool) → anyBelow 0 test ≡ false
 unfolding anyBelow
 any-none test = refl
 
--- it fails below n and at n
+-- It fails below n and at n.
 pub any-more : (n : ℕ) (test : ℕ → Bool) → anyBelow n test ≡ false → test n ≡ false → anyBelow (n + 1) test ≡ false
 unfolding anyBelow
 any-more n test e h = rw add-one (ap (λ b. b || test n) e ∙ h)
 
--- all of them have been tried
+-- All of them have been tried.
 pub any-end : (k n : ℕ) (test : ℕ → Bool) → k ≡ n → anyBelow k test ≡ false → false ≡ anyBelow n test
 any-end k n test e h = sym (ap (λ x. anyBelow x test) (sym e) ∙ h)
 
--- it passes at k
+-- It passes at k.
 pub any-hit : (n k : ℕ) (test : ℕ → Bool) → k < n → test k ≡ true → anyBelow n test ≡ true
 unfolding anyBelow
 any-hit zero k test l h = absurd (not-suc-le-zero l)
@@ -41,7 +41,7 @@ any-hit (suc n) k test l h =
     (λ g. ap (λ b. b || test n) (any-hit n k test g h))
     (eq-or-lt-of-le (le-of-suc-le-suc l))
 
--- it passes nowhere
+-- It passes nowhere.
 pub any-clear : (n : ℕ) (test : ℕ → Bool) → ((k : ℕ) → k < n → test k ≡ false) → anyBelow n test ≡ false
 unfolding anyBelow
 any-clear zero test h = refl
@@ -55,12 +55,12 @@ any-false (suc n) test e k l =
     (λ g. any-false n test (or-false-left (anyBelow n test) (test n) e) k g)
     (eq-or-lt-of-le (le-of-suc-le-suc l))
 
--- a test that does not look at the index
+-- A test that does not look at the index.
 pub any-same : (n : ℕ) (b : Bool) → 0 < n → anyBelow n (λ k. b) ≡ b
 any-same n true l = any-hit n 0 (λ k. true) l refl
 any-same n false l = any-clear n (λ k. false) (λ k g. refl)
 
--- tests that agree below the count
+-- Tests that agree below the count.
 below-same : (n : ℕ) (test test′ : ℕ → Bool) → ((k : ℕ) → k < n → test k ≡ test′ k) → anyBelow n test ≡ anyBelow n test′
 unfolding anyBelow
 below-same zero test test′ h = refl

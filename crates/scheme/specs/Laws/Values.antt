@@ -19,7 +19,7 @@ use Rattle.scheme.specs.Laws.Cause.{cond-true, by-cause}
 use Rattle.scheme.specs.Laws.Judged.{size-tells, accepted-cause, cause-accepted}
 use Rattle.scheme.specs.Laws.Stored.{stored-at, rule-stored}
 
--- sums over as many cells
+-- Sums over as many cells.
 cells-eq : {n n′ : ℕ} → n ≡ n′ → (f g : ℕ → ℕ) → ((k : ℕ) → k < n → f k ≡ g k) → sumTo n f ≡ sumTo n′ g
 cells-eq {n} e f g h = sumTo-eq n f g h ∙ ap (λ x. sumTo x g) e
 
@@ -37,7 +37,7 @@ module _ {s s′ : Scheme} (v : SameValues s s′) where
         premiums = λ i l. sym (v .premiums i (omega arith));
       }
 
-  -- the outcome of each test
+  -- The outcome of each test.
   size-same : sizeOut s ≡ sizeOut s′
   unfolding sizeOut
   size-same = ap₂ (λ n m. outside 32 n || outside 8 m) (v .classes) (v .columns)
@@ -89,7 +89,7 @@ module _ {s s′ : Scheme} (v : SameValues s s′) where
   pub accepted-same : Accepted s → Accepted s′
   accepted-same ok = accepted-cause s′ (sym cause-same ∙ cause-accepted s ok)
 
-  -- the interval row of each class, at every class
+  -- The interval row of each class, at every class.
   module _ (i : ℕ) (l : i < s .classes) where
     into-same : (band band′ : ℕ → ℕ) → ((k : ℕ) → k < cellCount s → band k ≡ band′ k) → (j : ℕ)
         → sumTo (cellCount s) (λ k. onlyIf (eqb (ruleAt s i k - 1) j) (band k)) ≡ sumTo (cellCount s′) (λ k. onlyIf (eqb (ruleAt s′ i k - 1) j) (band′ k))
@@ -105,7 +105,7 @@ module _ {s s′ : Scheme} (v : SameValues s s′) where
     pub row-same : chainOf s .row i ≡ chainOf s′ .row i
     row-same = λ t. record { lower = λ j. lower-same j t; upper = λ j. upper-same j t }
 
--- a scheme whose size fits has the same values with 0 beyond s and m
+-- A scheme whose size fits has the same values with 0 beyond s and m.
 pub cleared-values : (s : Scheme) → SizeFits s → SameValues s (cleared s)
 unfolding schemeOf
 cleared-values s h =
@@ -120,7 +120,7 @@ cleared-values s h =
       premiums = λ i l. sym (stored-at 32 (s .classes) (premiumAt s) i (omega arith) l);
     }
 
--- a size out of range is cause 3, whatever else holds
+-- A size out of range is cause 3, whatever else holds.
 size-first : (s : Scheme) (moneyOut : Bool) → sizeOut s ≡ true → causeWhere s moneyOut ≡ 3
 unfolding causeWhere
 size-first s moneyOut e = cond-true (sizeOut s) 3 _ e
@@ -136,7 +136,7 @@ cleared-refused s h = by (sizeOut s) refl
     by true e = (size-first s (premiumOut s) e, size-first (cleared s) (premiumOut (cleared s)) (size-cleared s e))
     by false e = absurd (h (size-tells s .fits e))
 
--- what no operation tells apart: the same values, or two sizes out of range
+-- What no operation tells apart: the same values, or two sizes out of range.
 pub data Alike (s s′ : Scheme) : Type 0 where
   same : SameValues s s′ → Alike s s′
   sizesOut : sizeOut s ≡ true → sizeOut s′ ≡ true → Alike s s′
@@ -153,7 +153,7 @@ module _ {s s′ : Scheme} where
   pub alike-cause : Alike s s′ → causeOf s ≡ causeOf s′
   alike-cause w = alike-where w premiums-same
 
-  -- a cause that is tested after the scheme's own
+  -- A cause that is tested after the scheme's own.
   pub alike-next : Alike s s′ → {n n′ : ℕ} → (SameValues s s′ → n ≡ n′) → orElse (causeOf s) n ≡ orElse (causeOf s′) n′
   alike-next w e = by-cause (alike-cause w) (λ z. e (alike-values w (premiumOut s) z)) (alike-cause w)
 

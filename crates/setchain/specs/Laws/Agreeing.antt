@@ -10,20 +10,20 @@ use Rattle.setchain.specs.Step.{rounded, capacity, slack, rising, before
 use Rattle.setchain.specs.Years.{yearsFigure}
 use Rattle.setchain.specs.Laws.Sums.{sumTo-eq}
 
--- two rows have the same entries for the first n states
+-- Two rows have the same entries for the first n states.
 pub record Agree (n : ℕ) (r q : IntervalRow) : Type 0 where
   pub lower : (j : ℕ) → j < n → r .lower j ≡ q .lower j
   pub upper : (j : ℕ) → j < n → r .upper j ≡ q .upper j
 
--- a row agrees with itself
+-- A row agrees with itself.
 pub agree-refl : (n : ℕ) (r : IntervalRow) → Agree n r r
 agree-refl n r = record { lower = λ j l. refl; upper = λ j l. refl }
 
--- rows that agree, from the other side
+-- Rows that agree, from the other side.
 pub agree-sym : {n : ℕ} {r q : IntervalRow} → Agree n r q → Agree n q r
 agree-sym s = record { lower = λ j l. sym (s .lower j l); upper = λ j l. sym (s .upper j l) }
 
--- the same rows lie inside, also where their parts agree below n
+-- The same rows lie inside, also where their parts agree below n.
 pub parts-agree : {n : ℕ} {r q : IntervalRow} {p p′ : ℕ → ℕ} → Agree n r q → ((j : ℕ) → j < n → p j ≡ p′ j) → Parts n r p → Parts n q p′
 parts-agree {n} {p = p} {p′ = p′} s e w =
     record {
@@ -33,11 +33,11 @@ parts-agree {n} {p = p} {p′ = p′} s e w =
       below = λ j l. omega (arith, s .upper j l, e j l, w .below j l);
     }
 
--- the sum of part times payoff looks at states below n alone
+-- The sum of part times payoff looks at states below n alone.
 dot-agrees : (n : ℕ) {p p′ f f′ : ℕ → ℕ} → ((j : ℕ) → j < n → p j ≡ p′ j) → ((j : ℕ) → j < n → f j ≡ f′ j) → dot n p f ≡ dot n p′ f′
 dot-agrees n {p} {p′} {f} {f′} e g = sumTo-eq n (λ j. p j * f j) (λ j. p′ j * f′ j) (λ j l. ap₂ (λ x y. x * y) (e j l) (g j l))
 
--- so a figure that is reached is reached for all that agrees below n
+-- So a figure that is reached is reached for all that agrees below n.
 pub reaches-agree : {high : Bool} {n : ℕ} {r r′ : IntervalRow} {f f′ p p′ : ℕ → ℕ} {v : ℕ}
     → Agree n r r′ → ((j : ℕ) → j < n → f j ≡ f′ j) → ((j : ℕ) → j < n → p j ≡ p′ j) → Reaches high n r f p v → Reaches high n r′ f′ p′ v
 reaches-agree {high} {n} s g e w =
@@ -47,7 +47,7 @@ reaches-agree {high} {n} s g e w =
       rounded = w .rounded ∙ ap (rounded high) (dot-agrees n e g);
     }
 
--- one is sound where the other is
+-- One is sound where the other is.
 pub sound-agrees : {n : ℕ} {r q : IntervalRow} → Agree n r q → SoundRow n r → SoundRow n q
 sound-agrees {n} {r} {q} same s =
     record {
@@ -57,7 +57,7 @@ sound-agrees {n} {r} {q} same s =
       uppers = omega (arith, sumTo-eq n (r .upper) (q .upper) (same .upper), s .uppers);
     }
 
--- rows and payoffs that agree below n
+-- Rows and payoffs that agree below n.
 module _ {n : ℕ} {r q : IntervalRow} (rows : Agree n r q) where
   capacity-agrees : (j : ℕ) → j < n → capacity r j ≡ capacity q j
   capacity-agrees j l = ap₂ (λ x y. x - y) (rows .upper j l) (rows .lower j l)
@@ -65,7 +65,7 @@ module _ {n : ℕ} {r q : IntervalRow} (rows : Agree n r q) where
   slack-agrees : slack n r ≡ slack n q
   slack-agrees = ap (λ x. ONE - x) (sumTo-eq n (r .lower) (q .lower) (rows .lower))
 
-  -- filled along orders that agree below n
+  -- Filled along orders that agree below n.
   fill-agrees : (order order′ : ℕ → ℕ → Bool) → ((k j : ℕ) → k < n → j < n → order k j ≡ order′ k j)
       → (j : ℕ) → j < n → fillRow n r order j ≡ fillRow n q order′ j
   unfolding fillRow capacityBefore
@@ -88,7 +88,7 @@ module _ {n : ℕ} {r q : IntervalRow} (rows : Agree n r q) where
     unfolding stepFigure
     step-agrees high = ap (rounded high) (dot-agrees n (fill-agrees (before high f) (before high g) (before-agrees high)) payoffs)
 
--- chains, payoffs and gains that agree on the states
+-- Chains, payoffs and gains that agree on the states.
 module _ {c d : SetChain} (states : c .states ≡ d .states) (rows : (i : ℕ) → i < c .states → Agree (c .states) (c .row i) (d .row i))
     {payoff payoff′ gain gain′ : ℕ → ℕ}
     (payoffs : (i : ℕ) → i < c .states → payoff i ≡ payoff′ i)

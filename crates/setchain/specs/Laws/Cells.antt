@@ -9,7 +9,7 @@ use Rattle.setchain.specs.Cells.{Cells, sumInto, rowOf, SoundCells}
 use Rattle.setchain.specs.Laws.Sums.{onlyIf-le, onlyIf-mono, eqb-flip, sumTo-eq, sumTo-le, sumTo-swap, sumTo-point, min-sum-le}
 
 module _ (n : ℕ) (c : Cells) (sound : SoundCells n c) where
-  -- each cell leads to one state, so nothing is lost and nothing counted twice
+  -- Each cell leads to one state, so nothing is lost and nothing counted twice.
   pub sum-of-sums : (band : ℕ → ℕ) → sumTo n (sumInto c band) ≡ sumTo (c .count) band
   sum-of-sums band =
       sumTo-swap n (c .count) (λ j k. onlyIf (eqb (c .target k) j) (band k))

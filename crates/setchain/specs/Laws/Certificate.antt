@@ -11,7 +11,7 @@ use Rattle.setchain.specs.Step.{NotAfter, Parts}
 use Rattle.setchain.specs.Certificate.{Ahead, Certificate}
 use Rattle.setchain.specs.Laws.Sums.{sumTo-eq, sumTo-le, sumTo-add, sumTo-scale}
 
--- at one state: y is the larger above the threshold and the smaller below it
+-- At one state: y is the larger above the threshold and the smaller below it.
 exchange-below : (x y f d : ℕ) → y ≤ x → x * f + y * (f + d) ≤ y * f + x * (f + d)
 exchange-below x y f d h = omega (arith, mul-le-mul-right d h)
 
@@ -35,7 +35,7 @@ exchange x y f θ below above = by (decLt f θ) (decLt θ f)
     by (no l) (yes g) = let w = le-dest {n = θ} {m = f} (omega arith) in from-above (w .0) (w .1) (above g)
     by (no l) (no g) = equal (omega arith)
 
--- two rows of equal sums: the one that has more below a threshold, and less above it, brings no more
+-- Two rows of equal sums: the one that has more below a threshold, and less above it, brings no more.
 least-exchange : (n : ℕ) (x y f : ℕ → ℕ) (θ : ℕ) → ((j : ℕ) → j < n → f j < θ → y j ≤ x j) → ((j : ℕ) → j < n → θ < f j → x j ≤ y j)
     → sumTo n x ≡ sumTo n y → dot n x f ≤ dot n y f
 least-exchange n x y f θ below above e =
@@ -49,24 +49,24 @@ least-exchange n x y f θ below above e =
       ap (λ s. s * θ) e,
     )
 
--- the same for either figure: the row that has more before a threshold, and less after it, is at least as extreme
+-- The same for either figure: the row that has more before a threshold, and less after it, is at least as extreme.
 pub sum-exchange : (high : Bool) (n : ℕ) (x y f : ℕ → ℕ) (θ : ℕ) → ((j : ℕ) → j < n → Ahead high (f j) θ → y j ≤ x j) → ((j : ℕ) → j < n → Ahead high θ (f j) → x j ≤ y j)
     → sumTo n x ≡ sumTo n y → NotAfter high (dot n x f) (dot n y f)
 sum-exchange false n x y f θ more less e = least-exchange n x y f θ more less e
 sum-exchange true n x y f θ more less e = least-exchange n y x f θ less more (sym e)
 
--- a dot product whose parts all carry one factor
+-- A dot product whose parts all carry one factor.
 pub dot-scale : (n : ℕ) (x f : ℕ → ℕ) (c : ℕ) → dot n (λ j. x j * c) f ≡ dot n x f * c
 dot-scale n x f c = sumTo-eq n (λ j. x j * c * f j) (λ j. x j * f j * c) (λ j l. omega arith) ∙ sumTo-scale n (λ j. x j * f j) c
 
--- the sums of p over M and of q over ONE agree
+-- The sums of p over M and of q over ONE agree.
 sums-agree : (n : ℕ) (r : IntervalRow) (p : ℕ → ℕ) (q : Row) → Parts n r p → Inside n r q
     → sumTo n (λ j. p j * q .over) ≡ sumTo n (λ j. q .entry j * ONE)
 sums-agree n r p q hp hq =
     omega
     (arith, sumTo-scale n p (q .over), sumTo-scale n (q .entry) ONE, ap (λ s. s * q .over) (hp .sums), hq .sums)
 
--- M · Σ p·f ≤ ONE · Σ q·f for every row q inside, over any M; for a high figure ≥
+-- M · Σ p·f ≤ ONE · Σ q·f for every row q inside, over any M; for a high figure ≥.
 pub certified : (high : Bool) (n : ℕ) (r : IntervalRow) (f p : ℕ → ℕ) → Parts n r p → Certificate high n r f p → (q : Row) → Inside n r q
     → NotAfter high (dot n p f * q .over) (dot n (q .entry) f * ONE)
 certified high n r f p hp cert q hq =

@@ -22,7 +22,7 @@ unfolding onlyIf
 onlyIf-times true x y = refl
 onlyIf-times false x y = omega arith
 
--- one matrix more in front, for any figure that is linear in the rows
+-- One matrix more in front, for any figure that is linear in the rows.
 module _ (c : SetChain) where
   abbrev n : ℕ
   n = c .states
@@ -34,7 +34,7 @@ module _ (c : SetChain) where
       proper-sum n (λ k. entryOf (p i) k ⊗ product n ps k j)
       (λ k m. mul-pos (proper-row (h i l)) (proper-product ps rest k j m))
 
-  -- share: the product's entry in parts
+  -- Share: the product's entry in parts.
   pub share-value : (ps : List Matrix) → InsideEach c ps → (i j : ℕ) → i < n
       → shareInParts n j ps i ≈ value n (sharePayoff j) nothing ps i
   unfolding product value
@@ -64,7 +64,7 @@ module _ (c : SetChain) where
         proper-sum n (λ j. product n ps i j ⊗ whole (premium j))
         (λ j m. mul-pos (proper-product ps inside i j l) (le-refl 1))
 
-    -- the mean of no year is the class's own premium
+    -- The mean of no year is the class's own premium.
     mean-none : (i : ℕ) → i < n → mean [] i ≈ whole (premium i)
     unfolding exactMean product
     mean-none i l =
@@ -74,7 +74,7 @@ module _ (c : SetChain) where
         ∙ sumTo-point n premium i l)
         (sum-weighed n 1 (λ j. onlyIf (eqb i j) 1) premium)
 
-    -- the mean with one matrix in front weighs the means behind it
+    -- The mean with one matrix in front weighs the means behind it.
     mean-more : (p : Matrix) (ps : List Matrix) → InsideEach c (p ∷ ps) → (i : ℕ) → i < n
         → mean (p ∷ ps) i ≈ weigh n (p i) (mean ps)
     unfolding exactMean product
@@ -123,7 +123,7 @@ module _ (c : SetChain) where
     unfolding exactTotal sumFractions
     total-none i = refl
 
-    -- the total with one matrix in front: this year's premium, and the totals behind it weighed
+    -- The total with one matrix in front: this year's premium, and the totals behind it weighed.
     total-more : (p : Matrix) (ps : List Matrix) → InsideEach c (p ∷ ps) → (i : ℕ) → i < n
         → total (p ∷ ps) i ≈ whole (premium i) ⊕ weigh n (p i) (total ps)
     unfolding exactTotal

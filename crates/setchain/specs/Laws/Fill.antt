@@ -12,17 +12,17 @@ use borrow.Author.Tests.{eq-eqb, ne-eqb}
 use Rattle.setchain.specs.Sums.{sumTo, onlyIf}
 use Rattle.setchain.specs.Laws.Sums.{onlyIf-true, onlyIf-false, onlyIf-le, sumTo-eq, sumTo-le, sumTo-add, sumTo-point}
 
--- a strict total order of the numbers, as a test
+-- A strict total order of the numbers, as a test.
 pub record Strict (before : ℕ → ℕ → Bool) : Type 0 where
   pub itself : (j : ℕ) → before j j ≡ false
   pub either : (k j : ℕ) → (k ≡ j → ⊥) → before k j ≡ not (before j k)
   pub onward : (i k j : ℕ) → before i k ≡ true → before k j ≡ true → before i j ≡ true
 
--- the widths of the states before j
+-- The widths of the states before j.
 unfoldable pub ahead : ℕ → (ℕ → ℕ) → (ℕ → ℕ → Bool) → ℕ → ℕ
 ahead n w before j = sumTo n (λ k. onlyIf (before k j) (w k))
 
--- a test is true or false
+-- A test is true or false.
 pub tested : (b : Bool) → (b ≡ true) ⊎ (b ≡ false)
 tested true = inl refl
 tested false = inr refl
@@ -32,7 +32,7 @@ unfolding sumTo
 positive-count zero f h = h
 positive-count (suc n) f h = omega arith
 
--- where the slack s runs out
+-- Where the slack s runs out.
 pub record Pivot (n : ℕ) (w : ℕ → ℕ) (before : ℕ → ℕ → Bool) (s : ℕ) : Type 0 where
   pub at : ℕ
   pub place : at < n
@@ -40,7 +40,7 @@ pub record Pivot (n : ℕ) (w : ℕ → ℕ) (before : ℕ → ℕ → Bool) (s 
   pub most : s ≤ ahead n w before at + w at
 
 module _ (w : ℕ → ℕ) (before : ℕ → ℕ → Bool) (strict : Strict before) where
-  -- what stands before a also stands before b
+  -- What stands before a also stands before b.
   ahead-le : (n a b : ℕ) → before a b ≡ true → ahead n w before a ≤ ahead n w before b
   unfolding ahead
   ahead-le n a b h = sumTo-le n (λ k. onlyIf (before k a) (w k)) (λ k. onlyIf (before k b) (w k)) (λ k l. at k (tested (before k a)))
@@ -49,7 +49,7 @@ module _ (w : ℕ → ℕ) (before : ℕ → ℕ → Bool) (strict : Strict befo
       at k (inl e) = omega (arith, onlyIf-true (before k a) (w k) e, onlyIf-true (before k b) (w k) (strict .onward k a b e h))
       at k (inr e) = omega (arith, onlyIf-false (before k a) (w k) e)
 
-  -- and so does a itself
+  -- And so does a itself.
   ahead-step : (n a b : ℕ) → a < n → before a b ≡ true → ahead n w before a + w a ≤ ahead n w before b
   unfolding ahead
   ahead-step n a b l h =
@@ -85,7 +85,7 @@ module _ (w : ℕ → ℕ) (before : ℕ → ℕ → Bool) (strict : Strict befo
   unfolding ahead
   ahead-all n j = sumTo-le n (λ k. onlyIf (before k j) (w k)) w (λ k l. onlyIf-le (before k j) (w k))
 
-  -- one state more, n, stands before j or does not
+  -- One state more, n, stands before j or does not.
   ahead-with : (n j : ℕ) → before n j ≡ true → ahead (suc n) w before j ≡ ahead n w before j + w n
   unfolding ahead sumTo
   ahead-with n j e = omega (arith, onlyIf-true (before n j) (w n) e)
@@ -94,7 +94,7 @@ module _ (w : ℕ → ℕ) (before : ℕ → ℕ → Bool) (strict : Strict befo
   unfolding ahead sumTo
   ahead-without n j e = omega (arith, onlyIf-false (before n j) (w n) e)
 
-  -- a pivot among n states, with fewer parts to give, is one among n and a state more that comes after it, or before it
+  -- A pivot among n states, with fewer parts to give, is one among n and a state more that comes after it, or before it.
   pivot-early : (n s : ℕ) → Pivot n w before s → s < ahead n w before n → Pivot (suc n) w before s
   pivot-early n s p h = ⊎-elim earlier later (tested (before n (p .at)))
     where
@@ -131,7 +131,7 @@ module _ (w : ℕ → ℕ) (before : ℕ → ℕ → Bool) (strict : Strict befo
             ahead-step n (p .at) n (p .place) (strict .either (p .at) n (λ i. omega (arith, p .place)) ∙ ap not e),
           ))
 
-  -- with n states and one more, by where the parts run out
+  -- With n states and one more, by where the parts run out.
   pivot-more : (n s : ℕ) → ((s′ : ℕ) → s′ ≤ sumTo n w → 0 < n → Pivot n w before s′) → s ≤ sumTo n w + w n → Pivot (suc n) w before s
   pivot-more n s ih h = by (decLt s (ahead n w before n)) (decLt (ahead n w before n + w n) s)
     where
@@ -153,7 +153,7 @@ module _ (w : ℕ → ℕ) (before : ℕ → ℕ → Bool) (strict : Strict befo
   pivot zero s h pos = absurd (omega arith)
   pivot (suc n) s h pos = pivot-more n s (pivot n) h
 
-  -- the parts that state j gets
+  -- The parts that state j gets.
   unfoldable pub given : ℕ → ℕ → ℕ → ℕ
   given n s j = min (w j) (s - ahead n w before j)
 
@@ -170,7 +170,7 @@ module _ (w : ℕ → ℕ) (before : ℕ → ℕ → Bool) (strict : Strict befo
     unfolding given
     given-pivot = omega (arith, p .most)
 
-    -- all that there is to give is given
+    -- All that there is to give is given.
     pub given-all : sumTo n (given n s) ≡ s
     unfolding ahead
     given-all =

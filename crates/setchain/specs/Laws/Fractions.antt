@@ -10,11 +10,11 @@ use Rattle.setchain.specs.Rows.{IntervalRow, Row, Inside}
 use Rattle.setchain.specs.Laws.Sums.{below-pred}
 
 infix 40 _≈_
--- the same value
+-- The same value.
 abbrev pub _≈_ : Fraction → Fraction → Type 0
 x ≈ y = x .num * y .den ≡ y .num * x .den
 
--- a fraction proper: its denominator is not 0
+-- A fraction proper: its denominator is not 0.
 abbrev pub Proper : Fraction → Type 0
 Proper x = 0 < x .den
 
@@ -36,7 +36,7 @@ mul-assoc x y z = fraction (omega arith) (omega arith)
 pub zero-add : (x : Fraction) → whole 0 ⊕ x ≡ x
 zero-add x = fraction (omega arith) (omega arith)
 
--- four summands, the middle two exchanged
+-- Four summands, the middle two exchanged.
 pub add-middle : (x y z w : Fraction) → (x ⊕ y) ⊕ (z ⊕ w) ≡ (x ⊕ z) ⊕ (y ⊕ w)
 add-middle x y z w = fraction (omega arith) (omega arith)
 
@@ -45,7 +45,7 @@ unfolding sumFractions
 proper-sum zero f h = le-refl 1
 proper-sum (suc n) f h = mul-pos (proper-sum n f (below-pred _ n h)) (h n (le-refl (suc n)))
 
--- the entries of a row that lies inside are proper fractions
+-- The entries of a row that lies inside are proper fractions.
 pub proper-row : {n : ℕ} {r : IntervalRow} {q : Row} → Inside n r q → 1 ≤ q .over
 proper-row h = omega (arith, h .positive)
 
@@ -90,7 +90,7 @@ sum-at-most zero f g h = le-refl 0
 sum-at-most (suc n) f g h =
     add-at-most (sumFractions n f) (sumFractions n g) (f n) (g n) (sum-at-most n f g (below-pred _ n h)) (h n (le-refl (suc n)))
 
--- x is a lower bound of y, or, for a high figure, an upper bound
+-- x is a lower bound of y, or, for a high figure, an upper bound.
 abbrev pub BoundOf : (high : Bool) → Fraction → Fraction → Type 0
 BoundOf false x y = x ≼ y
 BoundOf true x y = y ≼ x
@@ -122,7 +122,7 @@ sum-add zero f g = refl
 sum-add (suc n) f g =
     ap (λ s. s ⊕ (f n ⊕ g n)) (sum-add n f g) ∙ add-middle (sumFractions n f) (sumFractions n g) (f n) (g n)
 
--- the exchange of two sums
+-- The exchange of two sums.
 pub sum-swap : (n m : ℕ) (f : ℕ → ℕ → Fraction)
     → sumFractions n (λ i. sumFractions m (λ j. f i j)) ≡ sumFractions m (λ j. sumFractions n (λ i. f i j))
 unfolding sumFractions
@@ -130,7 +130,7 @@ sum-swap zero m f = sym (sum-zero m)
 sum-swap (suc n) m f =
     ap (λ s. s ⊕ sumFractions m (f n)) (sum-swap n m f) ∙ sym (sum-add m (λ j. sumFractions n (λ i. f i j)) (f n))
 
--- the first term taken out in front
+-- The first term taken out in front.
 pub sum-first : (n : ℕ) (f : ℕ → Fraction) → sumFractions (suc n) f ≡ f 0 ⊕ sumFractions n (λ k. f (suc k))
 unfolding sumFractions
 sum-first zero f = add-comm (whole 0) (f 0)
@@ -148,13 +148,13 @@ sum-scale (suc n) x f p h =
     (add-same (x ⊗ sumFractions n f) (sumFractions n (λ k. x ⊗ f k)) (x ⊗ f n) (x ⊗ f n)
     (sum-scale n x f p (below-pred _ n h)) refl)
 
--- the common factor on the other side
+-- The common factor on the other side.
 pub sum-scale-right : (n : ℕ) (f : ℕ → Fraction) (y : Fraction) → Proper y → ((k : ℕ) → k < n → Proper (f k))
     → sumFractions n f ⊗ y ≈ sumFractions n (λ k. f k ⊗ y)
 sum-scale-right n f y p h =
     subst₂ (λ a b. a ≈ b) (mul-comm y (sumFractions n f)) (sum-eq n (λ k. y ⊗ f k) (λ k. f k ⊗ y) (λ k. mul-comm y (f k))) (sum-scale n y f p h)
 
--- values y weighed by e: a common factor goes inside
+-- Values y weighed by e: a common factor goes inside.
 pub weigh-right : (n : ℕ) (e y : ℕ → Fraction) (w : Fraction) → Proper w → ((k : ℕ) → k < n → Proper (e k)) → ((k : ℕ) → k < n → Proper (y k))
     → sumFractions n (λ k. e k ⊗ y k) ⊗ w ≈ sumFractions n (λ k. e k ⊗ (y k ⊗ w))
 weigh-right n e y w p he hy =
@@ -162,7 +162,7 @@ weigh-right n e y w p he hy =
     (sum-eq n (λ k. e k ⊗ y k ⊗ w) (λ k. e k ⊗ (y k ⊗ w)) (λ k. mul-assoc (e k) (y k) w))
     (sum-scale-right n (λ k. e k ⊗ y k) w p (λ k l. mul-pos (he k l) (hy k l)))
 
--- the sum of m weighed values is the weighed sum
+-- The sum of m weighed values is the weighed sum.
 pub weigh-sum : (n m : ℕ) (e : ℕ → Fraction) (x : ℕ → ℕ → Fraction) → ((k : ℕ) → k < n → Proper (e k)) → ((k j : ℕ) → k < n → j < m → Proper (x k j))
     → sumFractions m (λ j. sumFractions n (λ k. e k ⊗ x k j)) ≈ sumFractions n (λ k. e k ⊗ sumFractions m (x k))
 weigh-sum n m e x he hx =
@@ -170,7 +170,7 @@ weigh-sum n m e x he hx =
     (sum-same n (λ k. sumFractions m (λ j. e k ⊗ x k j)) (λ k. e k ⊗ sumFractions m (x k))
     (λ k l. sym (sum-scale m (e k) (x k) (he k l) (λ j g. hx k j l g))))
 
--- whole numbers weighed by the entries of one row over m: their dot product over m
+-- Whole numbers weighed by the entries of one row over m: their dot product over m.
 pub sum-weighed : (n m : ℕ) (e c : ℕ → ℕ)
     → sumFractions n (λ k. record { num = e k; den = m } ⊗ whole (c k)) ≈ record { num = dot n e c; den = m }
 unfolding sumFractions sumTo

@@ -12,7 +12,7 @@ use Rattle.setchain.specs.Step.{rising, before}
 use Rattle.setchain.specs.Certificate.{Ahead}
 use Rattle.setchain.specs.Laws.Fill.{Strict}
 
--- two numbers compared
+-- Two numbers compared.
 data Compared (a b : ℕ) : Type 0 where
   less : a < b → Compared a b
   same : a ≡ b → Compared a b
@@ -26,7 +26,7 @@ compared a b = by (decLt a b) (decLt b a)
     by (no l) (yes g) = more g
     by (no l) (no g) = same (omega arith)
 
--- the order by payoffs, from each of its tests
+-- The order by payoffs, from each of its tests.
 rising-less : (f : ℕ → ℕ) (k j : ℕ) → f k < f j → rising f k j ≡ true
 rising-less f k j h = simp (lt-ltb (f k) (f j) h)
 
@@ -52,7 +52,7 @@ ltb-flip k j d = by (compared k j)
     by (same e) = absurd (d e)
     by (more g) = le-ltb k j (omega arith) ∙ sym (ap not (lt-ltb j k g))
 
--- it is a strict total order
+-- It is a strict total order.
 rising-strict : (f : ℕ → ℕ) → Strict (rising f)
 rising-strict f = record { itself = λ j. rising-tie f j j refl ∙ le-ltb j j (le-refl j); either = other; onward = further }
   where
@@ -73,7 +73,7 @@ rising-strict f = record { itself = λ j. rising-tie f j j refl ∙ le-ltb j j (
         by (inr a) (inl b) = rising-less f i j (omega arith)
         by (inr a) (inr b) = rising-tie f i j (a .0 ∙ b .0) ∙ lt-ltb i j (omega arith)
 
--- and so is the same order from its other end
+-- And so is the same order from its other end.
 pub before-strict : (high : Bool) (f : ℕ → ℕ) → Strict (before high f)
 before-strict false f = rising-strict f
 before-strict true f =
@@ -83,7 +83,7 @@ before-strict true f =
       onward = λ i k j h g. rising-strict f .onward j k i g h;
     }
 
--- a state whose payoff comes before another's comes before it
+-- A state whose payoff comes before another's comes before it.
 pub before-ahead : (high : Bool) (f : ℕ → ℕ) (k j : ℕ) → Ahead high (f k) (f j) → before high f k j ≡ true
 before-ahead false f k j h = rising-less f k j h
 before-ahead true f k j h = rising-less f j k h

@@ -14,29 +14,29 @@ use Rattle.setchain.specs.Laws.Certificate.{certified}
 use Rattle.setchain.specs.Laws.Fill.{Strict, Pivot, ahead, pivot, given, given-before, given-after, given-all, positive-count}
 use Rattle.setchain.specs.Laws.Order.{before-strict, before-ahead}
 
--- along any strict order the fill gives a row inside, filled before a pivot and bare after it
+-- Along any strict order the fill gives a row inside, filled before a pivot and bare after it.
 record Filled (n : ℕ) (r : IntervalRow) (order : ℕ → ℕ → Bool) : Type 0 where
   parts : Parts n r (fillRow n r order)
   pivotAt : ℕ
   full : (j : ℕ) → j < n → order j pivotAt ≡ true → fillRow n r order j ≡ r .upper j
   bare : (j : ℕ) → j < n → order pivotAt j ≡ true → fillRow n r order j ≡ r .lower j
 
--- numbers that come after each other neither way are equal
+-- Numbers that come after each other neither way are equal.
 not-after-both : (high : Bool) {a b : ℕ} → NotAfter high a b → NotAfter high b a → a ≡ b
 not-after-both false h k = le-antisymm h k
 not-after-both true h k = le-antisymm k h
 
--- a common factor taken away
+-- A common factor taken away.
 not-after-parts : (high : Bool) (a b : ℕ) → NotAfter high (a * ONE) (b * ONE) → NotAfter high a b
 not-after-parts false a b h = omega arith
 not-after-parts true a b h = omega arith
 
--- rounding down and up
+-- Rounding down and up.
 rounding : (high : Bool) (x : ℕ) → NotAfter high (rounded high x * ONE) x
 rounding false x = omega arith
 rounding true x = omega arith
 
--- a rounded number bounds what the number itself bounds
+-- A rounded number bounds what the number itself bounds.
 rounded-bounds : (high : Bool) (x y m : ℕ) → NotAfter high (x * m) (y * ONE) → NotAfter high (rounded high x * m) y
 rounded-bounds false x y m h = omega (arith, mul-le-mul-right m (rounding false x))
 rounded-bounds true x y m h = omega (arith, mul-le-mul-right m (rounding true x))
@@ -87,14 +87,14 @@ module _ (n : ℕ) (r : IntervalRow) (sound : SoundRow n r) where
           bare = λ j l h. w .bare j l (before-ahead high f (w .pivotAt) j h);
         }
 
-    -- the figure bounds the rows inside over every M
+    -- The figure bounds the rows inside over every M.
     pub step-extreme : (q : Row) → Inside n r q → NotAfter high (stepFigure high n r f * q .over) (dot n (q .entry) f)
     unfolding stepFigure
     step-extreme q inside =
         rounded-bounds high (dot n (extremeRow high n r f) f) (dot n (q .entry) f) (q .over)
         (certified high n r f (extremeRow high n r f) extreme-parts extreme-certificate q inside)
 
-    -- any row of whole parts that lies inside and has a certificate reaches its figure
+    -- Any row of whole parts that lies inside and has a certificate reaches its figure.
     pub certified-reaches : (p : ℕ → ℕ) → Parts n r p → Certificate high n r f p → Reaches high n r f p (rounded high (dot n p f))
     certified-reaches p inside cert =
         record {
@@ -103,12 +103,12 @@ module _ (n : ℕ) (r : IntervalRow) (sound : SoundRow n r) where
           rounded = refl;
         }
 
-    -- document 01's own words hold of the step
+    -- Document 01's own words hold of the step.
     pub step-figure : ExtremeFigure high n r f (stepFigure high n r f)
     unfolding stepFigure
     step-figure = record { parts = extremeRow high n r f; reached = certified-reaches (extremeRow high n r f) extreme-parts extreme-certificate }
 
-    -- and of no other number
+    -- And of no other number.
     pub figure-only : (v : ℕ) → ExtremeFigure high n r f v → v ≡ stepFigure high n r f
     unfolding stepFigure step-figure
     figure-only v w =
@@ -119,7 +119,7 @@ module _ (n : ℕ) (r : IntervalRow) (sound : SoundRow n r) where
     pub reached-figure : (p : ℕ → ℕ) (v : ℕ) → Reaches high n r f p v → v ≡ stepFigure high n r f
     reached-figure p v w = figure-only v (record { parts = p; reached = w })
 
-    -- a figure is at most the largest payoff
+    -- A figure is at most the largest payoff.
     parts-at-most : (p : ℕ → ℕ) (b : ℕ) → Parts n r p → ((j : ℕ) → j < n → f j ≤ b) → dot n p f ≤ b * ONE
     parts-at-most p b inside h =
         omega (
@@ -133,7 +133,7 @@ module _ (n : ℕ) (r : IntervalRow) (sound : SoundRow n r) where
     unfolding stepFigure
     step-at-most b h = rounded-at-most high (dot n (extremeRow high n r f) f) b (parts-at-most (extremeRow high n r f) b extreme-parts h)
 
--- figures grow by no more than the gains
+-- Figures grow by no more than the gains.
 module _ (high : Bool) (c : SetChain) (sound : SoundChain c) (payoff gain : ℕ → ℕ) (top rise : ℕ)
     (payoffs : (i : ℕ) → i < c .states → payoff i ≤ top)
     (gains : (i : ℕ) → i < c .states → gain i ≤ rise) where

@@ -11,7 +11,7 @@ use native.Mathlib.Numerals.{add-one}
 use native.Mathlib.Nat.{eq-or-lt-of-le, le-of-suc-le-suc, not-suc-le-zero, le-step, le-refl}
 use Rattle.setchain.specs.Sums.{sumTo, onlyIf}
 
--- the tests of onlyIf
+-- The tests of onlyIf.
 pub onlyIf-true : (b : Bool) (x : ℕ) → b ≡ true → onlyIf b x ≡ x
 unfolding onlyIf
 onlyIf-true b x e = rw e
@@ -35,7 +35,7 @@ unfolding onlyIf
 onlyIf-mono true x y h = h
 onlyIf-mono false x y h = le-refl 0
 
--- equality is tested the same from either side
+-- Equality is tested the same from either side.
 pub eqb-flip : (a b : ℕ) → eqb a b ≡ eqb b a
 eqb-flip a b = by (ℕ-discrete a b)
   where
@@ -43,11 +43,11 @@ eqb-flip a b = by (ℕ-discrete a b)
     by (yes e) = eq-eqb a b e ∙ sym (eq-eqb b a (sym e))
     by (no d) = ne-eqb a b d ∙ sym (ne-eqb b a (λ e. d (sym e)))
 
--- what holds below suc n, read below n and at n
+-- What holds below suc n, read below n and at n.
 pub below-pred : (P : ℕ → Type 0) (n : ℕ) → ((j : ℕ) → j < suc n → P j) → (j : ℕ) → j < n → P j
 below-pred P n h j l = h j (le-step l)
 
--- a fact at each of two indices
+-- A fact at each of two indices.
 pub below-two : (P : ℕ → Type 0) → P 0 → P 1 → (j : ℕ) → j < 2 → P j
 below-two P p q zero l = p
 below-two P p q (suc zero) l = q
@@ -78,14 +78,14 @@ unfolding sumTo
 sumTo-scale zero f c = omega arith
 sumTo-scale (suc n) f c = omega (arith, sumTo-scale n f c)
 
--- the exchange of two sums
+-- The exchange of two sums.
 pub sumTo-swap : (n m : ℕ) (f : ℕ → ℕ → ℕ) → sumTo n (λ i. sumTo m (λ j. f i j)) ≡ sumTo m (λ j. sumTo n (λ i. f i j))
 unfolding sumTo
 sumTo-swap zero m f = sym (sumTo-zero m)
 sumTo-swap (suc n) m f =
     omega (arith, sumTo-swap n m f, sumTo-add m (λ j. sumTo n (λ i. f i j)) (λ j. f n j))
 
--- a loop's running total: where it begins, and one turn more
+-- A loop's running total: where it begins, and one turn more.
 pub total-start : (f : ℕ → ℕ) → 0 ≡ sumTo 0 f
 unfolding sumTo
 total-start f = refl
@@ -97,14 +97,14 @@ total-more n x y f e g = rw add-one (omega arith)
 pub total-end : (k n x : ℕ) (f : ℕ → ℕ) → k ≡ n → x ≡ sumTo k f → x ≡ sumTo n f
 total-end k n x f e h = h ∙ ap (λ m. sumTo m f) e
 
--- one term is at most the sum
+-- One term is at most the sum.
 pub term-le : (n : ℕ) (f : ℕ → ℕ) (j : ℕ) → j < n → f j ≤ sumTo n f
 unfolding sumTo
 term-le zero f j h = absurd (not-suc-le-zero h)
 term-le (suc n) f j h =
     ⊎-elim (λ e. rw e (omega arith)) (λ l. omega (arith, term-le n f j l)) (eq-or-lt-of-le (le-of-suc-le-suc h))
 
--- terms that are 0 may be left out at the end
+-- Terms that are 0 may be left out at the end.
 pub sumTo-longer : (n m : ℕ) (f : ℕ → ℕ) → n ≤ m → ((j : ℕ) → n ≤ j → j < m → f j ≡ 0) → sumTo m f ≡ sumTo n f
 unfolding sumTo
 sumTo-longer n zero f l h = let e : 0 ≡ n = omega arith in ap (λ k. sumTo k f) e
@@ -113,7 +113,7 @@ sumTo-longer n (suc m) f l h =
     (λ g. omega (arith, sumTo-longer n m f (omega arith) (λ j a b. h j a (le-step b)), h m (omega arith) (le-refl (suc m))))
     (eq-or-lt-of-le l)
 
--- a sum in which one index alone counts
+-- A sum in which one index alone counts.
 pub sumTo-none : (n : ℕ) (f : ℕ → ℕ) (p : ℕ) → n ≤ p → sumTo n (λ j. onlyIf (eqb j p) (f j)) ≡ 0
 unfolding sumTo
 sumTo-none zero f p h = refl
@@ -131,7 +131,7 @@ sumTo-point (suc n) f p h =
     (arith, sumTo-point n f p l, onlyIf-false (eqb n p) (f n) (ne-eqb n p (λ e. omega arith))))
     (eq-or-lt-of-le (le-of-suc-le-suc h))
 
--- one term more, and a front's sum, which is at most the whole
+-- One term more, and a front's sum, which is at most the whole.
 pub sumTo-more : (f : ℕ → ℕ) (i : ℕ) → sumTo (i + 1) f ≡ sumTo i f + f i
 unfolding sumTo
 sumTo-more f i = rw add-one
@@ -142,7 +142,7 @@ sumTo-front f zero i h = let e : i ≡ 0 = omega arith in rw e (le-refl 0)
 sumTo-front f (suc n) i h =
     ⊎-elim (λ e. rw e (le-refl _)) (λ l. omega (arith, sumTo-front f n i (le-of-suc-le-suc l))) (eq-or-lt-of-le h)
 
--- two functions that differ at j alone
+-- Two functions that differ at j alone.
 pub sumTo-change : (n : ℕ) (f g : ℕ → ℕ) (j : ℕ) → j < n → ((k : ℕ) → k < n → (k ≡ j → ⊥) → g k ≡ f k) → sumTo n g + f j ≡ sumTo n f + g j
 unfolding sumTo
 sumTo-change zero f g j l h = absurd (not-suc-le-zero l)
@@ -154,7 +154,7 @@ sumTo-change (suc n) f g j l h =
     (λ jn. omega (arith, sumTo-change n f g j jn (λ k kn. h k (le-step kn)), h n (le-refl (suc n)) (λ z. omega arith)))
     (eq-or-lt-of-le (le-of-suc-le-suc l))
 
--- the smaller of c and a sum is at most the sum of what is smaller at each index
+-- The smaller of c and a sum is at most the sum of what is smaller at each index.
 pub min-sum-le : (n c : ℕ) (f : ℕ → ℕ) → min c (sumTo n f) ≤ sumTo n (λ j. min c (f j))
 unfolding sumTo
 min-sum-le zero c f = omega arith

@@ -16,21 +16,21 @@ use Rattle.setchain.specs.Laws.Sums.{sumTo-eq, sumTo-le, sumTo-add, sumT
 use Rattle.setchain.specs.Laws.Fractions.{Proper, proper-row, proper-sum, BoundOf, bound-trans, bound-same, bound-mul, bound-sum, sum-weighed}
 use Rattle.setchain.specs.Laws.Step.{extreme-parts, step-extreme}
 
--- the mean of v by the entries of a row
+-- The mean of v by the entries of a row.
 abbrev pub weigh : ℕ → Row → (ℕ → Fraction) → Fraction
 weigh n q v = sumFractions n (λ k. entryOf q k ⊗ v k)
 
--- what the payoff is worth at the end of the picked years, with each year's gain, seen from state i
+-- What the payoff is worth at the end of the picked years, with each year's gain, seen from state i.
 unfoldable pub value : ℕ → (payoff gain : ℕ → ℕ) → List Matrix → ℕ → Fraction
 value n payoff gain [] i = whole (payoff i)
 value n payoff gain (p ∷ ps) i = whole (gain i) ⊕ weigh n (p i) (value n payoff gain ps)
 
--- a whole number as a bound
+-- A whole number as a bound.
 over-one : (high : Bool) (b : ℕ) (x : Fraction) → NotAfter high (b * x .den) (x .num) → BoundOf high (whole b) x
 over-one false b x h = omega arith
 over-one true b x h = omega arith
 
--- what is bounded at each state is bounded when a row weighs it
+-- What is bounded at each state is bounded when a row weighs it.
 module _ (n : ℕ) (q : Row) (c : ℕ → ℕ) (v : ℕ → Fraction) (positive : 1 ≤ q .over) (proper : (k : ℕ) → k < n → Proper (v k)) where
   weighed : ℕ → Fraction
   weighed k = entryOf q k ⊗ whole (c k)
@@ -55,12 +55,12 @@ module _ (n : ℕ) (q : Row) (c : ℕ → ℕ) (v : ℕ → Fraction) (positive 
       (bound-same high mean-of (sumFractions n weighed) (sym (sum-weighed n (q .over) (q .entry) c)))
       (bound-sum high n weighed (λ k. entryOf q k ⊗ v k) (λ k l. bound-mul high (entryOf q k) (whole (c k)) (v k) (h k l))))
 
--- a gain put on both sides
+-- A gain put on both sides.
 gain-bound : (high : Bool) (g b : ℕ) (x : Fraction) → BoundOf high (whole b) x → BoundOf high (whole (g + b)) (whole g ⊕ x)
 gain-bound false g b x h = omega arith
 gain-bound true g b x h = omega arith
 
--- t more, or t less, at each state
+-- t more, or t less, at each state.
 dot-add : (n : ℕ) (p f : ℕ → ℕ) (t : ℕ) → dot n p (λ k. f k + t) ≡ dot n p f + sumTo n p * t
 dot-add n p f t =
     sumTo-eq n (λ k. p k * (f k + t)) (λ k. p k * f k + p k * t) (λ k l. omega arith)
@@ -75,7 +75,7 @@ dot-sub n p f t =
       sumTo-le n (λ k. p k * f k) (λ k. p k * (f k - t + t)) (λ k l. mul-le-mul-left (p k) (omega arith)),
     )
 
--- a bound moved inward by t: a low bound up, a high bound down
+-- A bound moved inward by t: a low bound up, a high bound down.
 abbrev pub inward : (high : Bool) → ℕ → ℕ → ℕ
 inward false t b = b + t
 inward true t b = b - t
@@ -84,12 +84,12 @@ inward-none : (high : Bool) (b : ℕ) (x : Fraction) → x ≡ whole b → Bound
 inward-none false b x e = rw e (omega arith)
 inward-none true b x e = rw e (omega arith)
 
--- a gain put on a bound that is moved inward
+-- A gain put on a bound that is moved inward.
 inward-gain : (high : Bool) (t g b : ℕ) (x : Fraction) → BoundOf (not high) (whole (g + inward high t b)) x → BoundOf (not high) (whole (inward high t (g + b))) x
 inward-gain false t g b x h = omega arith
 inward-gain true t g b x h = let less : g + b - t ≤ g + (b - t) = omega arith in omega (arith, mul-le-mul-right (x .den) less)
 
--- a year's rounding loses less than 1: payoffs moved inward by t, and their rounded figure by one more
+-- A year's rounding loses less than 1: payoffs moved inward by t, and their rounded figure by one more.
 inward-loss : (high : Bool) (n : ℕ) (p f : ℕ → ℕ) (t : ℕ) → sumTo n p ≡ ONE
     → NotAfter (not high) (inward high (suc t) (rounded high (dot n p f)) * ONE) (dot n p (λ k. inward high t (f k)))
 inward-loss false n p f t e = omega (arith, dot-add n p f t, ap (λ s. s * t) e)
@@ -111,11 +111,11 @@ module _ (c : SetChain) (sound : SoundChain c) (payoff gain : ℕ → ℕ) where
     abbrev figure : ℕ → ℕ → ℕ
     figure = yearsFigure high c payoff gain
 
-    -- one year's figure, after t years
+    -- One year's figure, after t years.
     abbrev next : ℕ → ℕ → ℕ
     next t i = stepFigure high n (c .row i) (figure t)
 
-    -- containment, by induction on the picks
+    -- Containment, by induction on the picks.
     pub value-bound : (ps : List Matrix) → InsideEach c ps → (i : ℕ) → i < n → BoundOf high (whole (figure (length ps) i)) (worth ps i)
     unfolding value yearsFigure
     value-bound [] none i l = bound-same high (whole (payoff i)) (whole (payoff i)) refl
@@ -126,7 +126,7 @@ module _ (c : SetChain) (sound : SoundChain c) (payoff gain : ℕ → ℕ) where
         (next (length ps) i)
         (step-extreme n (c .row i) (sound i l) high (figure (length ps)) (p i) (h i l)))
 
-    -- picks that stay near the figures: each year the row that is extreme for what is left
+    -- Picks that stay near the figures: each year the row that is extreme for what is left.
     abbrev extremeYear : ℕ → Matrix
     extremeYear t i = ofParts (extremeRow high n (c .row i) (figure t))
 
@@ -143,7 +143,7 @@ module _ (c : SetChain) (sound : SoundChain c) (payoff gain : ℕ → ℕ) where
           inside = also (λ i l. extreme-parts n (c .row i) (sound i l) high (figure t)) (extreme-picks-for t .inside);
         }
 
-    -- closeness, by induction on the years
+    -- Closeness, by induction on the years.
     pub value-near : (t i : ℕ) → i < n → BoundOf (not high) (whole (inward high t (figure t i))) (worth (extremePicks t) i)
     unfolding value yearsFigure extremePicks stepFigure
     value-near zero i l = inward-none high (payoff i) (whole (payoff i)) refl

@@ -17,14 +17,14 @@ use Rattle.record_spec.specs.Read.{frameCause, readCause}
 use Rattle.sheet_spec.specs.Sheet.{refusedLine, sheetText}
 use Rattle.sheet_spec.specs.Laws.Space.{text-refused}
 
--- the causes 1 and 2, of which the second applies
+-- The causes 1 and 2, of which the second applies.
 first-two : (a b : Bool) (rest after : ℕ) → b ≡ true → orElse (orElse (orElse (cond a 1 0) (cond b 2 0)) rest) after ≡ cond a 1 2
 first-two true true rest after e = refl
 first-two true false rest after e = refl
 first-two false true rest after e = refl
 first-two false false rest after e = absurd (true≢false (sym e))
 
--- bytes that are more than a length field can say are refused by their version, or by that field
+-- Bytes that are more than a length field can say are refused by their version, or by that field.
 module _ (bytes : List ℕ) (small : Bytes bytes) (long : 65536 ≤ length bytes) where
   differs : beAt 2 bytes 1 ≡ length bytes → ⊥
   differs e = omega (arith, beAt-fits 2 bytes 1 small)
@@ -43,7 +43,7 @@ module _ (bytes : List ℕ) (small : Bytes bytes) (long : 65536 ≤ length bytes
       some true e = omega arith
       some false e = omega arith
 
--- "All of the input is the record": its first bytes, 65,536 or more of them where it has so many, bring its sheet
+-- "All of the input is the record": its first bytes, 65,536 or more of them where it has so many, bring its sheet.
 pub cut-text : (most : ℕ) → 65536 ≤ most → (input : List ℕ) → Bytes input → sheetText (take most input) ≡ sheetText input
 cut-text most enough input small = by (decLe most (length input))
   where

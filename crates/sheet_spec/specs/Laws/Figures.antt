@@ -14,7 +14,7 @@ use Rattle.scheme.specs.Rows.{chainOf}
 use Rattle.scheme.specs.Laws.Sound.{accepted-sound}
 use Rattle.bounds_spec.specs.Answers.{startOf}
 
--- the start class's figures of an accepted scheme, low or high: shares at most ONE, means at most 10,000,000, totals of t years at most t times that
+-- The start class's figures of an accepted scheme, low or high: shares at most ONE, means at most 10,000,000, totals of t years at most t times that.
 module _ (high : Bool) (s : Scheme) (ok : Accepted s) where
   start-at-most : (payoff gain : ℕ → ℕ) (top rise : ℕ)
       → ((i : ℕ) → i < s .classes → payoff i ≤ top) → ((i : ℕ) → i < s .classes → gain i ≤ rise)

@@ -24,9 +24,9 @@ use Rattle.sheet_spec.specs.Answer.{spaceOf, spaceFor, sheetAnswer, shee
 use Rattle.sheet_spec.specs.Laws.Figures.{share-at-most, mean-at-most, total-at-most}
 use Rattle.sheet_spec.specs.Laws.Widths.{Within, within-append, within-joined, scheme-line-within, class-line-within, premium-line-within, total-line-within, refused-line-within}
 
--- the lines of a year, and the sheet of an accepted scheme
+-- The lines of a year, and the sheet of an accepted scheme.
 module _ (s : Scheme) (ok : Accepted s) where
-  -- "a line for each class in order …, and its PREMIUM line"
+  -- "a line for each class in order …, and its PREMIUM line".
   year-order : (t : ℕ) → yearLines s t ≡ classLines s t ++ yearPremium s t
   unfolding yearLines
   year-order t = refl
@@ -55,17 +55,16 @@ module _ (s : Scheme) (ok : Accepted s) where
       let lines : s .classes * 40 + 35 ≤ 1315 = omega (arith, ok .size .classes) in
       omega (arith, mul-le-mul years lines)
 
-  -- the space as the code makes it
+  -- The space as the code makes it.
   pub space-coded : 19 + (s .horizon + 1) * (s .classes * 40 + 35) + 28 ≡ spaceOf s
   unfolding spaceOf
   space-coded = omega arith
 
-
--- a part of an array of zeros
+-- A part of an array of zeros.
 pub zeros-part : (m n : ℕ) → n ≤ m → length {A = ℕ} (take n (replicate m 0)) ≡ n
 zeros-part m n h = length-take-le n (replicate m 0) (omega (arith, length-replicate {A = ℕ} m 0))
 
--- no refusal number of a record is above 10
+-- No refusal number of a record is above 10.
 cond-most : (b : Bool) (x y n : ℕ) → x ≤ n → y ≤ n → cond b x y ≤ n
 cond-most true x y n h k = h
 cond-most false x y n h k = k
@@ -98,11 +97,11 @@ frame-cause-most bytes =
 pub read-cause-most : (bytes : List ℕ) → readCause bytes ≤ 10
 read-cause-most bytes = or-most (frameCause bytes) (causeOf (schemeIn version1 bytes)) 10 (frame-cause-most bytes) (scheme-cause-most (schemeIn version1 bytes))
 
--- bytes without a cause hold an accepted scheme
+-- Bytes without a cause hold an accepted scheme.
 pub read-accepted : (bytes : List ℕ) → readCause bytes ≡ 0 → Accepted (schemeIn version1 bytes)
 read-accepted bytes e = accepted-cause _ (second-none (frameCause bytes) (causeOf (schemeIn version1 bytes)) e)
 
--- the text and the space of any bytes, by cases
+-- The text and the space of any bytes, by cases.
 module _ (bytes : List ℕ) where
   pub text-accepted : readCause bytes ≡ 0 → sheetText bytes ≡ sheetOf (schemeIn version1 bytes)
   unfolding sheetText
@@ -120,7 +119,7 @@ module _ (bytes : List ℕ) where
   unfolding spaceFor
   space-refused e = rw (ne-eqb (readCause bytes) 0 e)
 
--- the space of any bytes is enough for their text, and at most 132,862
+-- The space of any bytes is enough for their text, and at most 132,862.
 pub record EnoughSpace (bytes : List ℕ) : Type 0 where
   pub enough : length (sheetText bytes) ≤ spaceFor bytes
   pub most : spaceFor bytes ≤ 132862
@@ -140,7 +139,7 @@ enough-space bytes = by (ℕ-discrete (readCause bytes) 0)
           most = rw (space-refused bytes some) (omega arith);
         }
 
--- the answer keeps its promise
+-- The answer keeps its promise.
 pub text-kept : (bytes out : List ℕ) → TextPromise bytes (sheetLeaves bytes out) (sheetAnswer bytes out)
 unfolding sheetAnswer sheetLeaves
 text-kept bytes out = by (ltb (length out) (spaceFor bytes))

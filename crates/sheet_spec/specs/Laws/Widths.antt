@@ -13,15 +13,15 @@ use Rattle.record_spec.specs.Joined.{joined}
 use Rattle.sheet_spec.specs.Text.{digitsWithin, field, newline, schemeWord, yearWord, classWord, premiumWord, totalWord, refusedWord}
 use Rattle.sheet_spec.specs.Sheet.{schemeLine, classLine, premiumLine, totalLine, refusedLine}
 
--- a text of at most n bytes
+-- A text of at most n bytes.
 pub record Within (n : ℕ) (text : List ℕ) : Type 0 where
   pub fits : length text ≤ n
 
--- one text and then the next
+-- One text and then the next.
 pub within-append : {m n : ℕ} {a b : List ℕ} → Within m a → Within n b → Within (m + n) (a ++ b)
 within-append {m} {n} {a} {b} p q = record { fits = omega (arith, p .fits, q .fits, length-append a b) }
 
--- texts one after another
+-- Texts one after another.
 pub within-joined : (w n : ℕ) (f : ℕ → List ℕ) → ((i : ℕ) → i < n → Within w (f i)) → Within (n * w) (joined n f)
 unfolding joined
 within-joined w zero f h = record { fits = omega arith }
@@ -30,12 +30,12 @@ within-joined w (suc n) f h =
       fits = omega (arith, length-append (joined n f) (f n), within-joined w n f (λ i l. h i (omega arith)) .fits, h n (le-refl (suc n)) .fits);
     }
 
--- 10 to the power k
+-- 10 to the power k.
 unfoldable tenTo : ℕ → ℕ
 tenTo zero = 1
 tenTo (suc k) = 10 * tenTo k
 
--- a number below 10 to the power k + 1 has at most k + 1 digits
+-- A number below 10 to the power k + 1 has at most k + 1 digits.
 digits-small : (n x : ℕ) → x < 10 → length (digitsWithin (suc n) x) ≡ 1
 unfolding digitsWithin
 digits-small n x l = rw (lt-ltb x 10 l)
@@ -62,7 +62,7 @@ digits-within (suc n) k x h = by (decLt x 10) (λ j l. digits-within n j (x / 10
 field-within : (k x : ℕ) → x < tenTo (suc k) → Within (suc (suc k)) (field x)
 field-within k x h = record { fits = omega (arith, digits-within 20 k x h) }
 
--- fields by the largest number in them
+-- Fields by the largest number in them.
 pub field-2 : (x : ℕ) → x ≤ 9 → Within 2 (field x)
 unfolding tenTo
 field-2 x h = field-within 0 x (omega arith)
@@ -83,11 +83,11 @@ pub field-11 : (x : ℕ) → x ≤ 9999999999 → Within 11 (field x)
 unfolding tenTo
 field-11 x h = field-within 9 x (omega arith)
 
--- a word or a line's end: as many bytes as it has
+-- A word or a line's end: as many bytes as it has.
 exactly : (l : List ℕ) → Within (length l) l
 exactly l = record { fits = le-refl (length l) }
 
--- the lines
+-- The lines.
 pub scheme-line-within : (s : Scheme) → Accepted s → Within 19 (schemeLine s)
 unfolding schemeLine
 scheme-line-within s ok =
@@ -121,7 +121,7 @@ premium-line-within year low high y l h =
     (field-9 high (omega arith)))
     (exactly newline)
 
--- "every line, REFUSED too, ends in byte 0A"
+-- "every line, REFUSED too, ends in byte 0A".
 pub total-ends : (low high : ℕ) → totalLine low high ≡ totalWord ++ field low ++ field high ++ (10 ∷ [])
 unfolding totalLine
 total-ends low high = refl

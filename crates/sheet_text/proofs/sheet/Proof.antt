@@ -10,11 +10,11 @@ use borrow.Author.Needs.{needs}
 use Rattle.sheet_text.proofs.sheet.Statement.{statement}
 use Rattle.sheet_text.proofs.sheet.Tie as tie
 
--- the answer's number is the bytes' cause
+-- The answer's number is the bytes' cause.
 number : (c : tie.After-read) → c .read .result .number ≡ readCause (c .before .before .before .args .bytes .now)
 number c = ap (λ r. r .number) (c .read .ensures) ∙ read-number _
 
--- without a cause the answer's scheme is the bytes' scheme
+-- Without a cause the answer's scheme is the bytes' scheme.
 none : (c : tie.Else1) → let start = c .before .before .before .before in
     readCause (start .args .bytes .now) ≡ 0
 none c = sym (number (c .before)) ∙ c .if1 .left

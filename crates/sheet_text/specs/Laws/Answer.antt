@@ -14,7 +14,7 @@ use Rattle.record_spec.specs.Layout.{version1, schemeIn}
 use Rattle.record_spec.specs.Read.{readCause}
 use Rattle.record.specs.Laws.Lists.{sets-front}
 use Rattle.bounds_spec.specs.Answers.{sheetSlice}
-use Rattle.bounds_spec.specs.Table.{tableSize, tableCause}
+use Rattle.bounds_spec.specs.Table.{tableCause}
 use Rattle.record_spec.specs.declared.WriteAnswer.{WriteAnswer}
 use Rattle.record_spec.specs.declared.WriteAnswer.the-variants.{Written, Declined}
 use Rattle.sheet_spec.specs.Sheet.{sheetOf, refusedLine, sheetText}
@@ -22,8 +22,9 @@ use Rattle.sheet_text.specs.Put.{Space, Put}
 use Rattle.record_spec.specs.Write.{writeNumber, writtenLength}
 use Rattle.sheet_spec.specs.Answer.{spaceOf, spaceFor, TextAnswered, sheetAnswer, sheetLeaves, TextPromise}
 use Rattle.sheet_spec.specs.Laws.Space.{text-accepted, space-accepted, text-refused, space-refused, text-kept}
+use Rattle.bounds_spec.specs.Causes.{tableSize}
 
--- a slice that is too short, and one that is not
+-- A slice that is too short, and one that is not.
 pub answered-declined : {space : ℕ} {text out : List ℕ} → length out < space → TextAnswered space text out out (Declined 13)
 answered-declined {space} {text} {out} short = record { answer = rw (lt-ltb (length out) space short); leaves = rw (lt-ltb (length out) space short) }
 
@@ -38,16 +39,16 @@ answered-written {space} {text} {out} {after} {to} enough fits p =
 pub answered-space : {space : ℕ} {text out : List ℕ} → space ≤ length out → length text ≤ space → Space out 0 text
 answered-space enough fits = record { fits = omega arith }
 
--- any bytes
+-- Any bytes.
 module _ (bytes : List ℕ) where
-  -- what `sheet` ensures
+  -- What `sheet` ensures.
   abbrev Ensured : (out after : List ℕ) → WriteAnswer → Type 0
   Ensured out after r = (r ≡ sheetAnswer bytes out) × ((after ≡ sheetLeaves bytes out) × TextPromise bytes after r)
 
   keeps : (out : List ℕ) {after : List ℕ} {r : WriteAnswer} → r ≡ sheetAnswer bytes out → after ≡ sheetLeaves bytes out → Ensured out after r
   keeps out e f = (e, (f, rw (e, f) (text-kept bytes out)))
 
-  -- the answer for bytes with a cause, and without
+  -- The answer for bytes with a cause, and without.
   pub sheet-refused : {n : ℕ} {out after : List ℕ} {r : WriteAnswer} → n ≡ readCause bytes → (n ≡ 0 → ⊥) → TextAnswered 11 (refusedLine n) out after r
       → Ensured out after r
   unfolding sheetAnswer sheetLeaves
@@ -61,12 +62,12 @@ module _ (bytes : List ℕ) where
   sheet-accepted {out = out} none e answered =
       keeps out (rw (text-accepted bytes none, space-accepted bytes none, ← e) (answered .answer)) (rw (text-accepted bytes none, space-accepted bytes none, ← e) (answered .leaves))
 
-  -- the number and the value of the answer
+  -- The number and the value of the answer.
   pub answer-written : (out : List ℕ) → spaceFor bytes ≤ length out → (writeNumber (sheetAnswer bytes out) ≡ 0) × (writtenLength (sheetAnswer bytes out) ≡ length (sheetText bytes))
   unfolding sheetAnswer
   answer-written out enough = (rw (le-ltb (length out) (spaceFor bytes) enough), rw (le-ltb (length out) (spaceFor bytes) enough))
 
--- the tables of an accepted scheme are written into slices of their size
+-- The tables of an accepted scheme are written into slices of their size.
 pub table-clear : (s : Scheme) (low high : List ℕ) → Accepted s → length low ≡ tableSize s → length high ≡ tableSize s → tableCause s low high ≡ 0
 unfolding tableCause
 table-clear s low high ok el eh =

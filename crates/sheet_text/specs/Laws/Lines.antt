@@ -6,18 +6,18 @@ use native.Mathlib.Numerals.{add-one}
 use Rattle.sheet_spec.specs.Text.{field, newline, yearWord, classWord, premiumWord}
 use Rattle.sheet_text.specs.Put.{Space, Put}
 
--- the two figures that end a line
+-- The two figures that end a line.
 abbrev pub endsText : (low high : ℕ) → List ℕ
 endsText low high = field low ++ field high ++ newline
 
--- what stands before them
+-- What stands before them.
 abbrev pub classHead : (year j : ℕ) → List ℕ
 classHead year j = yearWord ++ field year ++ classWord ++ field (suc j)
 
 abbrev pub premiumHead : (year : ℕ) → List ℕ
 premiumHead year = yearWord ++ field year ++ premiumWord
 
--- a head, then the figures
+-- A head, then the figures.
 ends-apart : (x : List ℕ) (low high : ℕ) → x ++ field low ++ field high ++ newline ≡ x ++ endsText low high
 ends-apart x low high =
     ap (λ l. l ++ newline) (append-assoc x (field low) (field high)) ∙ append-assoc x (field low ++ field high) newline
@@ -29,7 +29,7 @@ pub ends-put : {l : List ℕ} {at : ℕ} {m : List ℕ} {to : ℕ} (x : List ℕ
     → Put l at (x ++ endsText low high) m to → Put l at (x ++ field low ++ field high ++ newline) m to
 ends-put x low high p = rw (ends-apart x low high) p
 
--- the class number: the code's j + 1
+-- The class number: the code's j + 1.
 pub class-field-space : {l : List ℕ} {at : ℕ} (j : ℕ) → Space l at (field (suc j)) → Space l at (field (j + 1))
 class-field-space j r = rw add-one r
 

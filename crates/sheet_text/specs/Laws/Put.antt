@@ -10,27 +10,27 @@ use borrow.Author.Tests.{lt-ltb, le-ltb}
 use lib.ListN.{length, getD, take, set, length-append}
 use lib.Seq.{sets, length-sets, length-take-le, take-length, take-suc}
 use Rattle.record_spec.specs.Joined.{joined}
-use Rattle.record.specs.Laws.Lists.{sets-append, sets-more}
+use Rattle.big_endian_spec.specs.Laws.{sets-append, sets-more}
 use Rattle.sheet_spec.specs.Text.{digitsWithin, twoDigits}
 use Rattle.sheet_text.specs.Put.{Space, Put}
 
--- the slice keeps its length
+-- The slice keeps its length.
 pub put-kept : {l : List ℕ} {at : ℕ} {a m : List ℕ} {k : ℕ} → Put l at a m k → length m ≡ length l
 put-kept {l} {at} {a} p = rw (p .holds) (length-sets l at a)
 
--- no text
+-- No text.
 pub put-none : (l : List ℕ) (at : ℕ) → Put l at [] l at
 put-none l at = record { holds = refl; place = omega arith }
 
--- one byte
+-- One byte.
 pub put-one : (l : List ℕ) (at x : ℕ) → Put l at (x ∷ []) (set l at x) (at + 1)
 put-one l at x = record { holds = refl; place = omega arith }
 
--- two digits, the tens' first
+-- Two digits, the tens' first.
 pub two-put : {l : List ℕ} {at a b : ℕ} (x : ℕ) → a ≡ 48 + x / 10 → b ≡ 48 + x % 10 → Put l at (twoDigits x) (set (set l at a) (at + 1) b) (at + 2)
 two-put {l} {at} x e f = rw (e, f) (record { holds = simp add-one; place = omega arith })
 
--- one text and then the next
+-- One text and then the next.
 pub put-then : {l : List ℕ} {at : ℕ} {a m : List ℕ} {k : ℕ} {b n : List ℕ} {to : ℕ} → Put l at a m k → Put m k b n to → Put l at (a ++ b) n to
 put-then {l} {at} {a} {m} {k} {b} {n} {to} p q =
     record {
@@ -38,14 +38,14 @@ put-then {l} {at} {a} {m} {k} {b} {n} {to} p q =
       place = omega (arith, p .place, q .place, length-append a b);
     }
 
--- space for the first of two texts, and after it for the second
+-- Space for the first of two texts, and after it for the second.
 pub space-first : {l : List ℕ} {at : ℕ} {a : List ℕ} (b : List ℕ) → Space l at (a ++ b) → Space l at a
 space-first {l} {at} {a} b r = record { fits = omega (arith, r .fits, length-append a b) }
 
 pub space-next : {l : List ℕ} {at : ℕ} {a m : List ℕ} {k : ℕ} {b : List ℕ} → Put l at a m k → Space l at (a ++ b) → Space m k b
 space-next {l} {at} {a} {m} {k} {b} p r = record { fits = omega (arith, r .fits, p .place, put-kept p, length-append a b) }
 
--- a word byte by byte: k bytes stand, one more, all
+-- A word byte by byte: k bytes stand, one more, all.
 pub word-more : (word l : List ℕ) (at k : ℕ) → k < length word → set (sets l at (take k word)) (at + k) (getD word k 0) ≡ sets l at (take (k + 1) word)
 word-more word l at k h =
     let size : at + k ≡ at + length (take k word) = omega (arith, length-take-le k word (omega arith)) in
@@ -56,7 +56,7 @@ word-all {l} {at} {word} {m} {k} e end =
     let all : take k word ≡ word = ap (λ n. take n word) end ∙ take-length word in
     record { holds = rw all at e; place = omega (arith, end) }
 
--- the digits of a number, by cases
+-- The digits of a number, by cases.
 digits-one : (most x : ℕ) → 0 < most → x < 10 → digitsWithin most x ≡ (48 + x) ∷ []
 unfolding digitsWithin
 digits-one (suc most) x h l = simp (lt-ltb x 10 l)
@@ -65,7 +65,7 @@ digits-more : (most x : ℕ) → 0 < most → 10 ≤ x → digitsWithin most x �
 unfolding digitsWithin
 digits-more (suc most) x h l = let e : suc most - 1 ≡ most = omega arith in rw e (simp (le-ltb x 10 l))
 
--- two digits, and two after the others
+-- Two digits, and two after the others.
 digits-two : (pairs x : ℕ) → 0 < pairs → 10 ≤ x → x < 100 → digitsWithin (pairs * 2) x ≡ twoDigits x
 digits-two pairs x h k l =
     let one : digitsWithin (pairs * 2 - 1) (x / 10) ≡ (48 + x / 10) ∷ [] = digits-one (pairs * 2 - 1) (x / 10) (omega arith) (omega arith) in
@@ -80,7 +80,7 @@ digits-pair pairs x h k =
     ∙ append-assoc (digitsWithin (pairs * 2 - 1 - 1) (x / 10 / 10)) ((48 + x / 10 % 10) ∷ []) ((48 + x % 10) ∷ [])
     ∙ ap₂ _++_ rest two
 
--- no digit, one digit, two digits, and two after the others
+-- No digit, one digit, two digits, and two after the others.
 module _ {l : List ℕ} {at : ℕ} (pairs x : ℕ) where
   pub digits-put-none : pairs ≡ 0 → Put l at (digitsWithin (pairs * 2) x) l at
   unfolding digitsWithin
@@ -110,7 +110,7 @@ module _ {l : List ℕ} {at : ℕ} (pairs x : ℕ) where
       → Put m to (twoDigits (x % 100)) n end → Put l at (digitsWithin (pairs * 2) x) n end
   digits-put-more h k p q = rw (digits-pair pairs x h k) (put-then p q)
 
--- lists one after another: none, one more, and space for it
+-- Lists one after another: none, one more, and space for it.
 pub joined-none : (f : ℕ → List ℕ) (l : List ℕ) (at : ℕ) → Put l at (joined 0 f) l at
 unfolding joined
 joined-none f l at = put-none l at

@@ -12,11 +12,11 @@ use Rattle.sheet_text.specs.Put.{Space, Put}
 use Rattle.sheet_text.specs.Tabled.{classText, yearText}
 use Rattle.sheet_text.specs.Laws.Put.{put-then, space-first, space-next}
 
--- the figures of a year before n stand below n × (s + 1)
+-- The figures of a year before n stand below n × (s + 1).
 pub year-below : (s n t : ℕ) → t < n → t * suc s + s < n * suc s
 year-below s n t h = omega (arith, mul-le-mul-right (suc s) h)
 
--- the premium line, by the code's place
+-- The premium line, by the code's place.
 abbrev premiumText : (low high : List ℕ) (s year : ℕ) → List ℕ
 premiumText low high s year = premiumLine year (getD low (year * (s + 1) + s) 0) (getD high (year * (s + 1) + s) 0)
 
@@ -24,7 +24,7 @@ parts : (low high : List ℕ) (s year : ℕ) → yearText low high s year ≡ jo
 unfolding yearText
 parts low high s year = rw add-one
 
--- space for both, and both in order
+-- Space for both, and both in order.
 module _ {l : List ℕ} {at : ℕ} (low high : List ℕ) (s year : ℕ) where
   pub year-space-classes : Space l at (yearText low high s year) → Space l at (joined s (classText low high year (year * (s + 1))))
   year-space-classes r = space-first (premiumText low high s year) (rw (parts low high s year) at r)

@@ -21,12 +21,12 @@ use Rattle.step.specs.Figure.{WeighPre}
 use Rattle.step.specs.Step.{StepPre, StepPost}
 use Rattle.order.specs.States.{at}
 
--- of two payoffs one alone comes before the other
+-- Of two payoffs one alone comes before the other.
 ahead-only : (high : Bool) (a b : ℕ) → Ahead high a b → NotAfter high b a → ⊥
 ahead-only false a b h k = omega arith
 ahead-only true a b h k = omega arith
 
--- what the fill asks
+-- What the fill asks.
 pub step-fills : {lower upper payoff order : List ℕ} {high : Bool} {row : List ℕ} → StepPre lower upper payoff order high row → FillPre lower upper order row
 step-fills s =
     record {
@@ -38,7 +38,7 @@ step-fills s =
 
 module _ {lower upper payoff order : List ℕ} {high : Bool} {row₀ row : List ℕ} {stop : ℕ}
     (s : StepPre lower upper payoff order high row₀) (w : FillPost lower upper order row stop) where
-  -- what the figure asks
+  -- What the figure asks.
   pub step-weighs : WeighPre row payoff
   step-weighs =
       record {
@@ -54,7 +54,7 @@ module _ {lower upper payoff order : List ℕ} {high : Bool} {row₀ row : List 
       by (yes e) = rw e (not-after-refl high (payoffAt payoff order l))
       by (no ne) = s .sorted .sorted k l (omega arith) (omega (arith, s .payoffs))
 
-  -- a class that comes before the one at which the fill stopped is full
+  -- A class that comes before the one at which the fill stopped is full.
   before-full : (j : ℕ) → j < length lower → (NotAfter high (payoffAt payoff order stop) (at payoff j) → ⊥) → at row j ≡ at upper j
   before-full j l h =
       let p : Occurs order (length payoff) j = s .sorted .onto j (omega (arith, s .payoffs)) in
@@ -65,7 +65,7 @@ module _ {lower upper payoff order : List ℕ} {high : Bool} {row₀ row : List 
       by p e (yes z) = rw e at (w .full (p .place) z)
       by p e (no z) = absurd (h (rw (p .held) at (by-place stop (p .place) (omega arith) (omega (arith, s .payoffs, p .early)))))
 
-  -- a class that comes after it is bare
+  -- A class that comes after it is bare.
   after-bare : (j : ℕ) → j < length lower → (NotAfter high (at payoff j) (payoffAt payoff order stop) → ⊥) → at row j ≡ at lower j
   after-bare j l h =
       ⊎-elim
@@ -73,7 +73,7 @@ module _ {lower upper payoff order : List ℕ} {high : Bool} {row₀ row : List 
       (λ p. absurd (h (rw (p .held) at (by-place (p .place) stop (omega (arith, p .early)) (w .stops)))))
       (w .rest j l)
 
-  -- so a filled row has a certificate
+  -- So a filled row has a certificate.
   certificate : Certificate high (length lower) (listsRow lower upper) (at payoff) (at row)
   certificate =
       record {
@@ -82,15 +82,15 @@ module _ {lower upper payoff order : List ℕ} {high : Bool} {row₀ row : List 
         bare = λ j l h. after-bare j l (ahead-only high (payoffAt payoff order stop) (at payoff j) h);
       }
 
-  -- it reaches its figure
+  -- It reaches its figure.
   filled-reaches : Reaches high (length lower) (listsRow lower upper) (at payoff) (at row) (rounded high (dot (length lower) (at row) (at payoff)))
   filled-reaches = certified-reaches (length lower) (listsRow lower upper) (s .sound) high (at payoff) (at row) (w .parts) certificate
 
-  -- which is the step's
+  -- Which is the step's.
   pub step-reached : rounded high (dot (length lower) (at row) (at payoff)) ≡ stepFigure high (length lower) (listsRow lower upper) (at payoff)
   step-reached = reached-figure (length lower) (listsRow lower upper) (s .sound) high (at payoff) (at row) _ filled-reaches
 
-  -- what the step leaves
+  -- What the step leaves.
   pub stepped : {r : ℕ} → r ≡ rounded high (dot (length row) (at row) (at payoff)) → StepPost lower upper payoff high row r
   stepped {r} e =
       let figure : r ≡ rounded high (dot (length lower) (at row) (at payoff)) = rw (w .size) at e in

@@ -19,7 +19,7 @@ use Rattle.order.specs.States.{at}
 use Rattle.step.specs.Fill.{FillPre, FillPost, FillSlackPre}
 use Rattle.step.specs.Laws.Sums.{sumTo-set}
 
--- the fill at place k: classes passed are full, the others bare, and the row with what is left sums to ONE
+-- The fill at place k: classes passed are full, the others bare, and the row with what is left sums to ONE.
 pub record Filling (lower upper order row : List ℕ) (slack k : ℕ) : Type 0 where
   pub inside : k < length lower
   pub size : length row ≡ length lower
@@ -32,7 +32,7 @@ pub record Filling (lower upper order row : List ℕ) (slack k : ℕ) : Type 0 w
 later : {order : List ℕ} {k j : ℕ} → Occurs order k j → Occurs order (k + 1) j
 later s = record { place = s .place; early = omega (arith, s .early); held = s .held }
 
--- what the fill asks of its row and its slack, once the row holds the lowers
+-- What the fill asks of its row and its slack, once the row holds the lowers.
 pub fill-takes-slack : {lower upper order row copied : List ℕ} {parts : ℕ} → FillPre lower upper order row → copied ≡ lower
     → sumTo (length lower) (at lower) + parts ≡ ONE → FillSlackPre copied upper order parts
 fill-takes-slack h same whole = rw same (record { uppers = h .uppers; permutation = h .permutation; sound = h .sound; whole = whole })
@@ -50,9 +50,9 @@ module _ {lower upper order : List ℕ} {parts : ℕ} (able : FillSlackPre lower
         rest = λ j l. inl refl;
       }
 
-  -- the class at place k, of state j, gets `given` parts
+  -- The class at place k, of state j, gets `given` parts.
   module _ {row : List ℕ} {slack k : ℕ} (w : Filling lower upper order row slack k) {j : ℕ} (here : j ≡ at order k - 1) where
-    -- it is a state, whose entry lies between its ends
+    -- It is a state, whose entry lies between its ends.
     state-inside : j < length lower
     state-inside = omega (arith, able .permutation .within k (w .inside))
 
@@ -103,7 +103,7 @@ module _ {lower upper order : List ℕ} {parts : ℕ} (able : FillSlackPre lower
           by (yes e) = inr (record { place = k; early = omega arith; held = rw e held })
           by (no ne) = ⊎-elim (λ b. inl (apart i ne ∙ b)) (λ s. inr (later s)) (w .rest i l)
 
-    -- the last of the slack
+    -- The last of the slack.
     pub filling-last : slack ≤ at upper j - at row j → FillPost lower upper order (set row j (at row j + slack)) k
     unfolding row′
     filling-last h =
@@ -121,7 +121,7 @@ module _ {lower upper order : List ℕ} {parts : ℕ} (able : FillSlackPre lower
           rest = added-rest slack h;
         }
 
-    -- a class that is filled, with parts left over
+    -- A class that is filled, with parts left over.
     module _ (more : at upper j - at row j < slack) where
       capacity : ℕ
       capacity = at upper j - at row j

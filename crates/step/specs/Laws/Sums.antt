@@ -13,13 +13,13 @@ use Rattle.setchain.specs.Laws.Sums.{sumTo-le, sumTo-scale, sumTo-more, sumTo-f
 use Rattle.order.specs.States.{at}
 use Rattle.step.specs.Figure.{LARGEST, WeighPre}
 
--- a store changes the sum by what it changes at its place
+-- A store changes the sum by what it changes at its place.
 pub sumTo-set : (n : ℕ) (l : List ℕ) (j v : ℕ) → j < n → length l ≡ n → sumTo n (at (set l j v)) + at l j ≡ sumTo n (at l) + v
 sumTo-set n l j v h e =
     sumTo-change n (at l) (at (set l j v)) j h (λ k kn ne. getD-set-other l j k v 0 ne)
     ∙ ap (λ x. sumTo n (at l) + x) (getD-set-same l j v 0 (omega arith))
 
--- the sum of part times payoff over a front fits
+-- The sum of part times payoff over a front fits.
 weighed-front : (row payoff : List ℕ) (i : ℕ) → WeighPre row payoff → i ≤ length row
     → sumTo i (λ j. at row j * at payoff j) ≤ LARGEST * ONE
 weighed-front row payoff i w h =
@@ -31,7 +31,7 @@ weighed-front row payoff i w h =
       ap (λ s. s * LARGEST) (w .sums),
     )
 
--- one more term of it
+-- One more term of it.
 pub weighed-more : (row payoff : List ℕ) (i sum : ℕ) → WeighPre row payoff → i < length row → sum ≡ dot i (at row) (at payoff)
     → (sum + at row i * at payoff i ≡ dot (i + 1) (at row) (at payoff)) × (sum + at row i * at payoff i ≤ LARGEST * ONE)
 weighed-more row payoff i sum w h e =

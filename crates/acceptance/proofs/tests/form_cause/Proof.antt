@@ -9,7 +9,7 @@ use borrow.Author.Needs.{needs}
 use Rattle.acceptance.proofs.tests.form_cause.Statement.{statement}
 use Rattle.acceptance.proofs.tests.form_cause.Tie as tie
 
--- the sizes passed their test
+-- The sizes passed their test.
 sizes : (c : tie.Else1) → sizesOut (c .before .before .args .classes) (c .before .before .args .columns) ≡ false
 sizes c =
     let start = c .before .before .args in

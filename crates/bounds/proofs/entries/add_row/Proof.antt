@@ -18,7 +18,7 @@ Inv-loop lower upper i entries₀ j₀ entries j = Adding (length upper) (listsR
 abbrev μ-loop : tie.MeasureT-loop
 μ-loop lower upper i entries₀ j₀ entries j = length upper - j
 
--- the list of state j has a free place, and the entry fits
+-- The list of state j has a free place, and the entry fits.
 here : (c : tie.Then1 Inv-loop μ-loop)
     → let at-loop = c .before .before .before in
     let start = at-loop .before in

@@ -31,7 +31,7 @@ slice-aggregate-sum-by-target-2 c =
 sum-by-target-requires-2 : tie.Need-sum-by-target-requires-2
 sum-by-target-requires-2 c κs = search needs
 
--- the front that was lent is as long as it was
+-- The front that was lent is as long as it was.
 lower-size : (c : tie.After-sum-by-target) → let start = c .before .before .before .before .before in
     length (c .sum-by-target .last .1 .1 .0) ≡ start .args .n
 lower-size c =

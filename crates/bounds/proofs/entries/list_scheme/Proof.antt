@@ -9,7 +9,7 @@ use borrow.Author.Needs.{needs}
 use Rattle.bounds.proofs.entries.list_scheme.Statement.{statement}
 use Rattle.bounds.proofs.entries.list_scheme.Tie as tie
 
--- owning the scheme tells how long the arrays in its fifth, sixth and seventh field are
+-- Owning the scheme tells how long the arrays in its fifth, sixth and seventh field are.
 rules-stored : (c : tie.Start) → length (c .args .scheme .rules) ≡ 256
 rules-stored c = sym (length-map (c .args .scheme .rules) (λ v. v)) ∙ c .good .0 .1 .1 .1 .1 .1 .1 .0 .1 .0 .1
 

@@ -21,7 +21,7 @@ returns c =
           absurd (true≢false (sym (c .if1 .taken) ∙ at-class-out .class-out .ensures ∙ inside-outside 32 (start .args .class) positive inside));
     }
 
--- the class is one of 1 to 32
+-- The class is one of 1 to 32.
 inside : (c : tie.Else1) → let start = c .before .before in (1 ≤ start .args .class) × (start .args .class ≤ 32)
 inside c =
     let at-class-out = c .before in

@@ -12,7 +12,7 @@ use borrow.Author.Needs.{needs}
 use Rattle.bounds.proofs.series.series.Statement.{statement}
 use Rattle.bounds.proofs.series.series.Tie as tie
 
--- the gains are an array of 32
+-- The gains are an array of 32.
 stored : (c : tie.Start) → 32 ≤ length (c .args .t4)
 stored c = search needs
 
@@ -33,7 +33,7 @@ identity-order-requires c κs = tt
 state-requires : tie.Need-state-requires
 state-requires c κs = tt
 
--- the start class's state
+-- The start class's state.
 begins : (c : tie.After-state)
     → let start = c .before .before .before .before .before .before in
     (c .state .result ≡ start .args .scheme .start - 1) × (c .state .result < 32)

@@ -5,7 +5,7 @@ use mathlib.Core.Path.{_≡_, sym, _∙_}
 use mathlib.Core.List.{List, _++_}
 use native.Mathlib.Omega.{arith}
 use lib.ListN.{length, take, drop}
-use Rattle.bounds_spec.specs.Table.{tableSize}
+use Rattle.bounds_spec.specs.Causes.{tableSize}
 use Rattle.bounds.proofs.FrontLaws.{zeros}
 use Rattle.bounds.proofs.ListSchemeLaws.{lists-empty}
 use Rattle.bounds.proofs.TableLaws.{ColumnStored, column-stored, mean-ready, total-ready, last-fits, last-length, table-made}
@@ -57,7 +57,7 @@ series-requires c κs =
     let start = at-list-scheme .before .before .before .before in
     (mean-ready (start .args .scheme) (start .pre .accepted) (at-widened .widened .ensures), at-list-scheme .list-scheme .ensures)
 
--- the slice with the shares alone, and with the mean's column too
+-- The slice with the shares alone, and with the mean's column too.
 abbrev shares : tie.After-series → List ℕ
 shares c =
     let at-share-columns = c .before .before .before .before .before .before .before .before .before .before in

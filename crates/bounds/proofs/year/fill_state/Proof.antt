@@ -18,7 +18,7 @@ Inv-loop entries first end payoff left₀ sums₀ e₀ left sums e = EntriesTake
 abbrev μ-loop : tie.MeasureT-loop
 μ-loop entries first end payoff left₀ sums₀ e₀ left sums e = end - e
 
--- the entry's place, and its row's
+-- The entry's place, and its row's.
 here : (c : tie.After-i Inv-loop μ-loop)
     → let at-loop = c .before .before in
     let start = at-loop .before .before .before in
@@ -32,7 +32,7 @@ here c =
     let w = at-loop .loop .inv in
     omega (arith, able .inside, able .size, w .filled .lefts, w .filled .size, row-inside able w (omega arith) refl refl)
 
--- what its row is given
+-- What its row is given.
 given : (c : tie.After-smaller Inv-loop μ-loop)
     → let at-loop = c .before .before .before .before .before in
     let start = at-loop .before .before .before in
@@ -41,7 +41,7 @@ given : (c : tie.After-smaller Inv-loop μ-loop)
     c .smaller .result ≡ min (at (a .entries .now) (capacities + l .e)) (at (l .left) (at (a .entries .now) (l .e)))
 given c = c .smaller .ensures
 
--- and that the row's sum fits
+-- And that the row's sum fits.
 fits : (c : tie.After-sums Inv-loop μ-loop)
     → let at-loop = c .before .before .before .before .before .before in
     let start = at-loop .before .before .before in
@@ -53,7 +53,7 @@ fits c =
     let start = at-loop .before .before .before in
     entry-fits (start .pre) (at-loop .loop .inv) (omega arith) refl (given (c .before))
 
--- as the entry does
+-- As the entry does.
 small : (c : tie.After-sums Inv-loop μ-loop)
     → let at-loop = c .before .before .before .before .before .before in
     let start = at-loop .before .before .before in

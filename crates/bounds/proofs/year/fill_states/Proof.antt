@@ -17,7 +17,7 @@ Inv-loop entries payoff order left₀ sums₀ k₀ left sums k = StatesFilled en
 abbrev μ-loop : tie.MeasureT-loop
 μ-loop entries payoff order left₀ sums₀ k₀ left sums k = length payoff - k
 
--- the class at place k has a state
+-- The class at place k has a state.
 named : (c : tie.After-state Inv-loop μ-loop) → let at-loop = c .before .before .before in
     let start = at-loop .before .before .before .before .before in
     c .state .result ≡ at (start .args .order .now) (at-loop .loop .k) - 1
@@ -27,7 +27,7 @@ named c =
     let able = start .pre in
     c .state .ensures ∙ state-of _ (able .permutation .within (at-loop .loop .k) (omega (arith, able .permutation .size)) .0)
 
--- and how long its list is
+-- And how long its list is.
 here : (c : tie.After-state Inv-loop μ-loop)
     → let start = c .before .before .before .before .before .before .before .before in
     let a = start .args in

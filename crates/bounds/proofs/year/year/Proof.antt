@@ -10,7 +10,7 @@ use borrow.Author.Needs.{needs}
 use Rattle.bounds.proofs.year.year.Statement.{statement}
 use Rattle.bounds.proofs.year.year.Tie as tie
 
--- the figures before have a place for each class
+-- The figures before have a place for each class.
 fits : (c : tie.Start) → length (c .args .gain .now) ≤ length (c .args .t6)
 fits c = search needs
 

@@ -25,7 +25,7 @@ years-at t = and 6 years-kinds.ps (is 6 years-kinds.ps μ-years t) years.Pre
 abbrev years-below : ℕ → In 6 years-kinds.ps
 years-below t = and 6 years-kinds.ps (falls 6 years-kinds.ps _<_ μ-years t) years.Pre
 
--- what each call asks and tells
+-- What each call asks and tells.
 abbrev claims : ℕ → years-lts.Claims
 claims t = (years-below t, years.Post, advance-reads.Asked, advance-reads.Learnt, store-figure-reads.Asked, store-figure-reads.Learnt)
 
@@ -54,8 +54,8 @@ years-advance-requires-2 t c κs =
     let start = then .before .before .before .before in
     years-step (start .pre .1) _ (omega arith) (at-years .years .ensures)
 
--- where the ways meet the figures are those of t years: by the high step, by the low step, or the payoff
--- (a way by a step: 4 the call of `years`, 9 the test of the flag, 12 the step, 15 to 17 what order, figures and slice then are)
+-- Where the ways meet the figures are those of t years: by the high step, by the low step, or the payoff
+-- (a way by a step: 4 the call of `years`, 9 the test of the flag, 12 the step, 15 to 17 what order, figures and slice then are).
 met : (t : ℕ) → (c : years-lts.Joined1 (claims t) (years-at t) years.Post)
     → let a = c .before .before .before .before .args in
     YearsPost (a .entries .now) (a .gain .now) (a .figures .now) (a .high) (a .t) (a .state) (a .stride) (a .t)

@@ -32,7 +32,7 @@ sizes c =
     (second-none (start .args .answer .number) (buffersCause 32 (start .args .lower .now) (start .args .upper .now))
     (sym (cause (c .before)) ∙ c .if1 .left))
 
--- the entries of an answer are 32
+-- The entries of an answer are 32.
 lower-size : (c : tie.Start) → length (c .args .answer .lower) ≡ 32
 lower-size c = sym (length-map (c .args .answer .lower) (λ v. v)) ∙ c .good .0 .1 .1 .1 .0 .1 .0 .1
 

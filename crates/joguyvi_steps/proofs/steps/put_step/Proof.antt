@@ -33,7 +33,7 @@ sizes c =
     (second-none (start .args .answer .number) (stepBuffers (start .args .payoff .now) (start .args .figure .now) (start .args .row .now))
     (sym (cause (c .before)) ∙ c .if1 .left))
 
--- the row of an answer has 32 parts
+-- The row of an answer has 32 parts.
 row-size : (c : tie.Start) → length (c .args .answer .row) ≡ 32
 row-size c = sym (length-map (c .args .answer .row) (λ v. v)) ∙ c .good .0 .1 .1 .1 .1 .0 .1 .0 .1
 

@@ -14,7 +14,7 @@ returns c = simp (lt-ltb _ _ (c .if1 .taken))
 number-at-requires : tie.Need-number-at-requires
 number-at-requires c κs = search needs
 
--- the header holds the field
+-- The header holds the field.
 field : (c : tie.After-number-at) → c .number-at .result ≡ beAt 2 (c .before .before .before .args .bytes .now) 1
 field c = c .number-at .ensures ∙ read-held 2 (c .before .before .before .args .bytes .now) 1 (omega arith) (omega arith)
 

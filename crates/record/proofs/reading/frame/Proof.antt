@@ -10,7 +10,7 @@ use borrow.Author.Needs.{needs}
 use Rattle.record.proofs.reading.frame.Statement.{statement}
 use Rattle.record.proofs.reading.frame.Tie as tie
 
--- the bytes that were given
+-- The bytes that were given.
 abbrev given : tie.After-or-else → List ℕ
 given c = c .before .before .before .before .args .bytes .now
 

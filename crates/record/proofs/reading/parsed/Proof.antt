@@ -16,7 +16,7 @@ use borrow.Author.Needs.{needs}
 use Rattle.record.proofs.reading.parsed.Statement.{statement}
 use Rattle.record.proofs.reading.parsed.Tie as tie
 
--- s × m is within the rules' places
+-- s × m is within the rules' places.
 places : (c : tie.After-shared-slice-known4)
     → let start = c .before .before .before .before in
     classesIn (start .args .bytes .now) * columnsIn (start .args .bytes .now) ≤ 32 * 8
@@ -24,13 +24,13 @@ places c =
     let start = c .before .before .before .before in
     let framed = start .pre in mul-le-mul (framed .classes) (framed .columns)
 
--- an upper end stands 4 bytes past the lower end
+-- An upper end stands 4 bytes past the lower end.
 upper-places : (bytes : List ℕ) (p n : ℕ)
     → tab 8 (upTo n (λ k. beAt 4 bytes (p + 4 + k * 8))) ≡ tab 8 (upTo n (λ k. beAt 4 bytes (p + k * 8 + 4)))
 upper-places bytes p n =
     tab-eq 0 8 _ _ (λ k lt. upTo-eq n _ _ k (λ less. let e : p + 4 + k * 8 ≡ p + k * 8 + 4 = omega arith in ap (beAt 4 bytes) e))
 
--- the scheme of the parts that were read
+-- The scheme of the parts that were read.
 made : (bytes : List ℕ) {rules lowers uppers premiums : List ℕ}
     → rules ≡ tab 256 (rulesUpTo (classesIn bytes) (columnsIn bytes) (λ i k. getD bytes (HEADER + i * columnsIn bytes + k) 0))
     → lowers ≡ tab 8 (upTo (columnsIn bytes) (λ k. beAt 4 bytes (HEADER + classesIn bytes * columnsIn bytes + k * 8)))

@@ -24,11 +24,11 @@ abbrev μ-loop : tie.MeasureT-loop
 loop-holds : tie.Need-loop-holds Inv-loop μ-loop
 loop-holds c = (omega arith, omega arith, c .before .before .pre .3 ∙ stored-none _ _)
 
--- the slice keeps its length
+-- The slice keeps its length.
 size : (c : tie.At-loop Inv-loop μ-loop) → length (c .loop .out) ≡ length (c .before .before .before .args .out .now)
 size c = rw (c .loop .inv .2) (length-tab _ _)
 
--- the bytes hold the next number
+-- The bytes hold the next number.
 room : (c : tie.In-loop Inv-loop μ-loop)
     → c .before .loop .at + c .before .before .before .before .args .stride ≤ length (c .before .before .before .before .args .bytes .now)
 room c =

@@ -21,7 +21,7 @@ Inv-loop bytes from s m rules₀ i₀ at₀ to₀ rules i at to =
 abbrev μ-loop : tie.MeasureT-loop
 μ-loop bytes from s m rules₀ i₀ at₀ to₀ rules i at to = s - i
 
--- the next row is within the bytes
+-- The next row is within the bytes.
 room : (c : tie.In-loop Inv-loop μ-loop)
     → c .before .before .before .args .from + c .before .loop .i * c .before .before .before .args .m + c .before .before .before .args .m
     ≤ length (c .before .before .before .args .bytes .now)

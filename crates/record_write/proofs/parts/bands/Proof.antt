@@ -18,7 +18,7 @@ Inv-loop out₀ from lowers uppers m k₀ to₀ out k to =
 abbrev μ-loop : tie.MeasureT-loop
 μ-loop out₀ from lowers uppers m k₀ to₀ out k to = m - k
 
--- the slice keeps its length
+-- The slice keeps its length.
 size : (c : tie.At-loop Inv-loop μ-loop) → length (c .loop .out) ≡ length (c .before .before .args .out .now)
 size c = rw (c .loop .inv .2) (simp length-sets)
 

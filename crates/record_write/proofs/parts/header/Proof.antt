@@ -10,7 +10,7 @@ use borrow.Author.Needs.{needs}
 use Rattle.record_write.proofs.parts.header.Statement.{statement}
 use Rattle.record_write.proofs.parts.header.Tie as tie
 
--- the length field is put
+-- The length field is put.
 laid : (c : tie.After-put-number)
     → c .put-number .last .0 ≡ sets (set (c .before .before .before .args .out .now) 0 1) 1 (beBytes 2 (c .before .before .before .args .size))
 laid c = c .put-number .ensures ∙ put-held 2 _ _ _ (simp length-set (omega arith))

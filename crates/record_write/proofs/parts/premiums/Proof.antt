@@ -19,7 +19,7 @@ Inv-loop out₀ from premiums s j₀ to₀ out j to =
 abbrev μ-loop : tie.MeasureT-loop
 μ-loop out₀ from premiums s j₀ to₀ out j to = s - j
 
--- the slice keeps its length
+-- The slice keeps its length.
 size : (c : tie.At-loop Inv-loop μ-loop) → length (c .loop .out) ≡ length (c .before .before .args .out .now)
 size c = rw (c .loop .inv .2) (simp length-sets)
 

@@ -21,11 +21,11 @@ Inv-loop out₀ from rules s m i₀ at₀ to₀ out i at to =
 abbrev μ-loop : tie.MeasureT-loop
 μ-loop out₀ from rules s m i₀ at₀ to₀ out i at to = s - i
 
--- the slice keeps its length
+-- The slice keeps its length.
 size : (c : tie.At-loop Inv-loop μ-loop) → length (c .loop .out) ≡ length (c .before .before .args .out .now)
 size c = rw (c .loop .inv .3) (simp length-sets)
 
--- the next row is within the slice
+-- The next row is within the slice.
 room : (c : tie.In-loop Inv-loop μ-loop)
     → c .before .before .before .args .from + c .before .loop .i * c .before .before .before .args .m + c .before .before .before .args .m
     ≤ length (c .before .before .before .args .out .now)

@@ -9,7 +9,7 @@ use borrow.Author.Needs.{needs}
 use Rattle.record_write.proofs.parts.whole.Statement.{statement}
 use Rattle.record_write.proofs.parts.whole.Tie as tie
 
--- where the parts stand, by the record's length
+-- Where the parts stand, by the record's length.
 pub record Places (s m size : ℕ) : Type 0 where
   pub classes : s ≤ 32
   pub columns : m ≤ 8
@@ -28,7 +28,7 @@ cast-s c = search needs
 cast-m : tie.Need-cast-m
 cast-m c = search needs
 
--- the places passed, each from a later one
+-- The places passed, each from a later one.
 abbrev sized : tie.After-header → tie.After-struct-known2
 sized c = c .before .before
 

@@ -11,7 +11,7 @@ use Rattle.sheet_text.proofs.tables.put_sheet.Tie as tie
 table-size-requires : tie.Need-table-size-requires
 table-size-requires c κs = search needs
 
--- the arrays have space for the tables
+-- The arrays have space for the tables.
 fits : (c : tie.After-table-size) → c .table-size .result ≤ 3334
 fits c =
     let start = c .before .before in

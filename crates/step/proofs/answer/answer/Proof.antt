@@ -30,7 +30,7 @@ returns c =
     step-declined (a .scheme) (a .t2) (a .class) _ (c .refused .ensures)
     (cause-scheme (a .scheme) (a .t2) (a .class) (at-row .row .ensures) (at-scheme-cause .scheme-cause .ensures) (c .before .if1 .taken)) (c .before .if1 .taken)
 
--- a scheme without a cause of its own has 32 classes at most
+-- A scheme without a cause of its own has 32 classes at most.
 few : (c : tie.Else1) → let start = c .before .before .before in
     start .args .scheme .classes ≤ 32
 few c =
@@ -38,7 +38,7 @@ few c =
     let a = at-row .before .args in
     classes-fit (a .scheme) (a .t2) (a .class) (at-row .row .ensures) (c .before .scheme-cause .ensures) (c .if1 .left)
 
--- each with a payoff
+-- Each with a payoff.
 enough : (c : tie.Else1) → let start = c .before .before .before in
     start .args .scheme .classes ≤ length (start .args .t2)
 enough c = omega (arith, few c)
@@ -49,7 +49,7 @@ payoff-cause-requires c κs = few (c .before)
 or-else-requires : tie.Need-or-else-requires
 or-else-requires c κs = search needs
 
--- the first cause of all
+-- The first cause of all.
 cause : (c : tie.After-or-else) → let start = c .before .before .before .before .before .before in
     c .or-else .result ≡ stepCause (start .args .scheme) (start .args .t2) (start .args .class)
 cause c =
@@ -100,7 +100,7 @@ sort-classes-requires c κs =
     let count = length-take-le (start .args .scheme .classes) (start .args .t2) (enough at-else1) in
     (front-lent _ (few at-else1) ∙ sym count, omega (arith, count, few at-else1))
 
--- without a cause the row has entries for each class
+-- Without a cause the row has entries for each class.
 entries : (c : tie.Else2) → let at-row = c .before .before .before .before .before .before in
     let classes = at-row .before .args .scheme .classes in
     (classes ≤ length (at-row .row .result .lower)) × (classes ≤ length (at-row .row .result .upper))
@@ -129,7 +129,7 @@ slice-aggregate-step-2 c =
     let at-else2 = c .before .before .before .before .before .before .before .before .before in
     sym (length-take-le _ _ (entries at-else2 .1))
 
--- the sorted order has each class
+-- The sorted order has each class.
 order-size : (c : tie.After-sort-classes) → let start = c .before .before .before .before .before .before .before .before .before .before .before .before .before in
     length (c .sort-classes .last .1 .1 .0) ≡ start .args .scheme .classes
 order-size c =

@@ -19,7 +19,7 @@ Inv-loop row payoff sum₀ j₀ sum j = (j ≤ length row) × (sum ≡ dot j (at
 abbrev μ-loop : tie.MeasureT-loop
 μ-loop row payoff sum₀ j₀ sum j = length row - j
 
--- one more term keeps the sum, and fits
+-- One more term keeps the sum, and fits.
 one-more : (c : tie.In-loop Inv-loop μ-loop)
     → let at-loop = c .before in
     let a = at-loop .before .args in

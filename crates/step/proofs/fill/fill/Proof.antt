@@ -14,7 +14,7 @@ copy-row-requires c κs = search needs
 slack-requires : tie.Need-slack-requires
 slack-requires c κs = search needs
 
--- the row has the lowers' length, so that it now holds them
+-- The row has the lowers' length, so that it now holds them.
 copied : (c : tie.After-copy-row) → let start = c .before .before .before .before .before .before in
     c .copy-row .last .1 .0 ≡ start .args .lower .now
 copied c =

@@ -17,7 +17,7 @@ Inv-loop upper order row₀ parts slack₀ k₀ row slack k = Filling row₀ upp
 abbrev μ-loop : tie.MeasureT-loop
 μ-loop upper order row₀ parts slack₀ k₀ row slack k = length row₀ - k
 
--- the class at place k has a state
+-- The class at place k has a state.
 named : (c : tie.After-state Inv-loop μ-loop) → let at-loop = c .before .before in
     let start = at-loop .before .before .before .before in
     c .state .result ≡ at (start .args .order .now) (at-loop .loop .k) - 1
@@ -26,7 +26,7 @@ named c =
     let start = at-loop .before .before .before .before in
     c .state .ensures ∙ state-of _ (start .pre .permutation .within (at-loop .loop .k) (at-loop .loop .inv .inside) .0)
 
--- whose entry lies between its ends
+-- Whose entry lies between its ends.
 here : (c : tie.After-state Inv-loop μ-loop)
     → let at-loop = c .before .before in
     let start = at-loop .before .before .before .before in
