@@ -1,4 +1,4 @@
--- Read in this order, after crates `order` and `one_year`: lists as rows and payoffs, the fill along an order, the figure, the whole step, the step from a scheme's parts.
+-- Read in this order, after crates `order` and `step_spec`: lists as rows and payoffs, the fill along an order, the figure, the whole step, parts of the answer.
 pub mod Lists
 pub mod Fill
 pub mod Figure
