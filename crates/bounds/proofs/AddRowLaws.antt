@@ -133,8 +133,8 @@ pub record Adding (n : ℕ) (r : IntervalRow) (i : ℕ) (entries entries′ : Li
   pub rows : (e : ℕ) → e < 1024 → at entries′ e < n
   pub short : (k : ℕ) → k < j → at entries′ (counts + k) ≤ i + 1
   pub shortLater : (k : ℕ) → j ≤ k → k < n → at entries′ (counts + k) ≤ i
-  pub lowers : Sums n (r .lower) i lowerEnds entries entries′ j
-  pub rises : Sums n (capacity r) i capacities entries entries′ j
+  pub lowerSums : Sums n (r .lower) i lowerEnds entries entries′ j
+  pub capacitySums : Sums n (capacity r) i capacities entries entries′ j
 
 module _ {n : ℕ} {r : IntervalRow} {i : ℕ} {entries : List ℕ} (able : AddRowPre n r i entries) where
   pub adding-none : Adding n r i entries entries 0
@@ -145,8 +145,8 @@ module _ {n : ℕ} {r : IntervalRow} {i : ℕ} {entries : List ℕ} (able : AddR
         rows = able .lists .rows;
         short = below-none _;
         shortLater = λ k h l. able .lists .short k l;
-        lowers = sums-none;
-        rises = sums-none;
+        lowerSums = sums-none;
+        capacitySums = sums-none;
       }
 
   module _ {entries′ : List ℕ} {j : ℕ} (w : Adding n r i entries entries′ j) (here : j < n) where
@@ -163,8 +163,8 @@ module _ {n : ℕ} {r : IntervalRow} {i : ℕ} {entries : List ℕ} (able : AddR
           rows = w .rows;
           short = below-more _ j (w .short) (omega (arith, w .shortLater j (omega arith) here));
           shortLater = λ k h l. w .shortLater k (omega arith) l;
-          lowers = sums-skip here (omega (arith, able .sound .ordered j here)) (w .lowers);
-          rises = sums-skip here (omega arith) (w .rises);
+          lowerSums = sums-skip here (omega (arith, able .sound .ordered j here)) (w .lowerSums);
+          capacitySums = sums-skip here (omega arith) (w .capacitySums);
         }
 
     -- An entry of this row, with its ends.
@@ -240,8 +240,8 @@ module _ {n : ℕ} {r : IntervalRow} {i : ℕ} {entries : List ℕ} (able : AddR
               (λ k l. omega (arith, uncounted k (inl l), w .short k l))
               (omega (arith, counted, adding-here));
           shortLater = λ k h l. omega (arith, uncounted k (inr (omega arith)), w .shortLater k (omega arith) l);
-          lowers = sums-more (r .lower) lowerEnds lower-stored (w .lowers);
-          rises = sums-more (capacity r) capacities capacity-stored (w .rises);
+          lowerSums = sums-more (r .lower) lowerEnds lower-stored (w .lowerSums);
+          capacitySums = sums-more (capacity r) capacities capacity-stored (w .capacitySums);
         }
 
 -- The same of lists that are equal.
@@ -253,6 +253,6 @@ pub adding-all : {n : ℕ} {r : IntervalRow} {i : ℕ} {entries entries′ : Lis
 adding-all h w =
     record {
       lists = record { size = w .size; rows = w .rows; short = λ j l. w .short j (omega arith) };
-      lowers = λ j k l. w .lowers .passed j (omega arith) k;
-      rises = λ j k l. w .rises .passed j (omega arith) k;
+      lowerSums = λ j k l. w .lowerSums .passed j (omega arith) k;
+      capacitySums = λ j k l. w .capacitySums .passed j (omega arith) k;
     }

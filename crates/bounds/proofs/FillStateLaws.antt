@@ -56,7 +56,7 @@ module _ {entries : List ℕ} {first end payoff : ℕ} {left sums : List ℕ} (a
         inside = able .ordered;
         filled =
             record {
-              lefts = refl;
+              leftSize = refl;
               size = able .size;
               rest = λ i l. omega (arith, sum-none entries capacities first i);
               more = λ i l. more i;
@@ -116,7 +116,7 @@ module _ {entries : List ℕ} {first end payoff : ℕ} {left sums : List ℕ} (a
           inside = omega arith;
           filled =
               record {
-                lefts = length-set left′ i (at left′ i - given) ∙ w .filled .lefts;
+                leftSize = length-set left′ i (at left′ i - given) ∙ w .filled .leftSize;
                 size = length-set sums′ i (at sums′ i + (at entries (lowerEnds + e) + given) * payoff) ∙ w .filled .size;
                 rest = λ k l. rest k l (ℕ-discrete k i);
                 more = λ k l. more k l (ℕ-discrete k i);
@@ -126,7 +126,7 @@ module _ {entries : List ℕ} {first end payoff : ℕ} {left sums : List ℕ} (a
         rest : (k : ℕ) → k < length left → Dec (k ≡ i) → at (set left′ i (at left′ i - given)) k ≡ at left k - sumOf entries capacities first (e + 1 - first) k
         rest k l (yes g) =
             rw g
-            (getD-set-same left′ i (at left′ i - given) 0 (omega (arith, row-inside, w .filled .lefts))
+            (getD-set-same left′ i (at left′ i - given) 0 (omega (arith, row-inside, w .filled .leftSize))
             ∙ omega (arith, own capacities, is, w .filled .rest i row-inside))
         rest k l (no ne) = getD-set-other left′ i k (at left′ i - given) 0 ne ∙ omega (arith, others capacities k ne, w .filled .rest k l)
 

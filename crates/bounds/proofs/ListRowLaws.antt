@@ -59,8 +59,8 @@ module _ (rules lowers uppers : List ℕ) {n i : ℕ} {entries : List ℕ} (lowe
       subst (λ k. AddRowPost k (listsRow (front n lower) (front n upper)) i entries entries′) upper-size a in
       record {
         lists = b .lists;
-        lowers = λ j k l. b .lowers j k l ∙ ap (λ x. listSum entries lowerEnds j k + onlyIf (eqb i k) x) (agree .lower j l);
-        rises = λ j k l. b .rises j k l ∙ ap₂ (λ x y. listSum entries capacities j k + onlyIf (eqb i k) (x - y)) (agree .upper j l) (agree .lower j l);
+        lowerSums = λ j k l. b .lowerSums j k l ∙ ap (λ x. listSum entries lowerEnds j k + onlyIf (eqb i k) x) (agree .lower j l);
+        capacitySums = λ j k l. b .capacitySums j k l ∙ ap₂ (λ x y. listSum entries capacities j k + onlyIf (eqb i k) (x - y)) (agree .upper j l) (agree .lower j l);
       }
 
   pub row-slack : {r : ℕ} → r ≡ slackOf (front n lower) → sumTo n (rulesRow rules lowers uppers .lower) + r ≡ ONE

@@ -40,10 +40,10 @@ sums-more {n} {v} {ends} {entries} {entries′} {i} added w =
 -- The lists at row i: the rows below it are listed, and of the others there is no entry.
 pub record Listing (c : SetChain) (entries slack : List ℕ) (i : ℕ) : Type 0 where
   pub lists : ShortLists (c .states) i entries
-  pub slacks : length slack ≡ 32
+  pub slackSize : length slack ≡ 32
   pub inside : i ≤ c .states
-  pub lowers : RowSums (c .states) (λ k. c .row k .lower) lowerEnds entries i
-  pub rises : RowSums (c .states) (λ k. capacity (c .row k)) capacities entries i
+  pub lowerSums : RowSums (c .states) (λ k. c .row k .lower) lowerEnds entries i
+  pub capacitySums : RowSums (c .states) (λ k. capacity (c .row k)) capacities entries i
   pub whole : (k : ℕ) → k < i → sumTo (c .states) (c .row k .lower) + at slack k ≡ ONE
 
 module _ {n : ℕ} {rules lowers uppers entries₀ slack₀ : List ℕ} (able : ListRowsPre n rules lowers uppers entries₀ slack₀) where
@@ -64,10 +64,10 @@ module _ {n : ℕ} {rules lowers uppers entries₀ slack₀ : List ℕ} (able : 
               rows = λ e l. omega (arith, able .empty .rows e l, able .positive);
               short = λ j l. omega (arith, able .empty .none j (omega (arith, able .states)));
             };
-        slacks = able .empty .slacks;
+        slackSize = able .empty .slackSize;
         inside = omega arith;
-        lowers = record { listed = below-none _; later = λ k h j l. none lowerEnds k j l };
-        rises = record { listed = below-none _; later = λ k h j l. none capacities k j l };
+        lowerSums = record { listed = below-none _; later = λ k h j l. none lowerEnds k j l };
+        capacitySums = record { listed = below-none _; later = λ k h j l. none capacities k j l };
         whole = below-none _;
       }
 
@@ -93,14 +93,14 @@ module _ {n : ℕ} {rules lowers uppers entries₀ slack₀ : List ℕ} (able : 
       listing-more =
           record {
             lists = added .lists;
-            slacks = length-set slack i r ∙ w .slacks;
+            slackSize = length-set slack i r ∙ w .slackSize;
             inside = omega arith;
-            lowers = sums-more (added .lowers) (w .lowers);
-            rises = sums-more (added .rises) (w .rises);
+            lowerSums = sums-more (added .lowerSums) (w .lowerSums);
+            capacitySums = sums-more (added .capacitySums) (w .capacitySums);
             whole =
                 below-more (λ k. sumTo n (chain .row k .lower) + at (set slack i r) k ≡ ONE) i
                 (λ k h. omega (arith, getD-set-other slack i k r 0 (λ e. omega arith), w .whole k h))
-                (omega (arith, getD-set-same slack i r 0 (omega (arith, w .slacks, able .states)), left));
+                (omega (arith, getD-set-same slack i r 0 (omega (arith, w .slackSize, able .states)), left));
           }
 
     -- When all rows are listed.
@@ -108,8 +108,8 @@ module _ {n : ℕ} {rules lowers uppers entries₀ slack₀ : List ℕ} (able : 
       agree : (k : ℕ) → k < n → Agree n (listedRow entries k) (chain .row k)
       agree k l =
           record {
-            lower = w .lowers .listed k (omega arith);
-            upper = λ j g. omega (arith, w .lowers .listed k (omega arith) j g, w .rises .listed k (omega arith) j g, able .sound k l .ordered j g);
+            lower = w .lowerSums .listed k (omega arith);
+            upper = λ j g. omega (arith, w .lowerSums .listed k (omega arith) j g, w .capacitySums .listed k (omega arith) j g, able .sound k l .ordered j g);
           }
 
       pub listing-all : ListRowsPost chain entries slack
@@ -119,7 +119,7 @@ module _ {n : ℕ} {rules lowers uppers entries₀ slack₀ : List ℕ} (able : 
                 record {
                   states = able .states;
                   lists = record { size = w .lists .size; rows = w .lists .rows; short = λ j l. omega (arith, w .lists .short j l, w .inside, able .states) };
-                  slacks = omega (arith, w .slacks, able .states);
+                  slackSize = omega (arith, w .slackSize, able .states);
                   sound = λ k l. sound-agrees (agree-sym (agree k l)) (able .sound k l);
                   whole = λ k l. omega (arith, sumTo-eq n (listedRow entries k .lower) (chain .row k .lower) (agree k l .lower), w .whole k (omega arith));
                 };

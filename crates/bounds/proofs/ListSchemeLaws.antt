@@ -21,7 +21,7 @@ pub lists-empty : EmptyLists (replicate 3104 0) (replicate 32 0)
 lists-empty =
     record {
       size = length-replicate {A = ℕ} 3104 0;
-      slacks = length-replicate {A = ℕ} 32 0;
+      slackSize = length-replicate {A = ℕ} 32 0;
       rows = λ e l. getD-replicate 3104 e 0 0 (omega arith);
       none = λ j l. getD-replicate 3104 (counts + j) 0 0 (omega arith);
     }

@@ -27,11 +27,11 @@ use Rattle.bounds.proofs.FillStatesLaws.{sum-fits, filled-figure}
 use Rattle.bounds.proofs.FrontLaws.{zeros}
 
 -- What a figure is made of: the gain, and the sum rounded.
-abbrev pub roundedSum : (gain : List ℕ) → (high : Bool) → ℕ → ℕ → ℕ
-roundedSum gain high k sum = at gain k + rounded high sum
+abbrev pub figureOf : (gain : List ℕ) → (high : Bool) → ℕ → ℕ → ℕ
+figureOf gain high k sum = at gain k + rounded high sum
 
 module _ {gain : List ℕ} (high : Bool) {sums figures : List ℕ} {i : ℕ} (able : RoundSumsPre gain sums)
-    (w : Rewritten (length gain) (roundedSum gain high) sums figures i) where
+    (w : Rewritten (length gain) (figureOf gain high) sums figures i) where
   pub figure-fits : {r : ℕ} → i < length gain → r ≡ rounded high (at figures i) → Fits w64 (at gain i + r)
   figure-fits more is =
       let sum : at figures i ≤ LARGEST * ONE = omega (arith, w .rest i (omega arith), able .fits i more) in
@@ -43,7 +43,7 @@ module _ {gain : List ℕ} (high : Bool) {sums figures : List ℕ} {i : ℕ} (ab
 -- The states at the places below k are filled.
 pub record StatesFilled (entries payoff order left left′ sums : List ℕ) (k : ℕ) : Type 0 where
   pub inside : k ≤ length payoff
-  pub lefts : length left′ ≡ length payoff
+  pub leftSize : length left′ ≡ length payoff
   pub size : length sums ≡ length payoff
   pub rest : (i : ℕ) → i < length payoff → at left′ i ≡ leftAt (listedRow entries i) order (at left i) k
   pub sum : (i : ℕ) → i < length payoff → at sums i ≡ sumAt (listedRow entries i) (at payoff) order (at left i) k
@@ -51,7 +51,7 @@ pub record StatesFilled (entries payoff order left left′ sums : List ℕ) (k :
 module _ {entries payoff order left sums₀ : List ℕ} (able : FillStatesPre entries payoff order left sums₀) where
   pub states-none : StatesFilled entries payoff order left left sums₀ 0
   unfolding leftAt sumAt
-  states-none = record { inside = omega arith; lefts = able .lefts; size = able .size; rest = λ i l. refl; sum = able .none }
+  states-none = record { inside = omega arith; leftSize = able .leftSize; size = able .size; rest = λ i l. refl; sum = able .none }
 
   fits : (i : ℕ) → i < length payoff → (k : ℕ) → k ≤ length payoff → sumAt (listedRow entries i) (at payoff) order (at left i) k ≤ LARGEST * ONE
   fits i l = sum-fits (length payoff) (listedRow entries i) (at payoff) order (at left i) (able .permutation) (able .lists .whole i l) (able .small)
@@ -100,12 +100,12 @@ module _ {entries payoff order left sums₀ : List ℕ} (able : FillStatesPre en
     pub state-fills : FillStatePre entries (j * 32) (j * 32 + at entries (counts + j)) (at payoff j) left′ sums
     state-fills =
         record {
-          size = w .size ∙ sym (w .lefts);
-          rows = λ e l. omega (arith, able .lists .lists .rows e l, w .lefts);
+          size = w .size ∙ sym (w .leftSize);
+          rows = λ e l. omega (arith, able .lists .lists .rows e l, w .leftSize);
           ordered = omega arith;
           inside = omega (arith, state-inside, list-short, able .lists .states);
           small = entry-small;
-          fits = λ i l. omega (arith, one-more i (omega (arith, w .lefts)), fits i (omega (arith, w .lefts)) (suc k) more);
+          fits = λ i l. omega (arith, one-more i (omega (arith, w .leftSize)), fits i (omega (arith, w .leftSize)) (suc k) more);
         }
 
     pub states-more : {left″ sums″ : List ℕ} → FillStatePost entries (j * 32) (j * 32 + at entries (counts + j)) (at payoff j) left′ sums left″ sums″
@@ -113,10 +113,10 @@ module _ {entries payoff order left sums₀ : List ℕ} (able : FillStatesPre en
     states-more {left″} {sums″} g =
         record {
           inside = omega arith;
-          lefts = g .lefts ∙ w .lefts;
-          size = g .size ∙ w .lefts;
-          rest = λ i l. rw add-one (g .rest i (omega (arith, w .lefts)) ∙ sym (left-more i l));
-          sum = λ i l. rw add-one (g .more i (omega (arith, w .lefts)) ∙ sym (one-more i l));
+          leftSize = g .leftSize ∙ w .leftSize;
+          size = g .size ∙ w .leftSize;
+          rest = λ i l. rw add-one (g .rest i (omega (arith, w .leftSize)) ∙ sym (left-more i l));
+          sum = λ i l. rw add-one (g .more i (omega (arith, w .leftSize)) ∙ sym (one-more i l));
         }
 
   pub states-all : {left′ sums : List ℕ} {k : ℕ} → length payoff ≤ k → StatesFilled entries payoff order left left′ sums k
@@ -137,7 +137,7 @@ module _ {entries slack gain order before : List ℕ} (w : YearPre entries slack
   front-count = length-take-le (length gain) before fits
 
   pub slack-count : length (take (length gain) slack) ≡ length gain
-  slack-count = length-take-le (length gain) slack (w .lists .slacks)
+  slack-count = length-take-le (length gain) slack (w .lists .slackSize)
 
   zero-count : length (take (length gain) zeros) ≡ length gain
   zero-count = length-take-le (length gain) zeros (w .lists .states)
@@ -167,13 +167,13 @@ module _ {entries slack gain order before : List ℕ} (w : YearPre entries slack
               (record {
                 states = w .lists .states;
                 lists = w .lists .lists;
-                slacks = omega (arith, slack-count);
+                slackSize = omega (arith, slack-count);
                 sound = w .lists .sound;
                 whole = λ i l. omega (arith, w .lists .whole i l, slack-at i l);
               });
           permutation = sorted-permutation by-payoff;
           small = λ j l. small j (omega (arith, front-count));
-          lefts = slack-count ∙ sym front-count;
+          leftSize = slack-count ∙ sym front-count;
           size = zero-count ∙ sym front-count;
           none = λ i l.
               getD-take (length gain) zeros i 0 (omega (arith, front-count)) ∙ getD-replicate 32 i 0 0 (omega (arith, front-count, w .lists .states));

@@ -64,14 +64,14 @@ pub record ShortLists (n most : ℕ) (entries : List ℕ) : Type 0 where
 pub record SoundLists (n : ℕ) (entries slack : List ℕ) : Type 0 where
   pub states : n ≤ 32
   pub lists : ShortLists n 32 entries
-  pub slacks : n ≤ length slack
+  pub slackSize : n ≤ length slack
   pub sound : SoundChain (chainListed n entries)
   pub whole : (i : ℕ) → i < n → sumTo n (listedRow entries i .lower) + at slack i ≡ ONE
 
 -- Lists with no entry.
 pub record EmptyLists (entries slack : List ℕ) : Type 0 where
   pub size : length entries ≡ 3104
-  pub slacks : length slack ≡ 32
+  pub slackSize : length slack ≡ 32
   pub rows : (e : ℕ) → e < 1024 → at entries e ≡ 0
   pub none : (j : ℕ) → j < 32 → at entries (counts + j) ≡ 0
 
@@ -85,8 +85,8 @@ pub record AddRowPre (n : ℕ) (r : IntervalRow) (i : ℕ) (entries : List ℕ) 
 -- The lists before and after: each row has what it had, and state i's row its entries more.
 pub record AddRowPost (n : ℕ) (r : IntervalRow) (i : ℕ) (entries entries′ : List ℕ) : Type 0 where
   pub lists : ShortLists n (i + 1) entries′
-  pub lowers : (j k : ℕ) → j < n → listSum entries′ lowerEnds j k ≡ listSum entries lowerEnds j k + onlyIf (eqb i k) (r .lower j)
-  pub rises : (j k : ℕ) → j < n → listSum entries′ capacities j k ≡ listSum entries capacities j k + onlyIf (eqb i k) (capacity r j)
+  pub lowerSums : (j k : ℕ) → j < n → listSum entries′ lowerEnds j k ≡ listSum entries lowerEnds j k + onlyIf (eqb i k) (r .lower j)
+  pub capacitySums : (j k : ℕ) → j < n → listSum entries′ capacities j k ≡ listSum entries capacities j k + onlyIf (eqb i k) (capacity r j)
 
 -- What it takes to list all rows: a sound chain of n states, its rules eight to a state, and lists with no entry.
 pub record ListRowsPre (n : ℕ) (rules lowers uppers entries slack : List ℕ) : Type 0 where

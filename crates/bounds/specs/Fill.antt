@@ -41,7 +41,7 @@ pub record FillStatePre (entries : List ℕ) (first end payoff : ℕ) (left sums
 
 -- What it leaves: each row's slack less what it took of it, and its sum with the parts that it took.
 pub record FillStatePost (entries : List ℕ) (first end payoff : ℕ) (left sums left′ sums′ : List ℕ) : Type 0 where
-  pub lefts : length left′ ≡ length left
+  pub leftSize : length left′ ≡ length left
   pub size : length sums′ ≡ length left
   pub rest : (i : ℕ) → i < length left → at left′ i ≡ at left i - sumOf entries capacities first (end - first) i
   pub more : (i : ℕ) → i < length left → at sums′ i ≡ at sums i + taken entries first end left i * payoff
@@ -51,7 +51,7 @@ pub record FillStatesPre (entries payoff order left sums : List ℕ) : Type 0 wh
   pub lists : SoundLists (length payoff) entries left
   pub permutation : Permutation (length payoff) order
   pub small : Small (length payoff) payoff
-  pub lefts : length left ≡ length payoff
+  pub leftSize : length left ≡ length payoff
   pub size : length sums ≡ length payoff
   pub none : (i : ℕ) → i < length payoff → at sums i ≡ 0
 

@@ -1,5 +1,6 @@
 // The entries of all interval rows, listed by the class that they lead to: a year then passes each of them once, along the order of the payoffs.
-// The list of state j stands from place j × 32 on, in one array: at e the state whose row has the entry of place e, at LOWER_ENDS + e its lower end, at CAPACITIES + e the capacity from there to its upper end, and at COUNTS + j how many entries lead to state j.
+// The list of state j stands from place j × 32 on, in one array: at e the state whose row has the entry of place e, at LOWER_ENDS + e its lower end,
+// at CAPACITIES + e the capacity from there to its upper end, and at COUNTS + j how many entries lead to state j.
 use rows::slack;
 use rows::sum_by_target;
 use scheme::Scheme;

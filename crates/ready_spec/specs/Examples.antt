@@ -42,7 +42,8 @@ pub forms : (number base : ℕ) → Form number base
 unfolding readyScheme schemeOf upTo tab
 forms number base = record { columns = refl; start = refl; horizon = refl; lowers = refl; uppers = refl }
 
--- "Scheme 1: s 18, c 3. Scheme 2: s 18, c 4. Scheme 3: s 24, c 4.": one claim raises class 2 by c − 1, two raise class 10 by 2 c − 1, none lowers class 10 by 1, and class 18 with a claim is held to s.
+-- "Scheme 1: s 18, c 3. Scheme 2: s 18, c 4. Scheme 3: s 24, c 4.": one claim raises class 2 by c − 1, two raise class 10 by 2 c − 1,
+-- none lowers class 10 by 1, and class 18 with a claim is held to s.
 pub record Moves : Type 0 where
   pub classes : (classesOf 1 ≡ 18) × (classesOf 2 ≡ 18) × (classesOf 3 ≡ 24)
   pub one : (ruleAt (readyScheme 1 0) 1 1 ≡ 4) × (ruleAt (readyScheme 2 0) 1 1 ≡ 5) × (ruleAt (readyScheme 3 0) 1 1 ≡ 5)

@@ -9,14 +9,14 @@ use Rattle.setchain.specs.Rows.{ONE}
 use Rattle.setchain.specs.Laws.Sums.{sumTo-eq}
 use Rattle.scheme.specs.declared.Scheme.{Scheme}
 use Rattle.scheme.specs.Access.{cellCount, ruleAt, lowerAt, upperAt, premiumAt}
-use Rattle.scheme.specs.Accepted.{SizeFits, Accepted}
+use Rattle.scheme.specs.Accepted.{SizeFits}
 use Rattle.scheme.specs.Cause.{outside, bandTest, sizeOut, startOut, horizonOut, ruleOut, bandOut, sumOut, premiumOut, causeWhere, causeOf, orElse, classCause, yearCause}
 use Rattle.scheme.specs.Rows.{chainOf}
 use Rattle.scheme.specs.Stored.{schemeOf, cleared}
 use Rattle.scheme.specs.Values.{SameValues}
 use Rattle.scheme.specs.Laws.Tables.{any-eq}
 use Rattle.scheme.specs.Laws.Cause.{cond-true, by-cause}
-use Rattle.scheme.specs.Laws.Judged.{size-tells, accepted-cause, cause-accepted}
+use Rattle.scheme.specs.Laws.Judged.{size-tells}
 use Rattle.scheme.specs.Laws.Stored.{stored-at, rule-stored}
 
 -- Sums over as many cells.
@@ -86,9 +86,6 @@ module _ {s s′ : Scheme} (v : SameValues s s′) where
   pub year-same : (year : ℕ) → yearCause s year ≡ yearCause s′ year
   year-same year = ap (λ h. cond (ltb h year) 12 0) (v .horizon)
 
-  pub accepted-same : Accepted s → Accepted s′
-  accepted-same ok = accepted-cause s′ (sym cause-same ∙ cause-accepted s ok)
-
   -- The interval row of each class, at every class.
   module _ (i : ℕ) (l : i < s .classes) where
     into-same : (band band′ : ℕ → ℕ) → ((k : ℕ) → k < cellCount s → band k ≡ band′ k) → (j : ℕ)
@@ -128,13 +125,6 @@ size-first s moneyOut e = cond-true (sizeOut s) 3 _ e
 size-cleared : (s : Scheme) → sizeOut s ≡ true → sizeOut (cleared s) ≡ true
 unfolding sizeOut schemeOf
 size-cleared s e = e
-
-pub cleared-refused : (s : Scheme) → ¬ SizeFits s → (causeOf s ≡ 3) × (causeOf (cleared s) ≡ 3)
-cleared-refused s h = by (sizeOut s) refl
-  where
-    by : (b : Bool) → sizeOut s ≡ b → (causeOf s ≡ 3) × (causeOf (cleared s) ≡ 3)
-    by true e = (size-first s (premiumOut s) e, size-first (cleared s) (premiumOut (cleared s)) (size-cleared s e))
-    by false e = absurd (h (size-tells s .fits e))
 
 -- What no operation tells apart: the same values, or two sizes out of range.
 pub data Alike (s s′ : Scheme) : Type 0 where

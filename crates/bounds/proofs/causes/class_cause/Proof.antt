@@ -7,10 +7,14 @@ class-out-requires : tie.Need-class-out-requires
 class-out-requires c κs = tt
 
 returns : tie.Need-returns
-returns c = simp (sym (c .before .class-out .ensures) ∙ c .if1 .taken)
+returns c =
+    let at-class-out = c .before in
+    simp (sym (at-class-out .class-out .ensures) ∙ c .if1 .taken)
 
 returns-2 : tie.Need-returns-2
-returns-2 c = simp (sym (c .before .class-out .ensures) ∙ c .if1 .left)
+returns-2 c =
+    let at-class-out = c .before in
+    simp (sym (at-class-out .class-out .ensures) ∙ c .if1 .left)
 
 pub class-cause-spec : {M : Type 1} → statement M
 class-cause-spec = tie.close (tie.spec class-out-requires returns returns-2)

@@ -15,7 +15,10 @@ or-else-requires : tie.Need-or-else-requires
 or-else-requires c κs = search needs
 
 returns : tie.Need-returns
-returns c = c .or-else .ensures ∙ ap₂ (λ a b. orElse a b) (c .before .before .cause .ensures) (c .before .year-cause .ensures)
+returns c =
+    let at-year-cause = c .before in
+    let at-cause = at-year-cause .before in
+    c .or-else .ensures ∙ ap₂ (λ a b. orElse a b) (at-cause .cause .ensures) (at-year-cause .year-cause .ensures)
 
 pub money-cause-spec : {M : Type 1} → statement M
 money-cause-spec = tie.close (tie.spec cause-requires year-cause-requires or-else-requires returns)

@@ -22,12 +22,13 @@ or-else-requires-2 c κs = search needs
 
 returns : tie.Need-returns
 returns c =
-    let at-year-cause = c .before .before in
+    let at-or-else = c .before in
+    let at-year-cause = at-or-else .before in
     let at-class-cause = at-year-cause .before in
     let at-cause = at-class-cause .before in
     c .or-else2 .ensures
     ∙ ap₂ (λ a b. orElse a b) (at-cause .cause .ensures)
-    (c .before .or-else .ensures ∙ ap₂ (λ a b. orElse a b) (at-class-cause .class-cause .ensures) (at-year-cause .year-cause .ensures))
+    (at-or-else .or-else .ensures ∙ ap₂ (λ a b. orElse a b) (at-class-cause .class-cause .ensures) (at-year-cause .year-cause .ensures))
 
 pub share-cause-spec : {M : Type 1} → statement M
 share-cause-spec =

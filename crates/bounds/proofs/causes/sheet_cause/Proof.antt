@@ -18,7 +18,10 @@ or-else-requires : tie.Need-or-else-requires
 or-else-requires c κs = search needs
 
 returns : tie.Need-returns
-returns c = c .or-else .ensures ∙ ap₂ (λ a b. orElse a b) (c .before .before .before .money-cause .ensures) (c .before .slices-cause .ensures)
+returns c =
+    let at-slices-cause = c .before in
+    let at-money-cause = at-slices-cause .before .before in
+    c .or-else .ensures ∙ ap₂ (λ a b. orElse a b) (at-money-cause .money-cause .ensures) (at-slices-cause .slices-cause .ensures)
 
 pub sheet-cause-spec : {M : Type 1} → statement M
 sheet-cause-spec =

@@ -19,12 +19,13 @@ or-else-requires c κs = search needs
 
 returns : tie.Need-returns
 returns c =
-    let at-table-size = c .before .before in
+    let at-slices-cause = c .before in
+    let at-table-size = at-slices-cause .before in
     let at-cause = at-table-size .before in
     let start = at-cause .before in
     c .or-else .ensures
     ∙ ap₂ (λ a b. orElse a b) (at-cause .cause .ensures)
-    (c .before .slices-cause .ensures ∙ ap (λ n. slicesCause n (start .args .low) (start .args .high)) (at-table-size .table-size .ensures))
+    (at-slices-cause .slices-cause .ensures ∙ ap (λ n. slicesCause n (start .args .low) (start .args .high)) (at-table-size .table-size .ensures))
 
 pub table-cause-spec : {M : Type 1} → statement M
 table-cause-spec =

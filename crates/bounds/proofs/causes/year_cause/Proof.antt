@@ -5,10 +5,14 @@ use Rattle.bounds.proofs.causes.year_cause.Statement.{statement}
 use Rattle.bounds.proofs.causes.year_cause.Tie as tie
 
 returns : tie.Need-returns
-returns c = simp (lt-ltb (c .before .args .horizon) (c .before .args .year) (omega arith))
+returns c =
+    let start = c .before in
+    simp (lt-ltb (start .args .horizon) (start .args .year) (omega arith))
 
 returns-2 : tie.Need-returns-2
-returns-2 c = simp (le-ltb (c .before .args .horizon) (c .before .args .year) (omega arith))
+returns-2 c =
+    let start = c .before in
+    simp (le-ltb (start .args .horizon) (start .args .year) (omega arith))
 
 pub year-cause-spec : {M : Type 1} → statement M
 year-cause-spec = tie.close (tie.spec returns returns-2)

@@ -60,8 +60,9 @@ loop-again c =
 
 returns : tie.Need-returns Inv-loop μ-loop
 returns c =
-    let start = c .before .before .before .before .before in
-    listing-all (start .pre) (c .before .loop .i) (c .before .loop .inv) (omega arith)
+    let at-loop = c .before in
+    let start = at-loop .before .before .before .before in
+    listing-all (start .pre) (at-loop .loop .i) (at-loop .loop .inv) (omega arith)
 
 pub list-rows-spec : {M : Type 1} → statement M
 list-rows-spec =

@@ -30,33 +30,33 @@ slice-aggregate-list-rows c = search needs
 
 array-share-prefix-lowers : tie.Need-array-share-prefix-lowers
 array-share-prefix-lowers c =
-    let s = c .before .before .before .before .before .before in
-    omega (arith, lowers-stored s, s .pre .0 .size .columns)
+    let start = c .before .before .before .before .before .before in
+    omega (arith, lowers-stored start, start .pre .0 .size .columns)
 
 slice-aggregate-list-rows-2 : tie.Need-slice-aggregate-list-rows-2
 slice-aggregate-list-rows-2 c =
-    let s = c .before .before .before .before .before .before .before in
-    sym (length-take-le (s .args .scheme .columns) (s .args .scheme .lowers) (omega (arith, lowers-stored s, s .pre .0 .size .columns)))
+    let start = c .before .before .before .before .before .before .before in
+    sym (length-take-le (start .args .scheme .columns) (start .args .scheme .lowers) (omega (arith, lowers-stored start, start .pre .0 .size .columns)))
 
 array-share-prefix-uppers : tie.Need-array-share-prefix-uppers
 array-share-prefix-uppers c =
-    let s = c .before .before .before .before .before .before .before in
-    omega (arith, uppers-stored s, s .pre .0 .size .columns)
+    let start = c .before .before .before .before .before .before .before in
+    omega (arith, uppers-stored start, start .pre .0 .size .columns)
 
 slice-aggregate-list-rows-3 : tie.Need-slice-aggregate-list-rows-3
 slice-aggregate-list-rows-3 c =
-    let s = c .before .before .before .before .before .before .before .before in
-    sym (length-take-le (s .args .scheme .columns) (s .args .scheme .uppers) (omega (arith, uppers-stored s, s .pre .0 .size .columns)))
+    let start = c .before .before .before .before .before .before .before .before in
+    sym (length-take-le (start .args .scheme .columns) (start .args .scheme .uppers) (omega (arith, uppers-stored start, start .pre .0 .size .columns)))
 
 list-rows-requires : tie.Need-list-rows-requires
 list-rows-requires c κs =
-    let s = c .before .before .before .before .before .before .before .before .before .before in
-    scheme-lists (s .args .scheme) (s .pre .0) (rules-stored s) (lowers-stored s) (s .pre .1)
+    let start = c .before .before .before .before .before .before .before .before .before .before in
+    scheme-lists (start .args .scheme) (start .pre .0) (rules-stored start) (lowers-stored start) (start .pre .1)
 
 returns : tie.Need-returns
 returns c =
-    let s = c .before .before .before .before .before .before .before .before .before .before .before in
-    scheme-listed (s .args .scheme) (s .pre .0) (rules-stored s) (lowers-stored s) (c .list-rows .ensures)
+    let start = c .before .before .before .before .before .before .before .before .before .before .before in
+    scheme-listed (start .args .scheme) (start .pre .0) (rules-stored start) (lowers-stored start) (c .list-rows .ensures)
 
 pub list-scheme-spec : {M : Type 1} → statement M
 list-scheme-spec =

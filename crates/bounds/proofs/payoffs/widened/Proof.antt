@@ -39,10 +39,15 @@ loop-less : tie.Need-loop-less Inv-loop μ-loop
 loop-less c = omega arith
 
 loop-again : tie.Need-loop-again Inv-loop μ-loop
-loop-again c = written-more _ (at (c .before .before .before .args .t1)) (c .before .before .loop .out) _ _ (omega arith) (c .wide .ensures .0) (c .before .before .loop .inv)
+loop-again c =
+    let at-loop = c .before .before in
+    let start = at-loop .before in
+    written-more _ (at (start .args .t1)) (at-loop .loop .out) _ _ (omega arith) (c .wide .ensures .0) (at-loop .loop .inv)
 
 returns : tie.Need-returns Inv-loop μ-loop
-returns c = written-copy (omega arith) (c .before .loop .inv)
+returns c =
+    let at-loop = c .before in
+    written-copy (omega arith) (at-loop .loop .inv)
 
 pub widened-spec : {M : Type 1} → statement M
 widened-spec =

@@ -76,7 +76,9 @@ same-length c =
     at-loop .loop .inv .size ∙ sym (start .pre .0 .size)
 
 returns : tie.Need-returns Inv-loop μ-loop
-returns c = columns-all (omega arith) (c .before .loop .inv)
+returns c =
+    let at-loop = c .before in
+    columns-all (omega arith) (at-loop .loop .inv)
 
 pub share-columns-spec : {M : Type 1} → statement M
 share-columns-spec =

@@ -121,10 +121,11 @@ slice-write-out c =
 
 same-length : tie.Need-same-length
 same-length c =
-    let at-series = c .before .before .before .before .before .before .before in
+    let at-series2 = c .before in
+    let at-series = at-series2 .before .before .before .before .before .before in
     let at-share-columns = at-series .before .before .before .before .before .before .before .before .before .before in
     let start = at-share-columns .before .before .before .before .before .before .before .before in
-    last-length (table at-series) (c .before .series2 .result) (size at-series ∙ sym (start .pre .size))
+    last-length (table at-series) (at-series2 .series2 .result) (size at-series ∙ sym (start .pre .size))
 
 returns : tie.Need-returns
 returns c =

@@ -19,18 +19,32 @@ abbrev μ-loop : tie.MeasureT-loop
 μ-loop entries first end payoff left₀ sums₀ e₀ left sums e = end - e
 
 -- The entry's place, and its row's.
-here : (c : tie.After-i Inv-loop μ-loop)
-    → let at-loop = c .before .before in
+abbrev Inside : tie.After-i Inv-loop μ-loop → Type 0
+Inside c =
+    let at-loop = c .before .before in
     let start = at-loop .before .before .before in
     let l = at-loop .loop in
     let i = at (start .args .entries .now) (l .e) in
     (l .e < 1024) × (i < length (l .left)) × (i < length (l .sums))
+
+here : (c : tie.After-i Inv-loop μ-loop) → Inside c
 here c =
     let at-loop = c .before .before in
     let start = at-loop .before .before .before in
     let able = start .pre in
     let w = at-loop .loop .inv in
-    omega (arith, able .inside, able .size, w .filled .lefts, w .filled .size, row-inside able w (omega arith) refl refl)
+    omega (arith, able .inside, able .size, w .filled .leftSize, w .filled .size, row-inside able w (omega arith) refl refl)
+
+-- The same where the row's slack is read, and where it is known what the row is given.
+at-had : (c : tie.After-slice-known3 Inv-loop μ-loop) → let at-i = c .before in Inside at-i
+at-had c =
+    let at-i = c .before in
+    here at-i
+
+at-given : (c : tie.After-smaller Inv-loop μ-loop) → let at-i = c .before .before .before in Inside at-i
+at-given c =
+    let at-i = c .before .before .before in
+    here at-i
 
 -- What its row is given.
 given : (c : tie.After-smaller Inv-loop μ-loop)
@@ -49,9 +63,10 @@ fits : (c : tie.After-sums Inv-loop μ-loop)
     let l = at-loop .loop in
     at (l .sums) (at (a .entries .now) (l .e)) + (at (a .entries .now) (lowerEnds + l .e) + c .before .smaller .result) * a .payoff ≤ LARGEST * ONE
 fits c =
-    let at-loop = c .before .before .before .before .before .before in
+    let at-smaller = c .before in
+    let at-loop = at-smaller .before .before .before .before .before in
     let start = at-loop .before .before .before in
-    entry-fits (start .pre) (at-loop .loop .inv) (omega arith) refl (given (c .before))
+    entry-fits (start .pre) (at-loop .loop .inv) (omega arith) refl (given at-smaller)
 
 -- As the entry does.
 small : (c : tie.After-sums Inv-loop μ-loop)
@@ -59,9 +74,10 @@ small : (c : tie.After-sums Inv-loop μ-loop)
     let start = at-loop .before .before .before in
     at (start .args .entries .now) (lowerEnds + at-loop .loop .e) + c .before .smaller .result ≤ ONE
 small c =
-    let at-loop = c .before .before .before .before .before .before in
+    let at-smaller = c .before in
+    let at-loop = at-smaller .before .before .before .before .before in
     let start = at-loop .before .before .before in
-    omega (arith, given (c .before), start .pre .small (at-loop .loop .e) (at-loop .loop .inv .begun) (omega arith))
+    omega (arith, given at-smaller, start .pre .small (at-loop .loop .e) (at-loop .loop .inv .begun) (omega arith))
 
 loop-holds : tie.Need-loop-holds Inv-loop μ-loop
 loop-holds c =
@@ -85,16 +101,16 @@ mul-had : tie.Need-mul-had Inv-loop μ-loop
 mul-had c = omega (arith, here c)
 
 slice-read-had : tie.Need-slice-read-had Inv-loop μ-loop
-slice-read-had c = here (c .before) .1
+slice-read-had c = at-had c .1
 
 add-smaller : tie.Need-add-smaller Inv-loop μ-loop
-add-smaller c = omega (arith, here (c .before))
+add-smaller c = omega (arith, at-had c)
 
 mul-smaller : tie.Need-mul-smaller Inv-loop μ-loop
-mul-smaller c = omega (arith, here (c .before))
+mul-smaller c = omega (arith, at-had c)
 
 element-copy-out-smaller : tie.Need-element-copy-out-smaller Inv-loop μ-loop
-element-copy-out-smaller c = omega (arith, here (c .before))
+element-copy-out-smaller c = omega (arith, at-had c)
 
 smaller-requires : tie.Need-smaller-requires Inv-loop μ-loop
 smaller-requires c κs = tt
@@ -103,19 +119,19 @@ sub-left : tie.Need-sub-left Inv-loop μ-loop
 sub-left c = omega (arith, given c)
 
 mul-left : tie.Need-mul-left Inv-loop μ-loop
-mul-left c = omega (arith, here (c .before .before .before))
+mul-left c = omega (arith, at-given c)
 
 slice-write-left : tie.Need-slice-write-left Inv-loop μ-loop
-slice-write-left c = here (c .before .before .before) .1
+slice-write-left c = at-given c .1
 
 add-sums : tie.Need-add-sums Inv-loop μ-loop
-add-sums c = omega (arith, here (c .before .before .before))
+add-sums c = omega (arith, at-given c)
 
 mul-sums : tie.Need-mul-sums Inv-loop μ-loop
-mul-sums c = omega (arith, here (c .before .before .before))
+mul-sums c = omega (arith, at-given c)
 
 element-copy-out-sums : tie.Need-element-copy-out-sums Inv-loop μ-loop
-element-copy-out-sums c = omega (arith, here (c .before .before .before))
+element-copy-out-sums c = omega (arith, at-given c)
 
 add-sums-2 : tie.Need-add-sums-2 Inv-loop μ-loop
 add-sums-2 c = omega (arith, small c)
@@ -137,7 +153,9 @@ slice-read-sums c =
     here at-i .2
 
 add-sums-3 : tie.Need-add-sums-3 Inv-loop μ-loop
-add-sums-3 c = omega (arith, fits (c .before))
+add-sums-3 c =
+    let at-sums = c .before in
+    omega (arith, fits at-sums)
 
 slice-write-sums : tie.Need-slice-write-sums Inv-loop μ-loop
 slice-write-sums c =
@@ -160,17 +178,21 @@ loop-again c =
     entries-more (start .pre) (at-loop .loop .inv) (omega arith) refl (given at-smaller)
 
 same-length : tie.Need-same-length Inv-loop μ-loop
-same-length c = omega (arith, c .before .loop .inv .filled .lefts)
+same-length c =
+    let at-loop = c .before in
+    omega (arith, at-loop .loop .inv .filled .leftSize)
 
 same-length-2 : tie.Need-same-length-2 Inv-loop μ-loop
 same-length-2 c =
-    let start = c .before .before .before .before in
-    omega (arith, c .before .loop .inv .filled .size, start .pre .size)
+    let at-loop = c .before in
+    let start = at-loop .before .before .before in
+    omega (arith, at-loop .loop .inv .filled .size, start .pre .size)
 
 returns : tie.Need-returns Inv-loop μ-loop
 returns c =
-    let start = c .before .before .before .before in
-    entries-all (start .pre) (omega arith) (c .before .loop .inv)
+    let at-loop = c .before in
+    let start = at-loop .before .before .before in
+    entries-all (start .pre) (omega arith) (at-loop .loop .inv)
 
 pub fill-state-spec : {M : Type 1} → statement M
 fill-state-spec =

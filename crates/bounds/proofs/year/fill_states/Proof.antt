@@ -18,7 +18,8 @@ abbrev μ-loop : tie.MeasureT-loop
 μ-loop entries payoff order left₀ sums₀ k₀ left sums k = length payoff - k
 
 -- The class at place k has a state.
-named : (c : tie.After-state Inv-loop μ-loop) → let at-loop = c .before .before .before in
+named : (c : tie.After-state Inv-loop μ-loop)
+    → let at-loop = c .before .before .before in
     let start = at-loop .before .before .before .before .before in
     c .state .result ≡ at (start .args .order .now) (at-loop .loop .k) - 1
 named c =
@@ -29,8 +30,8 @@ named c =
 
 -- And how long its list is.
 here : (c : tie.After-state Inv-loop μ-loop)
-    → let start = c .before .before .before .before .before .before .before .before in
-    let a = start .args in
+    → let at-loop = c .before .before .before in
+    let a = at-loop .before .before .before .before .before .args in
     (c .state .result < 32) × (c .state .result < length (a .payoff .now)) × (at (a .entries .now) (counts + c .state .result) ≤ 32)
 here c =
     let at-loop = c .before .before .before in
@@ -64,16 +65,24 @@ element-copy-out-fill-state : tie.Need-element-copy-out-fill-state Inv-loop μ-l
 element-copy-out-fill-state c = omega (arith, here c)
 
 cast-fill-state : tie.Need-cast-fill-state Inv-loop μ-loop
-cast-fill-state c = omega (arith, here (c .before))
+cast-fill-state c =
+    let at-state = c .before in
+    omega (arith, here at-state)
 
 add-fill-state-2 : tie.Need-add-fill-state-2 Inv-loop μ-loop
-add-fill-state-2 c = omega (arith, here (c .before))
+add-fill-state-2 c =
+    let at-state = c .before in
+    omega (arith, here at-state)
 
 mul-fill-state-2 : tie.Need-mul-fill-state-2 Inv-loop μ-loop
-mul-fill-state-2 c = omega (arith, here (c .before))
+mul-fill-state-2 c =
+    let at-state = c .before in
+    omega (arith, here at-state)
 
 shared-slice-read-fill-state : tie.Need-shared-slice-read-fill-state Inv-loop μ-loop
-shared-slice-read-fill-state c = omega (arith, here (c .before .before))
+shared-slice-read-fill-state c =
+    let at-state = c .before .before in
+    omega (arith, here at-state)
 
 fill-state-requires : tie.Need-fill-state-requires Inv-loop μ-loop
 fill-state-requires c κs =
@@ -87,7 +96,10 @@ add-k c = omega arith
 
 loop-less : tie.Need-loop-less Inv-loop μ-loop
 loop-less c =
-    let start = c .before .before .before .before .before .before .before .before .before .before .before .before .before .before .before .before .before in
+    let at-fill-state = c .before .before .before .before in
+    let at-state = at-fill-state .before .before .before .before .before in
+    let at-loop = at-state .before .before .before in
+    let start = at-loop .before .before .before .before .before in
     omega (arith, start .pre .permutation .size)
 
 loop-again : tie.Need-loop-again Inv-loop μ-loop
@@ -100,18 +112,21 @@ loop-again c =
 
 same-length : tie.Need-same-length Inv-loop μ-loop
 same-length c =
-    let start = c .before .before .before .before .before .before in
-    omega (arith, c .before .loop .inv .lefts, start .pre .lefts)
+    let at-loop = c .before in
+    let start = at-loop .before .before .before .before .before in
+    omega (arith, at-loop .loop .inv .leftSize, start .pre .leftSize)
 
 same-length-2 : tie.Need-same-length-2 Inv-loop μ-loop
 same-length-2 c =
-    let start = c .before .before .before .before .before .before in
-    omega (arith, c .before .loop .inv .size, start .pre .size)
+    let at-loop = c .before in
+    let start = at-loop .before .before .before .before .before in
+    omega (arith, at-loop .loop .inv .size, start .pre .size)
 
 returns : tie.Need-returns Inv-loop μ-loop
 returns c =
-    let start = c .before .before .before .before .before .before in
-    states-all (start .pre) (omega (arith, start .pre .permutation .size)) (c .before .loop .inv)
+    let at-loop = c .before in
+    let start = at-loop .before .before .before .before .before in
+    states-all (start .pre) (omega (arith, start .pre .permutation .size)) (at-loop .loop .inv)
 
 pub fill-states-spec : {M : Type 1} → statement M
 fill-states-spec =

@@ -6,12 +6,12 @@ use native.Mathlib.Omega.{arith}
 use lib.ListN.{length}
 use Rattle.order.specs.Laws.Written.{Rewritten, rewritten-none, rewritten-more}
 use Rattle.order.specs.States.{at}
-use Rattle.bounds.proofs.YearLaws.{roundedSum, figure-fits, figures-all}
+use Rattle.bounds.proofs.YearLaws.{figureOf, figure-fits, figures-all}
 use Rattle.bounds.proofs.year.round_sums.Statement.{statement}
 use Rattle.bounds.proofs.year.round_sums.Tie as tie
 
 abbrev Inv-loop : tie.InvT-loop
-Inv-loop gain high sums₀ i₀ sums i = Rewritten (length gain) (roundedSum gain high) sums₀ sums i
+Inv-loop gain high sums₀ i₀ sums i = Rewritten (length gain) (figureOf gain high) sums₀ sums i
 
 abbrev μ-loop : tie.MeasureT-loop
 μ-loop gain high sums₀ i₀ sums i = length gain - i
@@ -63,13 +63,15 @@ loop-again c =
 
 same-length : tie.Need-same-length Inv-loop μ-loop
 same-length c =
-    let start = c .before .before .before .before in
-    omega (arith, c .before .loop .inv .size, start .pre .size)
+    let at-loop = c .before in
+    let start = at-loop .before .before .before in
+    omega (arith, at-loop .loop .inv .size, start .pre .size)
 
 returns : tie.Need-returns Inv-loop μ-loop
 returns c =
-    let start = c .before .before .before .before in
-    figures-all (start .args .high) (start .pre) (c .before .loop .inv) (omega arith)
+    let at-loop = c .before in
+    let start = at-loop .before .before .before in
+    figures-all (start .args .high) (start .pre) (at-loop .loop .inv) (omega arith)
 
 pub round-sums-spec : {M : Type 1} → statement M
 round-sums-spec =

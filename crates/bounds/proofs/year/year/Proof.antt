@@ -30,17 +30,20 @@ array-share-prefix-before-2 c = search needs
 
 slice-aggregate-fill-states : tie.Need-slice-aggregate-fill-states
 slice-aggregate-fill-states c =
-    let start = c .before .before .before .before .before .before .before .before .before in
+    let at-sort = c .before .before .before .before in
+    let start = at-sort .before .before .before .before .before in
     sym (length-take-le (length (start .args .gain .now)) (start .args .t6) (fits start))
 
 array-borrow-prefix-left : tie.Need-array-borrow-prefix-left
 array-borrow-prefix-left c =
-    let start = c .before .before .before .before .before .before .before .before .before .before in
-    start .pre .lists .slacks
+    let at-sort = c .before .before .before .before .before in
+    let start = at-sort .before .before .before .before .before in
+    start .pre .lists .slackSize
 
 slice-aggregate-fill-states-2 : tie.Need-slice-aggregate-fill-states-2
 slice-aggregate-fill-states-2 c =
-    let start = c .before .before .before .before .before .before .before .before .before .before .before in
+    let at-sort = c .before .before .before .before .before .before in
+    let start = at-sort .before .before .before .before .before in
     sym (slack-count (start .pre) (fits start))
 
 array-borrow-prefix-sums : tie.Need-array-borrow-prefix-sums
@@ -48,7 +51,8 @@ array-borrow-prefix-sums c = search needs
 
 slice-aggregate-fill-states-3 : tie.Need-slice-aggregate-fill-states-3
 slice-aggregate-fill-states-3 c =
-    let start = c .before .before .before .before .before .before .before .before .before .before .before .before in
+    let at-sort = c .before .before .before .before .before .before .before in
+    let start = at-sort .before .before .before .before .before in
     sym (length-take-le (length (start .args .gain .now)) zeros (search needs))
 
 fill-states-requires : tie.Need-fill-states-requires
@@ -83,11 +87,12 @@ same-length c = search needs
 
 returns : tie.Need-returns
 returns c =
-    let at-fill-states = c .before .before .before .before .before in
+    let at-round-sums = c .before in
+    let at-fill-states = at-round-sums .before .before .before .before in
     let at-sort = at-fill-states .before .before .before .before .before .before .before .before in
     let start = at-sort .before .before .before .before .before in (
       year-figures (start .pre) (fits start) (start .args .high) (at-sort .sort .ensures) (at-fill-states .fill-states .ensures)
-          (drop (length (start .args .gain .now)) zeros) _ (c .before .round-sums .ensures),
+          (drop (length (start .args .gain .now)) zeros) _ (at-round-sums .round-sums .ensures),
       year-permutation (start .pre) (fits start) (start .args .high) (at-sort .sort .ensures),
     )
 

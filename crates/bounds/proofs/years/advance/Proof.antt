@@ -16,7 +16,9 @@ same-length c =
     at-year .year .ensures .1 .size ∙ sym (start .pre .permutation .size)
 
 returns : tie.Need-returns
-returns c = c .before .before .year .ensures
+returns c =
+    let at-year = c .before .before in
+    at-year .year .ensures
 
 pub advance-spec : {M : Type 1} → statement M
 advance-spec = tie.close (tie.spec year-requires same-length returns)
