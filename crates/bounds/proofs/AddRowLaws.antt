@@ -10,11 +10,10 @@ use lib.Dec.{eqb}
 use lib.ListN.{length, set, length-set}
 use lib.Seq.{getD-set-same, getD-set-other}
 use borrow.Author.Count.{below-none, below-more}
-use Rattle.setchain.specs.Sums.{onlyIf}
+use Rattle.setchain.specs.Sums.{at, onlyIf}
 use Rattle.setchain.specs.Rows.{ONE, IntervalRow}
 use Rattle.setchain.specs.Step.{capacity}
 use Rattle.setchain.specs.Laws.Sums.{sumTo-eq, onlyIf-zero, sumTo-more}
-use Rattle.order.specs.States.{at}
 use Rattle.bounds.specs.Entries.{lowerEnds, capacities, counts, sumOf, listSum, AddRowPre, AddRowPost}
 
 -- The lists before and after one entry is stored, of the lower ends or of the capacities.

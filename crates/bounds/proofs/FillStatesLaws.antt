@@ -12,7 +12,7 @@ use lib.Dec.{eqb}
 use lib.ListN.{length, set, length-set}
 use borrow.Author.Tests.{eq-eqb}
 use lib.Seq.{getD-set-same, getD-set-other, ext-getD}
-use Rattle.setchain.specs.Sums.{sumTo, onlyIf, dot}
+use Rattle.setchain.specs.Sums.{at, sumTo, onlyIf, dot}
 use Rattle.setchain.specs.Rows.{ONE, IntervalRow, SoundRow}
 use Rattle.setchain.specs.Step.{rounded, capacity, stepFigure}
 use Rattle.setchain.specs.Laws.Sums.{onlyIf-true, sumTo-eq, sumTo-add, sumTo-scale, sumTo-swap, sumTo-point, term-le, eqb-flip, sumTo-front, sumTo-change}
@@ -28,7 +28,6 @@ use Rattle.step.specs.Figure.{LARGEST}
 use Rattle.bounds.specs.Fill.{Small, leftAt, sumAt}
 use Rattle.step.specs.Laws.Fill.{Filling, filling-none, filling-more, filling-last}
 use Rattle.step.specs.Laws.Extreme.{step-reached}
-use Rattle.order.specs.States.{at}
 
 -- As many ones as are summed.
 count : (k : ℕ) → sumTo k (λ i. 1) ≡ k

@@ -6,7 +6,7 @@ use mathlib.Core.List.{List, _++_}
 use native.Mathlib.Omega.{arith}
 use lib.Dec.{eqb}
 use lib.ListN.{length, take, drop}
-use Rattle.setchain.specs.Sums.{sumTo, onlyIf}
+use Rattle.setchain.specs.Sums.{at, sumTo, onlyIf}
 use Rattle.setchain.specs.Rows.{ONE}
 use Rattle.setchain.specs.Laws.Sums.{sumTo-eq}
 use Rattle.setchain.specs.Laws.Agreeing.{Agree, agree-sym, sound-agrees}
@@ -16,7 +16,6 @@ use Rattle.scheme.specs.Laws.Tab.{length-tab, getD-tab}
 use Rattle.step.specs.Lists.{listsRow}
 use Rattle.bounds.specs.Entries.{rulesRow, lowerEnds, capacities, listSum, AddRowPre, AddRowPost}
 use Rattle.bounds.proofs.FrontLaws.{zeros, front-made}
-use Rattle.order.specs.States.{at}
 
 -- What was written at the front of an array of 32.
 abbrev pub front : ℕ → List ℕ → List ℕ

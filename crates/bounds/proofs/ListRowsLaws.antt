@@ -9,12 +9,11 @@ use lib.ListN.{length, take, drop, set, length-set}
 use lib.Seq.{getD-set-same, getD-set-other}
 use borrow.Author.Count.{below-none, below-more}
 use borrow.Author.Tests.{eq-eqb, ne-eqb}
-use Rattle.setchain.specs.Sums.{sumTo, onlyIf}
+use Rattle.setchain.specs.Sums.{at, sumTo, onlyIf}
 use Rattle.setchain.specs.Rows.{ONE, SetChain}
 use Rattle.setchain.specs.Step.{capacity}
 use Rattle.setchain.specs.Laws.Sums.{sumTo-eq, onlyIf-true, onlyIf-false, total-start}
 use Rattle.setchain.specs.Laws.Agreeing.{Agree, agree-sym, sound-agrees}
-use Rattle.order.specs.States.{at}
 use Rattle.bounds.specs.Entries.{rulesRow, lowerEnds, capacities, sumOf, listSum, listedRow, rulesChain, ShortLists, AddRowPre, AddRowPost, ListRowsPre, ListRowsPost}
 
 -- What the lists have for each row, of the lower ends or of the capacities: for the rows below i what v says, for the others nothing.

@@ -7,13 +7,14 @@ use mathlib.Core.List.{List, _++_}
 use native.Mathlib.Omega.{arith}
 use lib.ListN.{length, take, length-append}
 use lib.Seq.{length-take-le, getD-take, take-at}
+use Rattle.setchain.specs.Sums.{at}
 use Rattle.setchain.specs.Years.{yearsFigure}
 use Rattle.setchain.specs.Laws.Agreeing.{years-agree}
 use Rattle.scheme.specs.declared.Scheme.{Scheme}
 use Rattle.scheme.specs.Rows.{chainOf}
 use Rattle.order.specs.Order.{Permutation}
 use Rattle.order.specs.Laws.Permutations.{identity-permutation}
-use Rattle.order.specs.States.{identityOrder, at}
+use Rattle.order.specs.States.{identityOrder}
 use Rattle.bounds_spec.specs.Answers.{startOf}
 use Rattle.bounds.specs.Entries.{chainListed, SoundLists, ListRowsPost}
 use Rattle.bounds.specs.Years.{YearsPre, YearsPost}

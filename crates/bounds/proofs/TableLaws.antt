@@ -16,7 +16,7 @@ use Rattle.scheme.specs.Tables.{tab}
 use Rattle.scheme.specs.Accepted.{Accepted}
 use Rattle.scheme.specs.Laws.Tab.{as-tab}
 use Rattle.scheme.specs.declared.Scheme.{Scheme}
-use Rattle.order.specs.States.{at}
+use Rattle.setchain.specs.Sums.{at}
 use Rattle.bounds_spec.specs.Table.{placeOf, tableEntry, figureTable}
 use Rattle.bounds_spec.specs.Laws.Table.{table-at-most, place-below, number-of, entry-share, entry-mean, entry-total}
 use Rattle.bounds.specs.Years.{FiguresFit, SeriesStored}

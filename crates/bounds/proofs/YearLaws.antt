@@ -15,7 +15,7 @@ use Rattle.setchain.specs.Step.{rounded, capacity, stepFigure}
 use Rattle.order.specs.Order.{Permutation, SortedPermutation, sorted}
 use Rattle.order.specs.Laws.Written.{Rewritten}
 use Rattle.order.specs.Laws.Permutations.{sorted-permutation, sorted-holds}
-use Rattle.order.specs.States.{at}
+use Rattle.setchain.specs.Sums.{at}
 use Rattle.step.specs.Figure.{LARGEST}
 use Rattle.bounds.specs.Entries.{lowerEnds, capacities, counts, sumOf, listSum, listedRow, chainListed, SoundLists}
 use Rattle.bounds.specs.Fill.{Small, leftAt, sumAt, taken, FillStatePre, FillStatePost, FillStatesPre, FillStatesPost, RoundSumsPre, RoundSumsPost}

@@ -14,7 +14,7 @@ use Rattle.setchain.specs.Years.{yearsFigure}
 use Rattle.setchain.specs.Laws.Agreeing.{agree-refl, step-agrees}
 use Rattle.setchain.specs.Laws.Step.{years-at-most}
 use Rattle.order.specs.Order.{Permutation}
-use Rattle.order.specs.States.{at}
+use Rattle.setchain.specs.Sums.{at}
 use Rattle.step.specs.Figure.{LARGEST}
 use Rattle.bounds.specs.Entries.{chainListed}
 use Rattle.bounds.specs.Years.{yearFigure, YearPre, YearPost, FiguresFit, YearsPre, SeriesStored, YearsPost}

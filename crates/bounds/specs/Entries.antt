@@ -6,13 +6,12 @@ use mathlib.Core.Path.{_≡_}
 use mathlib.Core.List.{List}
 use lib.Dec.{eqb}
 use lib.ListN.{length}
-use Rattle.setchain.specs.Sums.{sumTo, onlyIf}
+use Rattle.setchain.specs.Sums.{at, sumTo, onlyIf}
 use Rattle.setchain.specs.Rows.{ONE, IntervalRow, SoundRow, SetChain, SoundChain}
 use Rattle.setchain.specs.Step.{capacity}
 use Rattle.setchain.specs.Laws.Agreeing.{Agree}
 use Rattle.scheme.specs.SumByTarget.{sumByTarget}
 use Rattle.rows.specs.Rows.{classRules}
-use Rattle.order.specs.States.{at}
 
 -- Where the lower ends begin.
 abbrev pub lowerEnds : ℕ

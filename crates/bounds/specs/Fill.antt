@@ -7,7 +7,7 @@ use lib.ListN.{length}
 use Rattle.setchain.specs.Rows.{ONE, IntervalRow}
 use Rattle.setchain.specs.Step.{rounded, capacity}
 use Rattle.order.specs.Order.{Permutation}
-use Rattle.order.specs.States.{at}
+use Rattle.setchain.specs.Sums.{at}
 use Rattle.step.specs.Figure.{LARGEST}
 use Rattle.bounds.specs.Entries.{lowerEnds, capacities, sumOf, listedRow, SoundLists}
 

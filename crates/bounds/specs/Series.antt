@@ -10,7 +10,7 @@ use Rattle.scheme.specs.declared.Scheme.{Scheme}
 use Rattle.scheme.specs.Accepted.{Accepted}
 use Rattle.scheme.specs.Rows.{chainOf}
 use Rattle.bounds_spec.specs.Answers.{startOf}
-use Rattle.order.specs.States.{at}
+use Rattle.setchain.specs.Sums.{at}
 use Rattle.bounds.specs.Years.{FiguresFit, SeriesStored}
 
 -- The payoff of a class's share in an array of 32.

@@ -8,7 +8,7 @@ use Rattle.setchain.specs.Years.{shareFigure}
 use Rattle.scheme.specs.declared.Scheme.{Scheme}
 use Rattle.scheme.specs.Accepted.{Accepted}
 use Rattle.scheme.specs.Rows.{chainOf}
-use Rattle.order.specs.States.{at}
+use Rattle.setchain.specs.Sums.{at}
 use Rattle.bounds_spec.specs.Answers.{startOf}
 use Rattle.bounds_spec.specs.Table.{placeOf}
 use Rattle.bounds_spec.specs.Causes.{tableSize}

@@ -10,7 +10,7 @@ use Rattle.setchain.specs.Rows.{SetChain}
 use Rattle.setchain.specs.Step.{stepFigure}
 use Rattle.setchain.specs.Years.{yearsFigure}
 use Rattle.order.specs.Order.{Permutation}
-use Rattle.order.specs.States.{at}
+use Rattle.setchain.specs.Sums.{at}
 use Rattle.step.specs.Figure.{LARGEST}
 use Rattle.bounds.specs.Entries.{chainListed, SoundLists}
 use Rattle.bounds.specs.Fill.{Small}

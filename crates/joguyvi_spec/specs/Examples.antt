@@ -4,7 +4,7 @@ use mathlib.Core.Path.{_≡_, refl}
 use mathlib.Core.Bool.{true, false}
 use mathlib.Core.List.{List, [], _∷_}
 use lib.ListN.{length, replicate}
-use Rattle.setchain.specs.Sums.{sumTo, onlyIf}
+use Rattle.setchain.specs.Sums.{at, sumTo, onlyIf}
 use Rattle.setchain.specs.Step.{capacityBefore, fillRow, stepFigure}
 use Rattle.scheme.specs.declared.Scheme.{Scheme}
 use Rattle.scheme.specs.Tables.{tab, anyBelow}
@@ -23,7 +23,6 @@ use Rattle.record_spec.specs.Write.{writeAnswer}
 use Rattle.ready_spec.specs.Scales.{scale1}
 use Rattle.ready_spec.specs.Ready.{readyScheme}
 use Rattle.ready_spec.specs.Answer.{readyAnswer}
-use Rattle.order.specs.States.{at}
 use Rattle.step_spec.specs.StepAnswer.{payoffOut}
 use Rattle.bounds_spec.specs.declared.Bounds.{Bounds}
 use Rattle.bounds_spec.specs.declared.Bounds.the-variants.{Answered, Refused}

@@ -2,9 +2,8 @@
 use Prim.Native.Nat.{ℕ, zero, suc, _*_}
 use mathlib.Core.Path.{_≡_, refl}
 use mathlib.Core.Bool.{true, false}
-use mathlib.Core.List.{List, [], _∷_}
-use lib.ListN.{getD}
-use Rattle.setchain.specs.Sums.{sumTo, onlyIf}
+use mathlib.Core.List.{[], _∷_}
+use Rattle.setchain.specs.Sums.{at, sumTo, onlyIf}
 use Rattle.setchain.specs.Fractions.{sumFractions}
 use Rattle.setchain.specs.Rows.{IntervalRow, SetChain}
 use Rattle.setchain.specs.Cells.{Cells, rowOf}
@@ -12,23 +11,19 @@ use Rattle.setchain.specs.Step.{rounded, capacityBefore, fillRow, stepFi
 use Rattle.setchain.specs.Years.{yearsFigure, lowShare, highShare, lowMean, highMean, lowTotal, highTotal}
 use Rattle.setchain.specs.Picks.{Matrix, product, exactMean, exactTotal}
 
--- A list read by state.
-abbrev pub from : List ℕ → ℕ → ℕ
-from l j = getD l j 0
-
 -- "Row lower .1 .2 .3, upper .5 .6 .4 of ONE, payoff 30 10 20".
 abbrev pub uppers : ℕ → ℕ
-uppers = from (500000000 ∷ 600000000 ∷ 400000000 ∷ [])
+uppers = at (500000000 ∷ 600000000 ∷ 400000000 ∷ [])
 
 abbrev pub exampleRow : IntervalRow
-exampleRow = record { lower = from (100000000 ∷ 200000000 ∷ 300000000 ∷ []); upper = uppers }
+exampleRow = record { lower = at (100000000 ∷ 200000000 ∷ 300000000 ∷ []); upper = uppers }
 
 -- "Lower all 0".
 abbrev pub bareRow : IntervalRow
-bareRow = record { lower = from (0 ∷ 0 ∷ 0 ∷ []); upper = uppers }
+bareRow = record { lower = at (0 ∷ 0 ∷ 0 ∷ []); upper = uppers }
 
 abbrev pub payoff : ℕ → ℕ
-payoff = from (30 ∷ 10 ∷ 20 ∷ [])
+payoff = at (30 ∷ 10 ∷ 20 ∷ [])
 
 pub record StepExamples : Type 0 where
   pub low : lowStep 3 exampleRow payoff ≡ 15
@@ -49,9 +44,9 @@ abbrev cellsA : Cells
 cellsA =
     record {
       count = 3;
-      target = from (0 ∷ 0 ∷ 1 ∷ []);
-      lower = from (800000000 ∷ 100000000 ∷ 0 ∷ []);
-      upper = from (900000000 ∷ 200000000 ∷ 50000000 ∷ []);
+      target = at (0 ∷ 0 ∷ 1 ∷ []);
+      lower = at (800000000 ∷ 100000000 ∷ 0 ∷ []);
+      upper = at (900000000 ∷ 200000000 ∷ 50000000 ∷ []);
     }
 
 pub record MergedColumns : Type 0 where
@@ -65,10 +60,10 @@ merged-columns = record { lower = (refl, refl); upper = (refl, refl); none = (re
 
 -- From state 0: half stays in the first year, and all return to state 0 in the second.
 abbrev spread : Matrix
-spread i = record { over = 2; entry = from (1 ∷ 1 ∷ []) }
+spread i = record { over = 2; entry = at (1 ∷ 1 ∷ []) }
 
 abbrev gathering : Matrix
-gathering i = record { over = 1; entry = from (1 ∷ 0 ∷ []) }
+gathering i = record { over = 1; entry = at (1 ∷ 0 ∷ []) }
 
 -- First year leftmost: spread, then gathered, leaves all in state 0; gathered, then spread, leaves half.
 pub record OrderExample : Type 0 where
@@ -81,7 +76,7 @@ order-example = record { gathered = refl; spreadOut = refl }
 
 -- The total of two premiums 10 and 20 over the same picks: 10 in year 0 and 15 in year 1.
 pub record TotalExample : Type 0 where
-  pub total : exactTotal 2 (from (10 ∷ 20 ∷ [])) (spread ∷ gathering ∷ []) 0 .num ≡ 25 * exactTotal 2 (from (10 ∷ 20 ∷ [])) (spread ∷ gathering ∷ []) 0 .den
+  pub total : exactTotal 2 (at (10 ∷ 20 ∷ [])) (spread ∷ gathering ∷ []) 0 .num ≡ 25 * exactTotal 2 (at (10 ∷ 20 ∷ [])) (spread ∷ gathering ∷ []) 0 .den
 
 pub total-example : TotalExample
 unfolding exactTotal exactMean product sumFractions onlyIf
@@ -94,13 +89,13 @@ chainA =
       states = 2;
       row = λ i.
           elim i [
-            | zero ↦ record { lower = from (900000000 ∷ 0 ∷ []); upper = from (1000000000 ∷ 50000000 ∷ []) }
-            | suc k ↦ record { lower = from (800000000 ∷ 100000000 ∷ []); upper = from (900000000 ∷ 250000000 ∷ []) }
+            | zero ↦ record { lower = at (900000000 ∷ 0 ∷ []); upper = at (1000000000 ∷ 50000000 ∷ []) }
+            | suc k ↦ record { lower = at (800000000 ∷ 100000000 ∷ []); upper = at (900000000 ∷ 250000000 ∷ []) }
           ];
     }
 
 abbrev pub premiumA : ℕ → ℕ
-premiumA = from (10000 ∷ 15000 ∷ [])
+premiumA = at (10000 ∷ 15000 ∷ [])
 
 -- Its figures from class 2, which is state 1.
 pub record FiguresA : Type 0 where

@@ -4,7 +4,7 @@ use mathlib.Core.Path.{_≡_, refl}
 use mathlib.Core.Bool.{Bool, true, false}
 use mathlib.Core.List.{List, [], _∷_}
 use native.Mathlib.Omega.{arith}
-use Rattle.setchain.specs.Sums.{sumTo, onlyIf}
+use Rattle.setchain.specs.Sums.{at, sumTo, onlyIf}
 use Rattle.setchain.specs.Fractions.{Fraction, whole, sumFractions}
 use Rattle.setchain.specs.Rows.{ONE, IntervalRow, Row, Inside, SoundRow, SoundChain}
 use Rattle.setchain.specs.Picks.{Matrix, InsideEach, none, also, PicksFor, product, exactShare, exactMean, exactTotal}
@@ -13,7 +13,7 @@ use Rattle.setchain.specs.Step.{capacityBefore, fillRow, stepFigure, Par
 use Rattle.setchain.specs.Years.{yearsFigure, lowShare, highShare, lowMean, highMean}
 use Rattle.setchain.specs.Laws.Sums.{below-two}
 use Rattle.setchain.specs.Theorems.{low-to-bound, bound-to-high, share-promise, mean-promise, exact-proper}
-use Rattle.setchain.specs.Examples.{from, chainA, premiumA}
+use Rattle.setchain.specs.Examples.{chainA, premiumA}
 
 -- A numerator over a denominator.
 abbrev pub fraction : ℕ → ℕ → Fraction
@@ -57,7 +57,7 @@ between-examples =
 
 -- Two whole numbers over M.
 abbrev pair : ℕ → ℕ → ℕ → Row
-pair m first second = record { over = m; entry = from (first ∷ second ∷ []) }
+pair m first second = record { over = m; entry = at (first ∷ second ∷ []) }
 
 -- Class 1 in year 1 and 2: over 1, and over 20, where both entries are at an end of their intervals; class 2: over 5 and over 7.
 abbrev firstYear : Matrix
@@ -82,8 +82,8 @@ module _ (r : IntervalRow) (m a b : ℕ) where
       record {
         positive = positive;
         sums = omega arith;
-        above = below-two (λ j. r .lower j * m ≤ from (a ∷ b ∷ []) j * ONE) above₀ above₁;
-        below = below-two (λ j. from (a ∷ b ∷ []) j * ONE ≤ r .upper j * m) below₀ below₁;
+        above = below-two (λ j. r .lower j * m ≤ at (a ∷ b ∷ []) j * ONE) above₀ above₁;
+        below = below-two (λ j. at (a ∷ b ∷ []) j * ONE ≤ r .upper j * m) below₀ below₁;
       }
 
 -- What lies inside: rows over 1, 5, 20 and 7, also where an entry is at an end; and what does not: a row that does not sum to M, entries below a lower and above an upper end, and no row over 0.
@@ -113,7 +113,7 @@ inside-examples =
 
 -- Class 2's row, with a payoff of 30 in class 1 and 10 in class 2.
 abbrev ReachesA : Bool → (first second : ℕ) → ℕ → Type 0
-ReachesA high first second figure = Reaches high 2 (chainA .row 1) (from (30 ∷ 10 ∷ [])) (from (first ∷ second ∷ [])) figure
+ReachesA high first second figure = Reaches high 2 (chainA .row 1) (at (30 ∷ 10 ∷ [])) (at (first ∷ second ∷ [])) figure
 
 -- "a row inside the interval that reaches its unrounded figure": the least and the greatest row do; another row inside, another figure and a row outside do not.
 pub record ReachesExamples : Type 0 where
@@ -130,16 +130,16 @@ reaches-examples =
     record {
       low = record { inside = least; extreme = λ q inside. omega (arith, inside .sums, inside .above 0 (omega arith)); rounded = refl };
       high = record { inside = greatest; extreme = λ q inside. omega (arith, inside .sums, inside .below 0 (omega arith)); rounded = refl };
-      greatestForLow = λ h. omega (arith, h .extreme (from (800000000 ∷ 200000000 ∷ [])) least);
-      leastForHigh = λ h. omega (arith, h .extreme (from (900000000 ∷ 100000000 ∷ [])) greatest);
+      greatestForLow = λ h. omega (arith, h .extreme (at (800000000 ∷ 200000000 ∷ [])) least);
+      leastForHigh = λ h. omega (arith, h .extreme (at (900000000 ∷ 100000000 ∷ [])) greatest);
       otherFigure = λ h. omega (arith, h .rounded);
       outside = λ h. omega (arith, h .inside .above 0 (omega arith));
     }
   where
-    least : Parts 2 (chainA .row 1) (from (800000000 ∷ 200000000 ∷ []))
+    least : Parts 2 (chainA .row 1) (at (800000000 ∷ 200000000 ∷ []))
     least = inside-two (chainA .row 1) ONE 800000000 200000000 (omega arith) refl (omega arith) (omega arith) (omega arith) (omega arith)
 
-    greatest : Parts 2 (chainA .row 1) (from (900000000 ∷ 100000000 ∷ []))
+    greatest : Parts 2 (chainA .row 1) (at (900000000 ∷ 100000000 ∷ []))
     greatest = inside-two (chainA .row 1) ONE 900000000 100000000 (omega arith) refl (omega arith) (omega arith) (omega arith) (omega arith)
 
 -- The year that has the row outside is no pick.

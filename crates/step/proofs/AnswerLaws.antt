@@ -10,7 +10,7 @@ use lib.Dec.{ltb}
 use lib.ListN.{length, take, drop, replicate, length-replicate}
 use lib.Seq.{take-at, length-take-le, getD-take}
 use borrow.Author.Tests.{ltb-false, lt-ltb, ne-eqb}
-use Rattle.setchain.specs.Sums.{onlyIf}
+use Rattle.setchain.specs.Sums.{at, onlyIf}
 use Rattle.setchain.specs.Rows.{SoundRow}
 use Rattle.setchain.specs.Step.{stepFigure, Reaches}
 use Rattle.setchain.specs.Laws.Sums.{onlyIf-true}
@@ -36,7 +36,7 @@ use Rattle.step_spec.specs.StepAnswer.{payoffOut, stepCause, classRow, StepAnsw
 use Rattle.step.specs.Lists.{listsRow}
 use Rattle.step.specs.Answer.{schemeCause, stepRefused}
 use Rattle.step.specs.Step.{StepPre, StepPost}
-use Rattle.order.specs.States.{identityOrder, at}
+use Rattle.order.specs.States.{identityOrder}
 
 -- The classes in the order of their numbers, sorted, are sorted.
 pub numbers-sorted : (payoff before order : List ℕ) {order′ : List ℕ} {high : Bool} → length before ≡ length payoff → length payoff ≤ 128

@@ -3,9 +3,8 @@ use Prim.Native.Nat.{ℕ, _≤_, _<_}
 use mathlib.Core.Path.{_≡_}
 use mathlib.Core.List.{List}
 use lib.ListN.{length}
-use Rattle.setchain.specs.Sums.{sumTo}
+use Rattle.setchain.specs.Sums.{at, sumTo}
 use Rattle.setchain.specs.Rows.{ONE}
-use Rattle.order.specs.States.{at}
 
 -- The largest payoff for which every sum of part times payoff fits 64 bits.
 abbrev pub LARGEST : ℕ

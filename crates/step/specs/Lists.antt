@@ -2,7 +2,7 @@
 use Prim.Native.Nat.{ℕ}
 use mathlib.Core.List.{List}
 use Rattle.setchain.specs.Rows.{IntervalRow}
-use Rattle.order.specs.States.{at}
+use Rattle.setchain.specs.Sums.{at}
 
 -- The interval row that two lists hold.
 abbrev pub listsRow : List ℕ → List ℕ → IntervalRow

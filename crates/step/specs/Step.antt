@@ -9,7 +9,7 @@ use Rattle.setchain.specs.Step.{Reaches}
 use Rattle.order.specs.Order.{SortedPermutation}
 use Rattle.step.specs.Lists.{listsRow}
 use Rattle.step.specs.Figure.{LARGEST}
-use Rattle.order.specs.States.{at}
+use Rattle.setchain.specs.Sums.{at}
 
 -- Lists of one length, a sound row, payoffs that are not too large, and an order of the classes by payoff.
 pub record StepPre (lower upper payoff order : List ℕ) (high : Bool) (row : List ℕ) : Type 0 where

@@ -2,8 +2,7 @@
 ghost use mathlib.Core.Path.{_≡_};
 ghost use lib.ListN.{length};
 ghost use Rattle.setchain.specs.Step.{rounded};
-ghost use Rattle.setchain.specs.Sums.{dot};
-ghost use Rattle.order.specs.States.{at};
+ghost use Rattle.setchain.specs.Sums.{at, dot};
 ghost use Rattle.step.specs.Figure.{WeighPre};
 
 // The sum of part times payoff.

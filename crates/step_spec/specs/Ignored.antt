@@ -14,7 +14,7 @@ use Rattle.scheme.specs.Values.{SameValues}
 use Rattle.scheme.specs.Laws.Tables.{any-eq}
 use Rattle.scheme.specs.Laws.Cause.{first-none, second-none, class-fits, by-cause}
 use Rattle.scheme.specs.Laws.Values.{Alike, same, alike-where, alike-values, alike-back, cleared-alike, premiums-same, class-same, row-same}
-use Rattle.order.specs.States.{at}
+use Rattle.setchain.specs.Sums.{at}
 use Rattle.step_spec.specs.declared.StepAnswer.{StepAnswer}
 use Rattle.step_spec.specs.StepAnswer.{payoffOut, stepCause, classRow, StepAnswered}
 

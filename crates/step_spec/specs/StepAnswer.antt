@@ -12,7 +12,7 @@ use Rattle.scheme.specs.Tables.{anyBelow}
 use Rattle.scheme.specs.Cause.{premiumOut, causeWhere, orElse, classCause}
 use Rattle.scheme.specs.Rows.{chainOf}
 use Rattle.step_spec.specs.declared.StepAnswer.{StepAnswer}
-use Rattle.order.specs.States.{at}
+use Rattle.setchain.specs.Sums.{at}
 
 -- "A payoff is a whole number for each class, 0 to 1,000,000,000": some class's is above; "payoffs stored beyond s are ignored".
 unfoldable pub payoffOut : Scheme → List ℕ → Bool

@@ -12,7 +12,7 @@ use Rattle.scheme.specs.Laws.Cause.{declined, answered, by-cause, first-none, s
 use Rattle.record_spec.specs.Layout.{schemeIn, version1}
 use Rattle.record_spec.specs.Read.{readCause}
 use Rattle.step_spec.specs.declared.StepAnswer.{StepAnswer}
-use Rattle.order.specs.States.{at}
+use Rattle.setchain.specs.Sums.{at}
 use Rattle.step_spec.specs.StepAnswer.{stepCause, classRow, StepAnswered}
 use Rattle.joguyvi_spec.specs.Buffers.{BuffersPost}
 use Rattle.joguyvi_spec.specs.Steps.{payoffRead, stepBuffers, stepNumber, StepCall}

@@ -7,7 +7,7 @@ use native.Mathlib.Omega.{arith}
 use lib.ListN.{length, set, length-set}
 use lib.Seq.{getD-set-same, getD-set-other, ext-getD}
 use borrow.Author.Count.{below-none, below-more}
-use Rattle.order.specs.States.{at}
+use Rattle.setchain.specs.Sums.{at}
 
 -- The n places of the list, of which those below i hold what the rule says.
 pub record Written (n : ℕ) (f : ℕ → ℕ) (a : List ℕ) (i : ℕ) : Type 0 where

@@ -8,7 +8,7 @@ use mathlib.Core.List.{List}
 use native.Mathlib.Decide.{ℕ-discrete, decLt}
 use native.Mathlib.Omega.{arith}
 use lib.ListN.{length}
-use Rattle.setchain.specs.Sums.{dot}
+use Rattle.setchain.specs.Sums.{at, dot}
 use Rattle.setchain.specs.Step.{rounded, stepFigure, Reaches, NotAfter}
 use Rattle.setchain.specs.Certificate.{Ahead, Certificate}
 use Rattle.setchain.specs.Laws.Step.{certified-reaches, reached-figure}
@@ -19,7 +19,6 @@ use Rattle.step.specs.Lists.{listsRow}
 use Rattle.step.specs.Fill.{FillPre, FillPost}
 use Rattle.step.specs.Figure.{WeighPre}
 use Rattle.step.specs.Step.{StepPre, StepPost}
-use Rattle.order.specs.States.{at}
 
 -- Of two payoffs one alone comes before the other.
 ahead-only : (high : Bool) (a b : ℕ) → Ahead high a b → NotAfter high b a → ⊥

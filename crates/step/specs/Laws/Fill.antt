@@ -10,12 +10,11 @@ use native.Mathlib.Omega.{arith}
 use lib.ListN.{length, set, length-set}
 use lib.Seq.{getD-set-same, getD-set-other}
 use borrow.Author.Count.{below-none, below-more}
-use Rattle.setchain.specs.Sums.{sumTo}
+use Rattle.setchain.specs.Sums.{at, sumTo}
 use Rattle.setchain.specs.Rows.{ONE}
 use Rattle.setchain.specs.Laws.Sums.{sumTo-eq}
 use Rattle.setchain.specs.Laws.Fill.{positive-count}
 use Rattle.order.specs.Order.{Occurs}
-use Rattle.order.specs.States.{at}
 use Rattle.step.specs.Fill.{FillPre, FillPost, FillSlackPre}
 use Rattle.step.specs.Laws.Sums.{sumTo-set}
 

@@ -7,10 +7,9 @@ use native.Mathlib.Nat.{mul-le-mul-left}
 use native.Mathlib.Omega.{arith}
 use lib.ListN.{length, set}
 use lib.Seq.{getD-set-same, getD-set-other}
-use Rattle.setchain.specs.Sums.{sumTo, dot}
+use Rattle.setchain.specs.Sums.{at, sumTo, dot}
 use Rattle.setchain.specs.Rows.{ONE}
 use Rattle.setchain.specs.Laws.Sums.{sumTo-le, sumTo-scale, sumTo-more, sumTo-front, sumTo-change}
-use Rattle.order.specs.States.{at}
 use Rattle.step.specs.Figure.{LARGEST, WeighPre}
 
 -- A store changes the sum by what it changes at its place.

@@ -10,7 +10,7 @@ use Rattle.bounds.specs.Entries.{counts}
 use Rattle.bounds.proofs.AddRowLaws.{Adding, adding-none, adding-here, adding-skip, adding-more, adding-as, adding-all}
 use Rattle.bounds.proofs.entries.add_row.Statement.{statement}
 use Rattle.bounds.proofs.entries.add_row.Tie as tie
-use Rattle.order.specs.States.{at}
+use Rattle.setchain.specs.Sums.{at}
 
 abbrev Inv-loop : tie.InvT-loop
 Inv-loop lower upper i entries₀ j₀ entries j = Adding (length upper) (listsRow lower upper) i entries₀ entries j

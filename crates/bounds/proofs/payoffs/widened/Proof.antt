@@ -4,7 +4,7 @@ use Prim.Native.Nat.{_-_}
 use native.Mathlib.Omega.{arith}
 use lib.ListN.{length}
 use Rattle.order.specs.Laws.Written.{Written, written-none, written-more, written-copy}
-use Rattle.order.specs.States.{at}
+use Rattle.setchain.specs.Sums.{at}
 use Rattle.bounds.proofs.payoffs.widened.Statement.{statement}
 use Rattle.bounds.proofs.payoffs.widened.Tie as tie
 

@@ -4,7 +4,7 @@ use Prim.Native.Nat.{_+_, _-_, _≤_, _<_}
 use mathlib.Core.Path.{_≡_, _∙_}
 use native.Mathlib.Omega.{arith}
 use lib.ListN.{length}
-use Rattle.order.specs.States.{at}
+use Rattle.setchain.specs.Sums.{at}
 use Rattle.bounds.specs.Entries.{counts}
 use Rattle.bounds.proofs.YearLaws.{StatesFilled, states-none, state-inside, list-short, state-fills, states-more, states-all}
 use Rattle.order.specs.Laws.Numbers.{state-of}

@@ -5,7 +5,7 @@ use mathlib.Core.Path.{ap}
 use native.Mathlib.Omega.{arith}
 use lib.ListN.{length}
 use Rattle.order.specs.Laws.Written.{Rewritten, rewritten-none, rewritten-more}
-use Rattle.order.specs.States.{at}
+use Rattle.setchain.specs.Sums.{at}
 use Rattle.bounds.proofs.YearLaws.{figureOf, figure-fits, figures-all}
 use Rattle.bounds.proofs.year.round_sums.Statement.{statement}
 use Rattle.bounds.proofs.year.round_sums.Tie as tie

@@ -4,10 +4,9 @@ use Prim.Native.Nat.{_+_, _-_, _*_, _≤_}
 use mathlib.Core.Path.{_≡_}
 use native.Mathlib.Omega.{arith}
 use lib.ListN.{length}
-use Rattle.setchain.specs.Sums.{dot}
+use Rattle.setchain.specs.Sums.{at, dot}
 use Rattle.setchain.specs.Rows.{ONE}
 use Rattle.setchain.specs.Laws.Sums.{total-start}
-use Rattle.order.specs.States.{at}
 use Rattle.step.specs.Figure.{LARGEST}
 use Rattle.step.specs.Laws.Sums.{weighed-more}
 use Rattle.step.proofs.figure.weigh.Statement.{statement}

@@ -4,7 +4,7 @@ use Prim.Native.Nat.{_-_, _≤_, _<_}
 use mathlib.Core.Path.{_≡_, _∙_}
 use native.Mathlib.Omega.{arith}
 use lib.ListN.{length, length-set}
-use Rattle.order.specs.States.{at}
+use Rattle.setchain.specs.Sums.{at}
 use Rattle.setchain.specs.Rows.{ONE}
 use Rattle.step.specs.Laws.Fill.{Filling, filling-none, filling-more, filling-last, shift-inside}
 use Rattle.order.specs.Laws.Numbers.{state-of}
