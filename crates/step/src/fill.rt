@@ -25,7 +25,7 @@ fn fill_slack(upper: &[u64], order: &[u8], row: &mut [u64], parts: u64) -> usize
     }
 }
 
-// Writes to `row` the lowers with the slack, given along the order, and returns the place where they ran out.
+// Writes to `row` the lowers with the slack, given along the order, and returns the place where it ran out.
 pub fn fill(lower: &[u64], upper: &[u64], order: &[u8], row: &mut [u64]) -> usize
     requires { ⌜ FillPre (now lower) (now upper) (now order) (now row) ⌝ }
     ensures { λ r. ⌜ FillPost (now (lower .entry)) (now (upper .entry)) (now (order .entry)) (now (row .exit)) r ⌝ }
