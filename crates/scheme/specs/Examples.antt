@@ -6,7 +6,7 @@ use lib.ListN.{replicate}
 use Rattle.setchain.specs.Sums.{sumTo, onlyIf}
 use Rattle.scheme.specs.declared.Scheme.{Scheme}
 use Rattle.scheme.specs.Tables.{anyBelow}
-use Rattle.scheme.specs.Cause.{sizeOut, startOut, horizonOut, ruleOut, bandOut, sumOut, premiumOut, causeWhere, causeOf}
+use Rattle.scheme.specs.Cause.{sizeOut, startOut, horizonOut, ruleOut, bandOut, sumOut, premiumOut, causeWhere, causeOf, sliceCause, slicesCause}
 use Rattle.scheme.specs.Rows.{chainOf}
 use Rattle.scheme.specs.Stored.{noScheme}
 
@@ -75,3 +75,7 @@ pub record NoScheme : Type 0 where
 pub no-scheme : NoScheme
 unfolding noScheme
 no-scheme = record { form = (refl, refl, refl, refl); stored = (refl, refl, refl, refl) }
+
+-- A slice of the size asked for, one that is longer and one that is shorter; and two slices, of which each is tested.
+pub slice-causes : (sliceCause 2 2 ≡ 0) × (sliceCause 2 3 ≡ 13) × (sliceCause 2 1 ≡ 13) × (slicesCause 2 2 2 ≡ 0) × (slicesCause 2 3 2 ≡ 13) × (slicesCause 2 2 3 ≡ 13)
+slice-causes = (refl, refl, refl, refl, refl, refl)

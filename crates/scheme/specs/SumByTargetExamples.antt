@@ -6,15 +6,15 @@ use Rattle.setchain.specs.Rows.{ONE}
 use Rattle.scheme.specs.SumByTarget.{sumByTarget, slackOf}
 
 -- Two cells that lead to class 1, and one with no band.
-pub record GatheredTwice : Type 0 where
+pub record SummedTwice : Type 0 where
   pub capped : sumByTarget (1 ∷ 1 ∷ 1 ∷ []) (600000000 ∷ 600000000 ∷ []) 0 ≡ ONE
   pub elsewhere : sumByTarget (1 ∷ 1 ∷ 1 ∷ []) (600000000 ∷ 600000000 ∷ []) 1 ≡ 0
 
-pub gathered-twice : GatheredTwice
+pub summed-twice : SummedTwice
 unfolding sumTo onlyIf
-gathered-twice = record { capped = refl; elsewhere = refl }
+summed-twice = record { capped = refl; elsewhere = refl }
 
 -- What the lower entries of class 2 leave, and entries that come to more than ONE.
-pub spare-examples : (slackOf (800000000 ∷ 100000000 ∷ []) ≡ 100000000) × (slackOf (800000000 ∷ 300000000 ∷ []) ≡ 0)
+pub slack-examples : (slackOf (800000000 ∷ 100000000 ∷ []) ≡ 100000000) × (slackOf (800000000 ∷ 300000000 ∷ []) ≡ 0)
 unfolding sumTo
-spare-examples = (refl, refl)
+slack-examples = (refl, refl)

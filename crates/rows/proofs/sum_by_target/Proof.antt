@@ -3,12 +3,12 @@ use Prim.Native.Nat.{_≤_, _-_}
 use mathlib.Core.Path.{_≡_}
 use native.Mathlib.Omega.{arith}
 use lib.ListN.{length}
-use Rattle.rows.specs.Laws.AddToTarget.{gatheredTo, loop-begins, loop-turn, loop-capped, loop-ends}
+use Rattle.rows.specs.Laws.AddToTarget.{summedTo, loop-begins, loop-turn, loop-capped, loop-ends}
 use Rattle.rows.proofs.sum_by_target.Statement.{statement}
 use Rattle.rows.proofs.sum_by_target.Tie as tie
 
 abbrev Inv-loop : tie.InvT-loop
-Inv-loop rules band out₀ n k₀ out k = (k ≤ n) × (out ≡ gatheredTo (length out₀) rules band k)
+Inv-loop rules band out₀ n k₀ out k = (k ≤ n) × (out ≡ summedTo (length out₀) rules band k)
 
 abbrev μ-loop : tie.MeasureT-loop
 μ-loop rules band out₀ n k₀ out k = n - k

@@ -43,30 +43,30 @@ added-set l rule end capped low high =
 
 module _ (n : ℕ) (rules band : List ℕ) where
   -- The entries after the first k cells.
-  unfoldable pub gatheredTo : ℕ → List ℕ
-  gatheredTo k = tab n (λ j. min ONE (sumTo k (λ c. onlyIf (eqb (getD rules c 0) (suc j)) (getD band c 0))))
+  unfoldable pub summedTo : ℕ → List ℕ
+  summedTo k = tab n (λ j. min ONE (sumTo k (λ c. onlyIf (eqb (getD rules c 0) (suc j)) (getD band c 0))))
 
-  pub summed-start : replicate n 0 ≡ gatheredTo 0
-  unfolding gatheredTo sumTo
+  pub summed-start : replicate n 0 ≡ summedTo 0
+  unfolding summedTo sumTo
   summed-start = as-tab 0 (replicate n 0) n _ (length-replicate n 0) (λ j g. getD-replicate n j 0 0 g)
 
-  pub summed-length : (k : ℕ) → length (gatheredTo k) ≡ n
-  unfolding gatheredTo
+  pub summed-length : (k : ℕ) → length (summedTo k) ≡ n
+  unfolding summedTo
   summed-length k = length-tab n _
 
-  pub summed-capped : (k : ℕ) → Capped (gatheredTo k)
-  unfolding gatheredTo
+  pub summed-capped : (k : ℕ) → Capped (summedTo k)
+  unfolding summedTo
   summed-capped k j = by (decLt j n)
     where
-      by : Dec (j < n) → getD (gatheredTo k) j 0 ≤ ONE
+      by : Dec (j < n) → getD (summedTo k) j 0 ≤ ONE
       by (yes l) = omega (arith, getD-tab n (λ j. min ONE (sumTo k (λ c. onlyIf (eqb (getD rules c 0) (suc j)) (getD band c 0)))) j 0 l)
-      by (no h) = omega (arith, List·getD-eq-default (gatheredTo k) 0 {n = j} (omega (arith, summed-length k)))
+      by (no h) = omega (arith, List·getD-eq-default (summedTo k) 0 {n = j} (omega (arith, summed-length k)))
 
-  pub summed-more : (k : ℕ) → addedToTarget (gatheredTo k) (getD rules k 0) (getD band k 0) ≡ gatheredTo (k + 1)
-  unfolding gatheredTo
+  pub summed-more : (k : ℕ) → addedToTarget (summedTo k) (getD rules k 0) (getD band k 0) ≡ summedTo (k + 1)
+  unfolding summedTo
   summed-more k =
-      ap (λ m. tab m (λ j. min ONE (getD (gatheredTo k) j 0 + onlyIf (eqb (getD rules k 0) (suc j)) (getD band k 0)))) (summed-length k)
-      ∙ tab-eq 0 n (λ j. min ONE (getD (gatheredTo k) j 0 + onlyIf (eqb (getD rules k 0) (suc j)) (getD band k 0)))
+      ap (λ m. tab m (λ j. min ONE (getD (summedTo k) j 0 + onlyIf (eqb (getD rules k 0) (suc j)) (getD band k 0)))) (summed-length k)
+      ∙ tab-eq 0 n (λ j. min ONE (getD (summedTo k) j 0 + onlyIf (eqb (getD rules k 0) (suc j)) (getD band k 0)))
       (λ j. min ONE (sumTo (k + 1) (term j)))
       (λ j l.
       omega (
@@ -80,24 +80,24 @@ module _ (n : ℕ) (rules band : List ℕ) where
 
 -- The loop over the cells: where it begins, one turn more, and its end.
 module _ (rules band : List ℕ) where
-  pub loop-begins : (n : ℕ) (l : List ℕ) → l ≡ replicate n 0 → l ≡ gatheredTo (length l) rules band 0
+  pub loop-begins : (n : ℕ) (l : List ℕ) → l ≡ replicate n 0 → l ≡ summedTo (length l) rules band 0
   loop-begins n l e =
-      e ∙ summed-start n rules band ∙ ap (λ m. gatheredTo m rules band 0) (sym (length-replicate n 0) ∙ ap length (sym e))
+      e ∙ summed-start n rules band ∙ ap (λ m. summedTo m rules band 0) (sym (length-replicate n 0) ∙ ap length (sym e))
 
-  pub loop-turn : (n k : ℕ) (l l′ : List ℕ) → l ≡ gatheredTo n rules band k → l′ ≡ addedToTarget l (getD rules k 0) (getD band k 0)
-      → l′ ≡ gatheredTo n rules band (k + 1)
+  pub loop-turn : (n k : ℕ) (l l′ : List ℕ) → l ≡ summedTo n rules band k → l′ ≡ addedToTarget l (getD rules k 0) (getD band k 0)
+      → l′ ≡ summedTo n rules band (k + 1)
   loop-turn n k l l′ e h = h ∙ ap (λ x. addedToTarget x (getD rules k 0) (getD band k 0)) e ∙ summed-more n rules band k
 
-  pub loop-capped : (n k : ℕ) (l : List ℕ) → l ≡ gatheredTo n rules band k → Capped l
+  pub loop-capped : (n k : ℕ) (l : List ℕ) → l ≡ summedTo n rules band k → Capped l
   loop-capped n k l e j = rw e (summed-capped n rules band k j)
 
-  pub loop-length : (n k : ℕ) (l : List ℕ) → l ≡ gatheredTo n rules band k → length l ≡ n
+  pub loop-length : (n k : ℕ) (l : List ℕ) → l ≡ summedTo n rules band k → length l ≡ n
   loop-length n k l e = ap length e ∙ summed-length n rules band k
 
   -- m is the length that the loop began with.
-  pub loop-ends : (m k : ℕ) (l₀ l : List ℕ) → l₀ ≡ replicate m 0 → l ≡ gatheredTo (length l₀) rules band k → k ≡ min (length rules) (length band)
+  pub loop-ends : (m k : ℕ) (l₀ l : List ℕ) → l₀ ≡ replicate m 0 → l ≡ summedTo (length l₀) rules band k → k ≡ min (length rules) (length band)
       → (length l ≡ m) × (l ≡ tab m (sumByTarget rules band))
-  unfolding gatheredTo
+  unfolding summedTo
   loop-ends m k l₀ l e h end =
       let size : length l₀ ≡ m = ap length e ∙ length-replicate m 0 in
-      (loop-length (length l₀) k l h ∙ size, h ∙ ap₂ (λ n c. gatheredTo n rules band c) size end)
+      (loop-length (length l₀) k l h ∙ size, h ∙ ap₂ (λ n c. summedTo n rules band c) size end)
