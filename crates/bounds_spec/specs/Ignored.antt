@@ -7,15 +7,17 @@ use lib.ListN.{length}
 use Rattle.setchain.specs.Years.{shareFigure, meanFigure, totalFigure}
 use Rattle.scheme.specs.declared.Scheme.{Scheme}
 use Rattle.scheme.specs.Access.{premiumAt}
+use Rattle.scheme.specs.Cause.{premiumOut}
 use Rattle.scheme.specs.Rows.{chainOf}
 use Rattle.scheme.specs.Stored.{cleared}
 use Rattle.scheme.specs.Values.{SameValues}
 use Rattle.scheme.specs.Laws.Cause.{by-cause}
-use Rattle.scheme.specs.Laws.Values.{Alike, same, cleared-alike}
+use Rattle.scheme.specs.Laws.Values.{SameCause, Alike, same, alike-values, alike-same, cleared-alike}
 use Rattle.bounds_spec.specs.declared.Bounds.the-variants.{Answered, Refused}
 use Rattle.bounds_spec.specs.Causes.{shareCause, moneyCause, sheetLengthsCause, tableLengthsCause}
 use Rattle.bounds_spec.specs.Answers.{answerBy, startOf, shareAnswer, meanAnswer, totalAnswer, sheetCause, sheetSlice, figureShares, lowShares, highShares}
 use Rattle.bounds_spec.specs.Table.{figureTable, lowTable, highTable, tableCause}
+use Rattle.bounds_spec.specs.Laws.Causes.{of-share, of-money, of-sheet, of-table, share-cause, money-cause, sheet-cause, table-cause}
 use Rattle.bounds_spec.specs.Laws.Alike as alike
 
 -- Every answer for one scheme is that for the other, and the slices hold the same afterwards.
@@ -39,49 +41,52 @@ answer-same : {n n′ low low′ high high′ : ℕ} → n ≡ n′ → (n ≡ 0
 answer-same e low high = by-cause e (λ z. ap₂ Answered (low z) (high z)) (ap Refused e)
 
 module _ {s s′ : Scheme} (w : Alike s s′) where
+  cause : SameCause s s′
+  cause = alike-same w
+
   -- One figure of each answer, low or high.
   share-figure : (high : Bool) (class year : ℕ) → shareCause s class year ≡ 0
       → shareFigure high (chainOf s) (class - 1) year (startOf s) ≡ shareFigure high (chainOf s′) (class - 1) year (startOf s′)
-  share-figure high class year z = let none = alike.of-share w class year z in alike.share-same (alike.values w none) none high year (class - 1)
+  share-figure high class year z = let none = of-share s class year z in alike.share-same (alike-values w (premiumOut s) none) none high year (class - 1)
 
   mean-figure : (high : Bool) (year : ℕ) → moneyCause s year ≡ 0
       → meanFigure high (chainOf s) (premiumAt s) year (startOf s) ≡ meanFigure high (chainOf s′) (premiumAt s′) year (startOf s′)
-  mean-figure high year z = let none = alike.of-money w year z in alike.mean-same (alike.values w none) none high year
+  mean-figure high year z = let none = of-money s year z in alike.mean-same (alike-values w (premiumOut s) none) none high year
 
   total-figure : (high : Bool) (year : ℕ) → moneyCause s year ≡ 0
       → totalFigure high (chainOf s) (premiumAt s) year (startOf s) ≡ totalFigure high (chainOf s′) (premiumAt s′) year (startOf s′)
-  total-figure high year z = let none = alike.of-money w year z in alike.total-same (alike.values w none) none high year
+  total-figure high year z = let none = of-money s year z in alike.total-same (alike-values w (premiumOut s) none) none high year
 
   -- One slice of a share sheet, and of all figures.
   sheet-slice : (side : Bool) (year : ℕ) (low high before : List ℕ)
       → sheetSlice (sheetCause s year low high) (figureShares side s year) before ≡ sheetSlice (sheetCause s′ year low high) (figureShares side s′ year) before
   unfolding sheetCause
   sheet-slice side year low high before =
-      by-cause (alike.sheet-cause w year (length low) (length high))
-      (λ z. let none = alike.of-sheet w year (length low) (length high) z in alike.shares-same (alike.values w none) none side year) refl
+      by-cause (sheet-cause cause year (length low) (length high))
+      (λ z. let none = of-sheet s year (length low) (length high) z in alike.shares-same (alike-values w (premiumOut s) none) none side year) refl
 
   table-slice : (side : Bool) (low high before : List ℕ)
       → sheetSlice (tableCause s low high) (figureTable side s) before ≡ sheetSlice (tableCause s′ low high) (figureTable side s′) before
   unfolding tableCause
   table-slice side low high before =
-      by-cause (alike.table-cause w (length low) (length high))
-      (λ z. let none = alike.of-table w (length low) (length high) z in alike.table-same (alike.values w none) none side) refl
+      by-cause (table-cause cause (length low) (length high))
+      (λ z. let none = of-table s (length low) (length high) z in alike.table-same (alike-values w (premiumOut s) none) none side) refl
 
   alike-answers : SameAnswers s s′
   unfolding shareAnswer meanAnswer totalAnswer sheetCause tableCause
   alike-answers =
       record {
-        shareNumber = alike.share-cause w;
-        moneyNumber = alike.money-cause w;
-        sheetLengths = alike.sheet-cause w;
-        tableLengths = alike.table-cause w;
-        share = λ class year. answer-same (alike.share-cause w class year) (share-figure false class year) (share-figure true class year);
-        mean = λ year. answer-same (alike.money-cause w year) (mean-figure false year) (mean-figure true year);
-        total = λ year. answer-same (alike.money-cause w year) (total-figure false year) (total-figure true year);
-        sheet = λ year low high. alike.sheet-cause w year (length low) (length high);
+        shareNumber = share-cause cause;
+        moneyNumber = money-cause cause;
+        sheetLengths = sheet-cause cause;
+        tableLengths = table-cause cause;
+        share = λ class year. answer-same (share-cause cause class year) (share-figure false class year) (share-figure true class year);
+        mean = λ year. answer-same (money-cause cause year) (mean-figure false year) (mean-figure true year);
+        total = λ year. answer-same (money-cause cause year) (total-figure false year) (total-figure true year);
+        sheet = λ year low high. sheet-cause cause year (length low) (length high);
         lowSheet = λ year low high. sheet-slice false year low high low;
         highSheet = λ year low high. sheet-slice true year low high high;
-        table = λ low high. alike.table-cause w (length low) (length high);
+        table = λ low high. table-cause cause (length low) (length high);
         lows = λ low high. table-slice false low high low;
         highs = λ low high. table-slice true low high high;
       }

@@ -1,5 +1,6 @@
 -- Read in this order: the causes for which a query is declined, what the calls for bounds answer, tables of all figures, what the answers promise,
--- worked cases, document 01's examples, what the promises forbid, then that values beyond s and m are ignored.
+-- worked cases, document 01's examples, what the promises forbid, that values beyond s and m are ignored,
+-- then that narrower bands move bounds inward.
 pub mod Causes
 pub mod Answers
 pub mod Table
@@ -9,3 +10,5 @@ pub mod Examples
 pub mod PromiseExamples
 pub mod Laws
 pub mod Ignored
+pub mod Inward
+pub mod InwardExamples

@@ -9,6 +9,7 @@ use Rattle.scheme.specs.Tables.{tab, anyBelow}
 use Rattle.scheme.specs.Cause.{sizeOut, startOut, horizonOut, ruleOut, bandOut, sumOut, premiumOut, causeWhere}
 use Rattle.scheme.specs.Stored.{upTo, schemeOf, noScheme}
 use Rattle.scheme.specs.Examples.{schemeA, single}
+use Rattle.scheme.specs.Laws.Values.{same-values}
 use Rattle.big_endian_spec.specs.Numbers.{beBytes}
 use Rattle.record_spec.specs.declared.Band.the-variants.{Ends, NoMore}
 use Rattle.record_spec.specs.declared.WriteAnswer.the-variants.{Written, Declined}
@@ -143,9 +144,9 @@ rereadings =
     record {
       same = rw (answers-read .0) (record {
         number = refl;
-        values = record { classes = refl; columns = refl; start = refl; horizon = refl; rules = λ i k h l. refl; lowers = λ i k h l. refl; uppers = λ i k h l. refl; premiums = λ i h. refl };
+        values = same-values schemeA;
       });
       refused = λ h. omega (arith, h .number);
-      changed = λ h. omega (arith, h .values .start);
+      changed = λ h. omega (arith, h .values .others .start);
       nothing = λ h. omega (arith, h refl .number);
     }

@@ -8,11 +8,11 @@ use lib.ListN.{length, drop}
 use Rattle.scheme.specs.declared.Scheme.{Scheme}
 use Rattle.scheme.specs.Cause.{premiumOut, causeOf}
 use Rattle.scheme.specs.Stored.{cleared}
-use Rattle.scheme.specs.Values.{SameValues}
+use Rattle.scheme.specs.Values.{SameButBands, SameValues}
 use Rattle.scheme.specs.Laws.Cause.{first-none, by-cause}
 use Rattle.scheme.specs.Laws.Judged.{accepted-cause}
 use Rattle.scheme.specs.Laws.Stored.{made-cleared, none-cleared}
-use Rattle.scheme.specs.Laws.Values.{Alike, same, alike-values, alike-next, cleared-alike}
+use Rattle.scheme.specs.Laws.Values.{Alike, same, alike-values, alike-same, next-same, cleared-alike}
 use Rattle.record_spec.specs.declared.ReadAnswer.{ReadAnswer}
 use Rattle.record_spec.specs.declared.WriteAnswer.the-variants.{Written, Declined}
 use Rattle.record_spec.specs.Layout.{version1, lengthOf, schemeIn}
@@ -41,18 +41,18 @@ alike-writing : {s s′ : Scheme} → Alike s s′ → SameWriting s s′
 unfolding writeAnswer writeLeaves
 alike-writing {s} {s′} w =
     record {
-      answer = λ out. by-cause (cause out) (λ z. ap Written (size (values out z))) (ap Declined (cause out));
+      answer = λ out. by-cause (cause out) (λ z. ap Written (size (values out z .others))) (ap Declined (cause out));
       leaves = λ out.
           by-cause (cause out)
-          (λ z. ap₂ (λ l n. l ++ drop n out) (bytes-same version1 (values out z) (accepted-cause s (none out z) .size .someClass)) (size (values out z)))
+          (λ z. ap₂ (λ l n. l ++ drop n out) (bytes-same version1 (values out z) (accepted-cause s (none out z) .size .someClass)) (size (values out z .others)))
           refl;
     }
   where
-    size : SameValues s s′ → recordLength s ≡ recordLength s′
+    size : SameButBands s s′ → recordLength s ≡ recordLength s′
     size v = ap₂ (lengthOf version1) (v .classes) (v .columns)
 
     cause : (out : List ℕ) → writeCause s out ≡ writeCause s′ out
-    cause out = alike-next w (λ v. ap (λ n. cond (ltb (length out) n) 13 0) (size v))
+    cause out = next-same (alike-same w) (λ v. ap (λ n. cond (ltb (length out) n) 13 0) (size v))
 
     none : (out : List ℕ) → writeCause s out ≡ 0 → causeOf s ≡ 0
     none out z = first-none (causeOf s) (cond (ltb (length out) (recordLength s)) 13 0) z

@@ -44,14 +44,14 @@ pub changed-a : ChangedA
 changed-a =
     record {
       none = refl;
-      classes = λ v. omega (arith, v .classes);
-      columns = λ v. omega (arith, v .columns);
-      start = λ v. omega (arith, v .start);
-      horizon = λ v. omega (arith, v .horizon);
-      rule = λ v. omega (arith, v .rules 1 2 (omega arith) (omega arith));
+      classes = λ v. omega (arith, v .others .classes);
+      columns = λ v. omega (arith, v .others .columns);
+      start = λ v. omega (arith, v .others .start);
+      horizon = λ v. omega (arith, v .others .horizon);
+      rule = λ v. omega (arith, v .others .rules 1 2 (omega arith) (omega arith));
       lower = λ v. omega (arith, v .lowers 1 2 (omega arith) (omega arith));
       upper = λ v. omega (arith, v .uppers 1 2 (omega arith) (omega arith));
-      premium = λ v. omega (arith, v .premiums 1 (omega arith));
+      premium = λ v. omega (arith, v .others .premiums 1 (omega arith));
     }
 
 -- Example A with values that would be refused at every place beyond its two classes and three columns.
@@ -79,7 +79,7 @@ unfolding schemeOf upTo tab
 cleared-a = refl
 
 -- What holds for three columns.
-three : (P : ℕ → Type 0) → P 0 → P 1 → P 2 → (k : ℕ) → k < 3 → P k
+pub three : (P : ℕ → Type 0) → P 0 → P 1 → P 2 → (k : ℕ) → k < 3 → P k
 three P a b c zero l = a
 three P a b c (suc k) l = below-two (λ j. P (suc j)) b c k (omega arith)
 
@@ -87,16 +87,19 @@ three P a b c (suc k) l = below-two (λ j. P (suc j)) b c k (omega arith)
 pub beyond-a : SameValues strayA schemeA
 beyond-a =
     record {
-      classes = refl;
-      columns = refl;
-      start = refl;
-      horizon = refl;
-      rules = λ i k l g.
-          below-two (λ j. ruleAt strayA j k ≡ ruleAt schemeA j k)
-          (three (λ q. ruleAt strayA 0 q ≡ ruleAt schemeA 0 q) refl refl refl k g)
-          (three (λ q. ruleAt strayA 1 q ≡ ruleAt schemeA 1 q) refl refl refl k g)
-          i l;
+      others =
+          record {
+            classes = refl;
+            columns = refl;
+            start = refl;
+            horizon = refl;
+            rules = λ i k l g.
+                below-two (λ j. ruleAt strayA j k ≡ ruleAt schemeA j k)
+                (three (λ q. ruleAt strayA 0 q ≡ ruleAt schemeA 0 q) refl refl refl k g)
+                (three (λ q. ruleAt strayA 1 q ≡ ruleAt schemeA 1 q) refl refl refl k g)
+                i l;
+            premiums = λ i l. below-two (λ j. premiumAt strayA j ≡ premiumAt schemeA j) refl refl i l;
+          };
       lowers = λ i k l g. three (λ q. lowerAt strayA i q ≡ lowerAt schemeA i q) refl refl refl k g;
       uppers = λ i k l g. three (λ q. upperAt strayA i q ≡ upperAt schemeA i q) refl refl refl k g;
-      premiums = λ i l. below-two (λ j. premiumAt strayA j ≡ premiumAt schemeA j) refl refl i l;
     }

@@ -12,7 +12,7 @@ use Rattle.scheme.specs.Stored.{cleared}
 use Rattle.scheme.specs.Values.{SameValues}
 use Rattle.scheme.specs.RowAnswer.{rowCause, rowRefused, rowAt, rowAnswer}
 use Rattle.scheme.specs.Laws.Cause.{first-none, second-none, class-fits, by-cause}
-use Rattle.scheme.specs.Laws.Values.{Alike, same, alike-cause, alike-values, alike-next, cleared-alike, class-same, row-same}
+use Rattle.scheme.specs.Laws.Values.{Alike, same, alike-cause, alike-values, alike-same, next-same, cleared-alike, class-same, row-same}
 
 -- "Values stored beyond s or m are ignored": every scheme, accepted or not, has the same first cause as with 0 for them.
 pub cause-ignored : (s : Scheme) → causeOf s ≡ causeOf (cleared s)
@@ -23,7 +23,7 @@ unfolding rowAt
 row-at-same v i l =
     ap₂ {C = RowAnswer}
     (λ n r. record { number = 0; lower = tab 32 (λ j. onlyIf (ltb j n) (r .lower j)); upper = tab 32 (λ j. onlyIf (ltb j n) (r .upper j)) })
-    (v .classes) (row-same v i l)
+    (v .others .classes) (row-same v i l)
 
 alike-row : {s s′ : Scheme} → Alike s s′ → (class : ℕ) → rowAnswer s class ≡ rowAnswer s′ class
 alike-row {s} {s′} w class =
@@ -34,7 +34,7 @@ alike-row {s} {s′} w class =
     (ap rowRefused cause)
   where
     cause : rowCause s class ≡ rowCause s′ class
-    cause = alike-next w (λ v. class-same v class)
+    cause = next-same (alike-same w) (λ v. class-same v class)
 
 -- Schemes with the same values have the same rows, declined or not.
 pub same-row : {s s′ : Scheme} → SameValues s s′ → (class : ℕ) → rowAnswer s class ≡ rowAnswer s′ class

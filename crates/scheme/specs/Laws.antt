@@ -8,3 +8,4 @@ pub mod Tab
 pub mod Filled
 pub mod Stored
 pub mod Values
+pub mod Trimmed

@@ -1,5 +1,6 @@
 -- Read in this order: tables, the scheme's parts, what acceptance asks, the first cause, the code's stages, interval rows,
--- the row operation's answer, what the cells of one class come to, what a made scheme holds, when two schemes have the same values, worked cases.
+-- the row operation's answer, what the cells of one class come to, what a made scheme holds, when two schemes have the same values or one is trimmed,
+-- worked cases.
 -- Ignored proves that values beyond s and m are ignored.
 pub mod Tables
 pub mod Access
@@ -16,4 +17,5 @@ pub mod RowExamples
 pub mod SumByTargetExamples
 pub mod BeyondExamples
 pub mod Laws
+pub mod TrimmedExamples
 pub mod Ignored

@@ -1,5 +1,6 @@
 -- The interval row that bands make (document 01, "Interval rows"). A cell is a claim column: the state that its rule leads to, and its band.
 use Prim.Native.Nat.{ℕ, min, _≤_, _<_}
+use mathlib.Core.Path.{_≡_}
 use lib.Dec.{eqb}
 use Rattle.setchain.specs.Sums.{sumTo, onlyIf}
 use Rattle.setchain.specs.Rows.{ONE, IntervalRow}
@@ -25,3 +26,10 @@ pub record SoundCells (n : ℕ) (c : Cells) : Type 0 where
   pub ordered : (k : ℕ) → k < c .count → c .lower k ≤ c .upper k
   pub lowers : sumTo (c .count) (c .lower) ≤ ONE
   pub uppers : ONE ≤ sumTo (c .count) (c .upper)
+
+-- As many cells that lead to the same states, each band of `narrow` inside the matching band of `wide`.
+pub record BandsWithin (wide narrow : Cells) : Type 0 where
+  pub count : wide .count ≡ narrow .count
+  pub targets : (k : ℕ) → k < wide .count → wide .target k ≡ narrow .target k
+  pub lowers : (k : ℕ) → k < wide .count → wide .lower k ≤ narrow .lower k
+  pub uppers : (k : ℕ) → k < wide .count → narrow .upper k ≤ wide .upper k

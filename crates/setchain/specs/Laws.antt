@@ -1,5 +1,6 @@
 -- The lemmas behind the theorems, by subject.
 pub mod Sums
+pub mod NotAfter
 pub mod Certificate
 pub mod Fractions
 pub mod Fill

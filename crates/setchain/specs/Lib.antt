@@ -1,4 +1,4 @@
--- Read in this order: what a bound means (Sums to Promise), then that it holds (Theorems), then worked figures (Examples).
+-- Read in this order: what a bound means (Sums to Promise), then that it holds (Theorems) and moves inward with narrower rows (Inward), then worked figures.
 -- Laws has the lemmas by which the theorems are proved.
 pub mod Sums
 pub mod Fractions
@@ -11,5 +11,7 @@ pub mod Picks
 pub mod Promise
 pub mod Laws
 pub mod Theorems
+pub mod Inward
 pub mod Examples
 pub mod PromiseExamples
+pub mod InwardExamples

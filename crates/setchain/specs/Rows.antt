@@ -31,6 +31,10 @@ pub record Inside (n : ℕ) (r : IntervalRow) (q : Row) : Type 0 where
   pub above : (j : ℕ) → j < n → r .lower j * q .over ≤ q .entry j * ONE
   pub below : (j : ℕ) → j < n → q .entry j * ONE ≤ r .upper j * q .over
 
+-- Every stochastic row inside `narrow` lies inside `wide` too.
+abbrev pub Covers : ℕ → (wide narrow : IntervalRow) → Type 0
+Covers n wide narrow = (q : Row) → Inside n narrow q → Inside n wide q
+
 -- A row of whole parts: a stochastic row over ONE.
 abbrev pub ofParts : (ℕ → ℕ) → Row
 ofParts p = record { over = ONE; entry = p }
@@ -43,3 +47,8 @@ pub record SetChain : Type 0 where
 -- Every row of the chain is sound.
 abbrev pub SoundChain : SetChain → Type 0
 SoundChain c = (i : ℕ) → i < c .states → SoundRow (c .states) (c .row i)
+
+-- Chains over the same states, each row of one covering that of the other.
+pub record CoversChain (wide narrow : SetChain) : Type 0 where
+  pub states : wide .states ≡ narrow .states
+  pub rows : (i : ℕ) → i < wide .states → Covers (wide .states) (wide .row i) (narrow .row i)

@@ -23,10 +23,10 @@ module _ {s s′ : Scheme} (w : Alike s s′) (payoff payoff′ : List ℕ) (pay
   cause-same : stepCause s payoff class ≡ stepCause s′ payoff′ class
   unfolding payoffOut
   cause-same =
-      by-cause cause (λ z. class-same (alike-values w _ z) class) cause
+      by-cause cause (λ z. class-same (alike-values w _ z .others) class) cause
     where
       cause : causeWhere s (premiumOut s || payoffOut s payoff) ≡ causeWhere s′ (premiumOut s′ || payoffOut s′ payoff′)
-      cause = alike-where w (λ v. ap₂ _||_ (premiums-same v) (any-eq (v .classes) _ _ (λ i l. ap (ltb 1000000000) (payoffs i l))))
+      cause = alike-where w (λ v. ap₂ _||_ (premiums-same (v .others)) (any-eq (v .others .classes) _ _ (λ i l. ap (ltb 1000000000) (payoffs i l))))
 
   module _ (z : stepCause s payoff class ≡ 0) where
     values : SameValues s s′
@@ -46,13 +46,13 @@ module _ {s s′ : Scheme} (w : Alike s s′) (payoff payoff′ : List ℕ) (pay
             ∙ by-cause cause-same
             (λ z.
             step-agrees (agree-refl (s .classes) (classRow s class)) payoffs high
-            ∙ ap₂ (λ n q. stepFigure high n q (at payoff′)) (values z .classes) (row z))
+            ∙ ap₂ (λ n q. stepFigure high n q (at payoff′)) (values z .others .classes) (row z))
             refl;
         size = a .size;
         declinedRow = a .declinedRow;
         beyond = λ z j l. let v = values (sym (a .number) ∙ z) in a .beyond z j (omega arith);
         reaches = λ z.
-            subst₂ (λ n q. Reaches high n q (at payoff′) (at (r .row)) (r .figure)) (values (sym (a .number) ∙ z) .classes) (row (sym (a .number) ∙ z))
+            subst₂ (λ n q. Reaches high n q (at payoff′) (at (r .row)) (r .figure)) (values (sym (a .number) ∙ z) .others .classes) (row (sym (a .number) ∙ z))
             (reaches-agree (agree-refl (s .classes) (classRow s class)) payoffs (λ j l. refl) (a .reaches z));
       }
 

@@ -1,5 +1,6 @@
 -- Read in this order: the answer of the public one-year step, worked cases.
--- Ignored proves that values beyond s and m are ignored, and payoffs beyond s.
+-- Ignored proves that values beyond s and m are ignored, and payoffs beyond s; Inward that narrower bands move the figures inward.
 pub mod StepAnswer
 pub mod Examples
 pub mod Ignored
+pub mod Inward

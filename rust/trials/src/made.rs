@@ -128,6 +128,53 @@ fn set_bands(rng: &mut Rng, scheme: &mut Scheme) {
     }
 }
 
+/// Numbers from the lower to the upper ends that sum to ONE.
+fn between_ends(rng: &mut Rng, lowers: &[u32], uppers: &[u32]) -> Vec<u64> {
+    let mut parts: Vec<u64> = lowers.iter().map(|&lower| u64::from(lower)).collect();
+    let mut rest = ONE - parts.iter().sum::<u64>();
+    let mut places: Vec<usize> = (0..parts.len()).collect();
+    rng.shuffle(&mut places);
+    // Once round at random, and once more for what is left.
+    for whole in [false, true] {
+        for &place in &places {
+            let room = rest.min(u64::from(uppers[place]) - parts[place]);
+            let more = if whole { room } else { rng.between(0, room) };
+            parts[place] += more;
+            rest -= more;
+        }
+    }
+    assert_eq!(rest, 0);
+    parts
+}
+
+/// An accepted scheme that is equal but for its bands, each of them inside the
+/// matching band; other junk beyond s and m now and then.
+pub fn trimmed(rng: &mut Rng, scheme: &Scheme) -> Scheme {
+    let m = usize::from(scheme.columns);
+    let parts = between_ends(rng, &scheme.lowers[..m], &scheme.uppers[..m]);
+    let mut narrow = cleared(scheme);
+    for (k, &part) in parts.iter().enumerate() {
+        let (lower, upper) = (u64::from(scheme.lowers[k]), u64::from(scheme.uppers[k]));
+        // Each end stays, goes to the part, or goes part of the way.
+        narrow.lowers[k] = match rng.below(4) {
+            0 | 1 => lower,
+            2 => part,
+            _ => rng.between(lower, part),
+        } as u32;
+        narrow.uppers[k] = match rng.below(4) {
+            0 | 1 => upper,
+            2 => part,
+            _ => rng.between(part, upper),
+        } as u32;
+    }
+    if rng.once_in(3) {
+        narrow.lowers[m..].fill_with(|| rng.draw() as u32);
+        narrow.uppers[m..].fill_with(|| rng.draw() as u32);
+    }
+    assert_eq!(plain::cause(&narrow), 0);
+    narrow
+}
+
 fn set_premiums(rng: &mut Rng, scheme: &mut Scheme) {
     let s = usize::from(scheme.classes);
     let kind = rng.below(6);

@@ -14,9 +14,8 @@ use Rattle.setchain.specs.Theorems.{share-promise, mean-promise, total-promise,
 use Rattle.scheme.specs.declared.Scheme.{Scheme}
 use Rattle.scheme.specs.Access.{premiumAt}
 use Rattle.scheme.specs.Accepted.{Accepted}
-use Rattle.scheme.specs.Cause.{causeOf, orElse, classCause, yearCause, slicesCause}
 use Rattle.scheme.specs.Rows.{chainOf}
-use Rattle.scheme.specs.Laws.Cause.{declined, answered, first-none}
+use Rattle.scheme.specs.Laws.Cause.{declined, answered}
 use Rattle.scheme.specs.Laws.Judged.{accepted-cause}
 use Rattle.scheme.specs.Laws.Sound.{accepted-sound}
 use Rattle.scheme.specs.Laws.Tab.{getD-tab}
@@ -26,7 +25,8 @@ use Rattle.bounds_spec.specs.Answers.{sheetCause, sheetSlice, figureShar
 use Rattle.bounds_spec.specs.Promises.{Kept, startShare, startMean, startTotal, SharePromise, MeanPromise, TotalPromise, SheetPromise, TableKept, FiguresPromise}
 use Rattle.bounds_spec.specs.Table.{lowTable, highTable, tableCause}
 use Rattle.bounds_spec.specs.Laws.Table.{share-at, mean-at, total-at}
-use Rattle.bounds_spec.specs.Causes.{shareCause, moneyCause, tableSize}
+use Rattle.bounds_spec.specs.Causes.{shareCause, moneyCause}
+use Rattle.bounds_spec.specs.Laws.Causes.{of-share, of-money, of-sheet, of-table}
 
 -- A promise for every state, at the start class.
 at-start : (s : Scheme) → Accepted s → (t : ℕ) (low high : ℕ → ℕ) (exact : List Matrix → ℕ → Fraction) → Promise (chainOf s) t low high exact
@@ -75,19 +75,19 @@ pub share-kept : (s : Scheme) (class year : ℕ) → SharePromise s class year (
 unfolding shareAnswer
 share-kept s class year =
     kept-answer s year (shareCause s class year) _ _ (startShare s (class - 1))
-    (λ z. share-at-start s (accepted-cause s (first-none (causeOf s) (orElse (classCause s class) (yearCause s year)) z)) year (class - 1))
+    (λ z. share-at-start s (accepted-cause s (of-share s class year z)) year (class - 1))
 
 pub mean-kept : (s : Scheme) (year : ℕ) → MeanPromise s year (meanAnswer s year)
 unfolding meanAnswer
 mean-kept s year =
     kept-answer s year (moneyCause s year) _ _ (startMean s)
-    (λ z. mean-at-start s (accepted-cause s (first-none (causeOf s) (yearCause s year) z)) year)
+    (λ z. mean-at-start s (accepted-cause s (of-money s year z)) year)
 
 pub total-kept : (s : Scheme) (year : ℕ) → TotalPromise s year (totalAnswer s year)
 unfolding totalAnswer
 total-kept s year =
     kept-answer s year (moneyCause s year) _ _ (startTotal s)
-    (λ z. total-at-start s (accepted-cause s (first-none (causeOf s) (yearCause s year) z)) year)
+    (λ z. total-at-start s (accepted-cause s (of-money s year z)) year)
 
 -- Of the slices as a share sheet leaves them.
 pub sheet-kept : (s : Scheme) (year : ℕ) (low high : List ℕ)
@@ -101,7 +101,7 @@ sheet-kept s year low high z j l = subst₂ (Kept s year (startShare s j)) (sym 
     number = sheetCause s year low high
 
     ok : Accepted s
-    ok = accepted-cause s (first-none (causeOf s) (yearCause s year) (first-none (moneyCause s year) (slicesCause (s .classes) (length low) (length high)) z))
+    ok = accepted-cause s (of-sheet s year (length low) (length high) z)
 
     written : (side : Bool) (before : List ℕ) → getD (sheetSlice number (figureShares side s year) before) j 0 ≡ shareFigure side (chainOf s) j year (startOf s)
     written side before =
@@ -130,4 +130,4 @@ figures-kept s low high z =
     subst₂ (λ a b. TableKept s a b)
     (sym (answered (tableCause s low high) (lowTable s) low z))
     (sym (answered (tableCause s low high) (highTable s) high z))
-    (table-kept s (accepted-cause s (first-none (causeOf s) (slicesCause (tableSize s) (length low) (length high)) z)))
+    (table-kept s (accepted-cause s (of-table s (length low) (length high) z)))

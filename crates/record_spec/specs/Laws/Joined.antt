@@ -26,18 +26,18 @@ as-many {n} e f g h = joined-eq n f g h ∙ ap (λ k. joined k g) e
 -- The record is that of the values up to s and m: the bands are those of the first class.
 module _ (y : Layout) {s s′ : Scheme} (v : SameValues s s′) (some : 0 < s .classes) where
   header-same : headerOf y s ≡ headerOf y s′
-  header-same = λ t. headerBytes (y .version) (lengthOf y (v .classes t) (v .columns t)) (v .classes t) (v .columns t) (v .start t) (v .horizon t)
+  header-same = λ t. headerBytes (y .version) (lengthOf y (v .others .classes t) (v .others .columns t)) (v .others .classes t) (v .others .columns t) (v .others .start t) (v .others .horizon t)
 
   rules-same : rulesOf s ≡ rulesOf s′
   rules-same =
-      as-many (v .classes) _ _
-      (λ i l. tab-eq 0 (s .columns) (ruleAt s i) (ruleAt s′ i) (λ k g. v .rules i k l g) ∙ ap (λ m. tab m (ruleAt s′ i)) (v .columns))
+      as-many (v .others .classes) _ _
+      (λ i l. tab-eq 0 (s .columns) (ruleAt s i) (ruleAt s′ i) (λ k g. v .others .rules i k l g) ∙ ap (λ m. tab m (ruleAt s′ i)) (v .others .columns))
 
   bands-same : bandsOf s ≡ bandsOf s′
-  bands-same = as-many (v .columns) _ _ (λ k g. ap₂ bandBytes (v .lowers 0 k some g) (v .uppers 0 k some g))
+  bands-same = as-many (v .others .columns) _ _ (λ k g. ap₂ bandBytes (v .lowers 0 k some g) (v .uppers 0 k some g))
 
   premiums-same : premiumsOf y s ≡ premiumsOf y s′
-  premiums-same = as-many (v .classes) _ _ (λ i l. ap (beBytes (y .width)) (v .premiums i l))
+  premiums-same = as-many (v .others .classes) _ _ (λ i l. ap (beBytes (y .width)) (v .others .premiums i l))
 
   pub bytes-same : bytesOf y s ≡ bytesOf y s′
   unfolding bytesOf

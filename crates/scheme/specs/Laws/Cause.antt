@@ -1,6 +1,6 @@
 -- Laws of the first cause: what each test tells, and how the stages of the code make the whole.
 use Prim.Native.Nat.{ℕ, _≤_, _<_}
-use mathlib.Core.Path.{_≡_, refl, ap, ap₂, sym, _∙_}
+use mathlib.Core.Path.{_≡_, refl, ap, ap₂, sym, _∙_, subst₂}
 use mathlib.Core.Bool.{Bool, true, false, cond, not, true≢false}
 use lib.Dec.{eqb, ltb}
 use native.Mathlib.Decide.{ℕ-discrete}
@@ -84,13 +84,23 @@ declined n x y h = ap (λ b. cond b x y) (ne-eqb n 0 h)
 pub answered {ℓ} : {A : Type ℓ} (n : ℕ) (x y : A) → n ≡ 0 → cond (eqb n 0) x y ≡ x
 answered n x y e = ap (λ b. cond b x y) (eq-eqb n 0 e)
 
--- Answers with the same cause are the same, where what they answer without one is.
-pub by-cause {ℓ} : {A : Type ℓ} {n n′ : ℕ} {x x′ y y′ : A} → n ≡ n′ → (n ≡ 0 → x ≡ x′) → y ≡ y′ → cond (eqb n 0) x y ≡ cond (eqb n′ 0) x′ y′
-by-cause {n = n} {n′ = n′} {x = x} {x′ = x′} {y = y} {y′ = y′} e same other = by (ℕ-discrete n 0)
+-- What is related for either outcome of a test is related.
+pub test-related {ℓ ℓ′} : {A : Type ℓ} (R : A → A → Type ℓ′) (b : Bool) {x x′ y y′ : A} → R x x′ → R y y′ → R (cond b x y) (cond b x′ y′)
+test-related R true h k = h
+test-related R false h k = k
+
+-- Answers with the same cause are related, where what they answer without one is, and what they leave with one.
+pub cause-related {ℓ ℓ′} : {A : Type ℓ} (R : A → A → Type ℓ′) {n n′ : ℕ} {x x′ y y′ : A} → n ≡ n′ → (n ≡ 0 → R x x′) → R y y′
+    → R (cond (eqb n 0) x y) (cond (eqb n′ 0) x′ y′)
+cause-related R {n = n} {n′ = n′} {x = x} {x′ = x′} {y = y} {y′ = y′} e same other = by (ℕ-discrete n 0)
   where
-    by : Dec (n ≡ 0) → cond (eqb n 0) x y ≡ cond (eqb n′ 0) x′ y′
-    by (yes z) = answered n x y z ∙ same z ∙ sym (answered n′ x′ y′ (sym e ∙ z))
-    by (no h) = declined n x y h ∙ other ∙ sym (declined n′ x′ y′ (λ z. h (e ∙ z)))
+    by : Dec (n ≡ 0) → R (cond (eqb n 0) x y) (cond (eqb n′ 0) x′ y′)
+    by (yes z) = subst₂ R (sym (answered n x y z)) (sym (answered n′ x′ y′ (sym e ∙ z))) (same z)
+    by (no h) = subst₂ R (sym (declined n x y h)) (sym (declined n′ x′ y′ (λ z. h (e ∙ z)))) other
+
+-- They are the same.
+pub by-cause {ℓ} : {A : Type ℓ} {n n′ : ℕ} {x x′ y y′ : A} → n ≡ n′ → (n ≡ 0 → x ≡ x′) → y ≡ y′ → cond (eqb n 0) x y ≡ cond (eqb n′ 0) x′ y′
+by-cause e same other = cause-related _≡_ e same other
 
 -- Over the tests' outcomes: a stage's number that is not 0 is the whole's, and 0 leads on to the rest.
 form-hit : (a b c : Bool) (rest n : ℕ) → n ≡ cond a 3 (cond b 5 (cond c 6 0)) → (n ≡ 0 → ⊥) → n ≡ cond a 3 (cond b 5 (cond c 6 rest))

@@ -1,6 +1,6 @@
 -- The first cause is 0 exactly when the scheme is accepted; any other number is a cause that holds, with none before it.
 use Prim.Native.Nat.{ℕ, _≤_, _<_}
-use mathlib.Core.Path.{_≡_, refl, sym, _∙_}
+use mathlib.Core.Path.{_≡_, refl, ap, sym, _∙_}
 use mathlib.Core.Bool.{Bool, true, false, cond, _||_, true≢false}
 use lib.Dec.{ltb}
 use native.Mathlib.Omega.{arith}
@@ -154,10 +154,10 @@ module _ (s : Scheme) where
   judged =
       by-tests (sizeOut s) (startOut s) (horizonOut s) (ruleOut s) (bandOut s) (sumOut s) (premiumOut s) refl refl refl refl refl refl refl
 
-  -- "A scheme is accepted exactly when this list holds".
-  pub cause-accepted : Accepted s → causeOf s ≡ 0
+  -- An accepted scheme leaves cause 10, by whatever test.
+  pub where-accepted : Accepted s → (moneyOut : Bool) → causeWhere s moneyOut ≡ cond moneyOut 10 0
   unfolding causeWhere
-  cause-accepted h =
+  where-accepted h moneyOut =
       simp (
         size-tells .passes (h .size),
         start-tells .passes (h .start),
@@ -165,8 +165,11 @@ module _ (s : Scheme) where
         rules-tell .passes (h .rules),
         bands-tell .passes (h .bands),
         sums-tell .passes (h .sums),
-        premiums-tell .passes (h .premiums),
       )
+
+  -- "A scheme is accepted exactly when this list holds".
+  pub cause-accepted : Accepted s → causeOf s ≡ 0
+  cause-accepted h = where-accepted h (premiumOut s) ∙ ap (λ b. cond b 10 0) (premiums-tell .passes (h .premiums))
 
   no-refusal : (n : ℕ) → n ≡ 0 → Judged n → Accepted s
   no-refusal n e (accepted h) = h

@@ -1,9 +1,11 @@
 -- Laws of lists written by a rule.
-use Prim.Native.Nat.{ℕ, zero, suc, _<_}
-use mathlib.Core.Path.{_≡_, refl, ap, sym, _∙_}
+use Prim.Native.Nat.{ℕ, zero, suc, _≤_, _<_}
+use mathlib.Core.Path.{_≡_, refl, ap, sym, _∙_, subst₂}
 use mathlib.Core.List.{List}
-use lib.ListN.{length, getD}
+use lib.ListN.{length, getD, List·getD-eq-default}
 use lib.Seq.{ext-getD}
+use native.Mathlib.Decide.{decLt}
+use native.Mathlib.Omega.{arith}
 use native.Mathlib.Nat.{not-suc-le-zero, le-of-suc-le-suc}
 use Rattle.scheme.specs.Tables.{tab}
 
@@ -28,3 +30,15 @@ module _ {ℓ} {A : Type ℓ} where
   -- Equal at each place.
   pub tab-eq : (d : A) (n : ℕ) (f g : ℕ → A) → ((i : ℕ) → i < n → f i ≡ g i) → tab n f ≡ tab n g
   tab-eq d n f g h = as-tab d (tab n f) n g (length-tab n f) (λ i l. getD-tab n f i d l ∙ h i l)
+
+-- Related at each place, and so are the defaults past the end.
+pub tab-related : (R : ℕ → ℕ → Type 0) → R 0 0 → {n n′ : ℕ} → n ≡ n′ → (f g : ℕ → ℕ) → ((i : ℕ) → i < n → R (f i) (g i)) → (i : ℕ)
+    → R (getD (tab n f) i 0) (getD (tab n′ g) i 0)
+tab-related R none {n} {n′} e f g h i = by (decLt i n)
+  where
+    past : (n : ℕ) (f : ℕ → ℕ) → n ≤ i → 0 ≡ getD (tab n f) i 0
+    past n f l = sym (List·getD-eq-default (tab n f) 0 {n = i} (omega (arith, length-tab n f)))
+
+    by : Dec (i < n) → R (getD (tab n f) i 0) (getD (tab n′ g) i 0)
+    by (yes l) = subst₂ R (sym (getD-tab n f i 0 l)) (sym (getD-tab n′ g i 0 (omega arith))) (h i l)
+    by (no l) = subst₂ R (past n f (omega arith)) (past n′ g (omega arith)) none

@@ -13,7 +13,7 @@ use Rattle.scheme.specs.Accepted.{SizeFits}
 use Rattle.scheme.specs.Cause.{outside, bandTest, sizeOut, startOut, horizonOut, ruleOut, bandOut, sumOut, premiumOut, causeWhere, causeOf, orElse, classCause, yearCause}
 use Rattle.scheme.specs.Rows.{chainOf}
 use Rattle.scheme.specs.Stored.{schemeOf, cleared}
-use Rattle.scheme.specs.Values.{SameValues}
+use Rattle.scheme.specs.Values.{SameButBands, SameValues}
 use Rattle.scheme.specs.Laws.Tables.{any-eq}
 use Rattle.scheme.specs.Laws.Cause.{cond-true, by-cause}
 use Rattle.scheme.specs.Laws.Judged.{size-tells}
@@ -23,21 +23,28 @@ use Rattle.scheme.specs.Laws.Stored.{stored-at, rule-stored}
 cells-eq : {n n′ : ℕ} → n ≡ n′ → (f g : ℕ → ℕ) → ((k : ℕ) → k < n → f k ≡ g k) → sumTo n f ≡ sumTo n′ g
 cells-eq {n} e f g h = sumTo-eq n f g h ∙ ap (λ x. sumTo x g) e
 
-module _ {s s′ : Scheme} (v : SameValues s s′) where
-  pub same-back : SameValues s′ s
-  same-back =
+-- A scheme has its own values.
+pub same-values : (s : Scheme) → SameValues s s
+same-values s =
+    record {
+      others = record { classes = refl; columns = refl; start = refl; horizon = refl; rules = λ i k l g. refl; premiums = λ i l. refl };
+      lowers = λ i k l g. refl;
+      uppers = λ i k l g. refl;
+    }
+
+module _ {s s′ : Scheme} (v : SameButBands s s′) where
+  others-back : SameButBands s′ s
+  others-back =
       record {
         classes = sym (v .classes);
         columns = sym (v .columns);
         start = sym (v .start);
         horizon = sym (v .horizon);
-        rules = λ i k l g. sym (v .rules i k (omega arith) (omega arith));
-        lowers = λ i k l g. sym (v .lowers i k (omega arith) (omega arith));
-        uppers = λ i k l g. sym (v .uppers i k (omega arith) (omega arith));
-        premiums = λ i l. sym (v .premiums i (omega arith));
+        rules = λ i k l g. sym (v .rules i k (omega (arith, v .classes)) (omega (arith, v .columns)));
+        premiums = λ i l. sym (v .premiums i (omega (arith, v .classes)));
       }
 
-  -- The outcome of each test.
+  -- The outcome of each test that looks at no band.
   size-same : sizeOut s ≡ sizeOut s′
   unfolding sizeOut
   size-same = ap₂ (λ n m. outside 32 n || outside 8 m) (v .classes) (v .columns)
@@ -55,30 +62,9 @@ module _ {s s′ : Scheme} (v : SameValues s s′) where
   rules-same =
       any-eq (v .classes) _ _ (λ i l. any-eq (v .columns) _ _ (λ k g. ap₂ outside (v .classes) (v .rules i k l g)))
 
-  bands-same : bandOut s ≡ bandOut s′
-  unfolding bandOut
-  bands-same =
-      any-eq (v .classes) _ _ (λ i l. any-eq (v .columns) _ _ (λ k g. ap₂ bandTest (v .lowers i k l g) (v .uppers i k l g)))
-
-  sums-same : sumOut s ≡ sumOut s′
-  unfolding sumOut
-  sums-same =
-      any-eq (v .classes) _ _
-      (λ i l.
-      ap₂ (λ x y. ltb ONE x || ltb y ONE)
-      (cells-eq (v .columns) (lowerAt s i) (lowerAt s′ i) (λ k g. v .lowers i k l g))
-      (cells-eq (v .columns) (upperAt s i) (upperAt s′ i) (λ k g. v .uppers i k l g)))
-
   pub premiums-same : premiumOut s ≡ premiumOut s′
   unfolding premiumOut
   premiums-same = any-eq (v .classes) _ _ (λ i l. ap (ltb 10000000) (v .premiums i l))
-
-  pub where-same : {a a′ : Bool} → a ≡ a′ → causeWhere s a ≡ causeWhere s′ a′
-  unfolding causeWhere
-  where-same e = rw (size-same, start-same, horizon-same, rules-same, bands-same, sums-same, e)
-
-  pub cause-same : causeOf s ≡ causeOf s′
-  cause-same = where-same premiums-same
 
   pub class-same : (class : ℕ) → classCause s class ≡ classCause s′ class
   class-same class = ap (λ n. cond (outside n class) 11 0) (v .classes)
@@ -86,12 +72,54 @@ module _ {s s′ : Scheme} (v : SameValues s s′) where
   pub year-same : (year : ℕ) → yearCause s year ≡ yearCause s′ year
   year-same year = ap (λ h. cond (ltb h year) 12 0) (v .horizon)
 
+-- The same first cause, and the same values but for the bands where there is none: all that a cause looks at which is tested after the scheme's own.
+pub record SameCause (s s′ : Scheme) : Type 0 where
+  pub cause : causeOf s ≡ causeOf s′
+  pub others : causeOf s ≡ 0 → SameButBands s s′
+
+-- A cause that is tested after the scheme's own.
+pub next-same : {s s′ : Scheme} → SameCause s s′ → {n n′ : ℕ} → (SameButBands s s′ → n ≡ n′) → orElse (causeOf s) n ≡ orElse (causeOf s′) n′
+next-same w e = by-cause (w .cause) (λ z. e (w .others z)) (w .cause)
+
+module _ {s s′ : Scheme} (v : SameValues s s′) where
+  abbrev others : SameButBands s s′
+  others = v .others
+
+  pub same-back : SameValues s′ s
+  same-back =
+      record {
+        others = others-back others;
+        lowers = λ i k l g. sym (v .lowers i k (omega (arith, others .classes)) (omega (arith, others .columns)));
+        uppers = λ i k l g. sym (v .uppers i k (omega (arith, others .classes)) (omega (arith, others .columns)));
+      }
+
+  bands-same : bandOut s ≡ bandOut s′
+  unfolding bandOut
+  bands-same =
+      any-eq (others .classes) _ _ (λ i l. any-eq (others .columns) _ _ (λ k g. ap₂ bandTest (v .lowers i k l g) (v .uppers i k l g)))
+
+  sums-same : sumOut s ≡ sumOut s′
+  unfolding sumOut
+  sums-same =
+      any-eq (others .classes) _ _
+      (λ i l.
+      ap₂ (λ x y. ltb ONE x || ltb y ONE)
+      (cells-eq (others .columns) (lowerAt s i) (lowerAt s′ i) (λ k g. v .lowers i k l g))
+      (cells-eq (others .columns) (upperAt s i) (upperAt s′ i) (λ k g. v .uppers i k l g)))
+
+  pub where-same : {a a′ : Bool} → a ≡ a′ → causeWhere s a ≡ causeWhere s′ a′
+  unfolding causeWhere
+  where-same e = rw (size-same others, start-same others, horizon-same others, rules-same others, bands-same, sums-same, e)
+
+  pub cause-same : causeOf s ≡ causeOf s′
+  cause-same = where-same (premiums-same others)
+
   -- The interval row of each class, at every class.
   module _ (i : ℕ) (l : i < s .classes) where
     into-same : (band band′ : ℕ → ℕ) → ((k : ℕ) → k < cellCount s → band k ≡ band′ k) → (j : ℕ)
         → sumTo (cellCount s) (λ k. onlyIf (eqb (ruleAt s i k - 1) j) (band k)) ≡ sumTo (cellCount s′) (λ k. onlyIf (eqb (ruleAt s′ i k - 1) j) (band′ k))
     into-same band band′ same j =
-        cells-eq (v .columns) _ _ (λ k g. ap₂ (λ rule end. onlyIf (eqb (rule - 1) j) end) (v .rules i k l g) (same k g))
+        cells-eq (others .columns) _ _ (λ k g. ap₂ (λ rule end. onlyIf (eqb (rule - 1) j) end) (others .rules i k l g) (same k g))
 
     pub lower-same : (j : ℕ) → chainOf s .row i .lower j ≡ chainOf s′ .row i .lower j
     lower-same = into-same (lowerAt s i) (lowerAt s′ i) (λ k g. v .lowers i k l g)
@@ -107,14 +135,17 @@ pub cleared-values : (s : Scheme) → SizeFits s → SameValues s (cleared s)
 unfolding schemeOf
 cleared-values s h =
     record {
-      classes = refl;
-      columns = refl;
-      start = refl;
-      horizon = refl;
-      rules = λ i k l g. sym (rule-stored (s .classes) (s .columns) (ruleAt s) i k (omega arith) (omega arith) l g);
+      others =
+          record {
+            classes = refl;
+            columns = refl;
+            start = refl;
+            horizon = refl;
+            rules = λ i k l g. sym (rule-stored (s .classes) (s .columns) (ruleAt s) i k (omega arith) (omega arith) l g);
+            premiums = λ i l. sym (stored-at 32 (s .classes) (premiumAt s) i (omega arith) l);
+          };
       lowers = λ i k l g. sym (stored-at 8 (s .columns) (lowerAt s 0) k (omega arith) g);
       uppers = λ i k l g. sym (stored-at 8 (s .columns) (upperAt s 0) k (omega arith) g);
-      premiums = λ i l. sym (stored-at 32 (s .classes) (premiumAt s) i (omega arith) l);
     }
 
 -- A size out of range is cause 3, whatever else holds.
@@ -141,11 +172,10 @@ module _ {s s′ : Scheme} where
   alike-values (sizesOut o o′) moneyOut z = let e = size-first s moneyOut o in absurd (omega arith)
 
   pub alike-cause : Alike s s′ → causeOf s ≡ causeOf s′
-  alike-cause w = alike-where w premiums-same
+  alike-cause w = alike-where w (λ v. premiums-same (v .others))
 
-  -- A cause that is tested after the scheme's own.
-  pub alike-next : Alike s s′ → {n n′ : ℕ} → (SameValues s s′ → n ≡ n′) → orElse (causeOf s) n ≡ orElse (causeOf s′) n′
-  alike-next w e = by-cause (alike-cause w) (λ z. e (alike-values w (premiumOut s) z)) (alike-cause w)
+  pub alike-same : Alike s s′ → SameCause s s′
+  alike-same w = record { cause = alike-cause w; others = λ z. alike-values w (premiumOut s) z .others }
 
   pub alike-back : Alike s s′ → Alike s′ s
   alike-back (same v) = same (same-back v)

@@ -1,11 +1,12 @@
--- Bands in order whose sums enclose ONE give a sound interval row.
+-- Bands in order whose sums enclose ONE give a sound interval row, and bands inside bands give rows inside rows.
 use Prim.Native.Nat.{ℕ, _≤_, _<_}
-use mathlib.Core.Path.{_≡_, ap, _∙_}
+use mathlib.Core.Path.{_≡_, ap, sym, _∙_, subst}
 use lib.Dec.{eqb}
 use native.Mathlib.Omega.{arith}
+use native.Mathlib.Nat.{le-trans, mul-le-mul-right}
 use Rattle.setchain.specs.Sums.{sumTo, onlyIf}
-use Rattle.setchain.specs.Rows.{ONE, SoundRow}
-use Rattle.setchain.specs.Cells.{Cells, sumInto, rowOf, SoundCells}
+use Rattle.setchain.specs.Rows.{ONE, IntervalRow, SoundRow, Covers}
+use Rattle.setchain.specs.Cells.{Cells, sumInto, rowOf, SoundCells, BandsWithin}
 use Rattle.setchain.specs.Laws.Sums.{onlyIf-le, onlyIf-mono, eqb-flip, sumTo-eq, sumTo-le, sumTo-swap, sumTo-point, min-sum-le}
 
 module _ (n : ℕ) (c : Cells) (sound : SoundCells n c) where
@@ -39,3 +40,41 @@ module _ (n : ℕ) (c : Cells) (sound : SoundCells n c) where
         lowers = omega (arith, sum-of-sums (c .lower), sound .lowers);
         uppers = omega (arith, min-sum-le n ONE (sumInto c (c .upper)), sum-of-sums (c .upper), sound .uppers);
       }
+
+-- Entries inside entries are rows inside rows.
+pub entries-cover : (n : ℕ) (wide narrow : IntervalRow) → ((j : ℕ) → j < n → wide .lower j ≤ narrow .lower j) → ((j : ℕ) → j < n → narrow .upper j ≤ wide .upper j)
+    → Covers n wide narrow
+entries-cover n wide narrow lowers uppers q inside =
+    record {
+      positive = inside .positive;
+      sums = inside .sums;
+      above = λ j l. le-trans (mul-le-mul-right (q .over) (lowers j l)) (inside .above j l);
+      below = λ j l. le-trans (inside .below j l) (mul-le-mul-right (q .over) (uppers j l));
+    }
+
+-- Ends in order cell by cell, summed where columns merge.
+into-mono : (count : ℕ) (target target′ band band′ : ℕ → ℕ) → ((k : ℕ) → k < count → target k ≡ target′ k) → ((k : ℕ) → k < count → band k ≤ band′ k) → (j : ℕ)
+    → sumTo count (λ k. onlyIf (eqb (target k) j) (band k)) ≤ sumTo count (λ k. onlyIf (eqb (target′ k) j) (band′ k))
+into-mono count target target′ band band′ targets bands j =
+    sumTo-le count (λ k. onlyIf (eqb (target k) j) (band k)) (λ k. onlyIf (eqb (target′ k) j) (band′ k))
+    (λ k l.
+    subst (λ s. onlyIf (eqb (target k) j) (band k) ≤ onlyIf (eqb s j) (band′ k)) (targets k l)
+    (onlyIf-mono (eqb (target k) j) (band k) (band′ k) (bands k l)))
+
+-- Bands inside bands are rows inside rows, also where an upper entry is held to ONE.
+pub bands-cover : (n : ℕ) {wide narrow : Cells} → BandsWithin wide narrow → Covers n (rowOf wide) (rowOf narrow)
+bands-cover n {wide} {narrow} within = entries-cover n (rowOf wide) (rowOf narrow) (λ j l. lower j) (λ j l. let h = upper j in omega arith)
+  where
+    counted : (band : ℕ → ℕ) (j : ℕ) → sumTo (wide .count) (λ k. onlyIf (eqb (narrow .target k) j) (band k)) ≡ sumInto narrow band j
+    counted band j = ap (λ n. sumTo n (λ k. onlyIf (eqb (narrow .target k) j) (band k))) (within .count)
+
+    lower : (j : ℕ) → sumInto wide (wide .lower) j ≤ sumInto narrow (narrow .lower) j
+    lower j = omega (arith, counted (narrow .lower) j, into-mono (wide .count) (wide .target) (narrow .target) (wide .lower) (narrow .lower) (within .targets) (within .lowers) j)
+
+    upper : (j : ℕ) → sumInto narrow (narrow .upper) j ≤ sumInto wide (wide .upper) j
+    upper j =
+        omega (
+          arith,
+          counted (narrow .upper) j,
+          into-mono (wide .count) (narrow .target) (wide .target) (narrow .upper) (wide .upper) (λ k l. sym (within .targets k l)) (within .uppers) j,
+        )

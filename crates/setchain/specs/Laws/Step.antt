@@ -3,13 +3,14 @@ use Prim.Native.Nat.{ℕ, zero, suc, _+_, _*_, _≤_, _<_}
 use mathlib.Core.Path.{_≡_, refl, ap, _∙_}
 use mathlib.Core.Bool.{Bool, true, false}
 use native.Mathlib.Omega.{arith}
-use native.Mathlib.Nat.{le-antisymm, mul-le-mul-left, mul-le-mul-right}
+use native.Mathlib.Nat.{mul-le-mul-left, mul-le-mul-right}
 use Rattle.setchain.specs.Sums.{sumTo, dot}
 use Rattle.setchain.specs.Rows.{ONE, IntervalRow, SoundRow, Row, Inside, ofParts, SetChain, SoundChain}
 use Rattle.setchain.specs.Step.{rounded, NotAfter, capacity, slack, before, capacityBefore, fillRow, extremeRow, stepFigure, Parts, Reaches, ExtremeFigure}
 use Rattle.setchain.specs.Certificate.{Certificate}
 use Rattle.setchain.specs.Years.{yearsFigure}
 use Rattle.setchain.specs.Laws.Sums.{sumTo-le, sumTo-add, sumTo-scale}
+use Rattle.setchain.specs.Laws.NotAfter.{not-after-both}
 use Rattle.setchain.specs.Laws.Certificate.{certified}
 use Rattle.setchain.specs.Laws.Fill.{Strict, Pivot, ahead, pivot, given, given-before, given-after, given-all, positive-count}
 use Rattle.setchain.specs.Laws.Order.{before-strict, before-ahead}
@@ -20,11 +21,6 @@ record Filled (n : ℕ) (r : IntervalRow) (order : ℕ → ℕ → Bool) : Type 
   pivotAt : ℕ
   full : (j : ℕ) → j < n → order j pivotAt ≡ true → fillRow n r order j ≡ r .upper j
   bare : (j : ℕ) → j < n → order pivotAt j ≡ true → fillRow n r order j ≡ r .lower j
-
--- Numbers that come after each other neither way are equal.
-not-after-both : (high : Bool) {a b : ℕ} → NotAfter high a b → NotAfter high b a → a ≡ b
-not-after-both false h k = le-antisymm h k
-not-after-both true h k = le-antisymm k h
 
 -- A common factor taken away.
 not-after-parts : (high : Bool) (a b : ℕ) → NotAfter high (a * ONE) (b * ONE) → NotAfter high a b

@@ -1,7 +1,7 @@
 -- A filled row has a certificate, so it is extreme and its figure is the step's.
 -- Assumes nothing.
 use Prim.Native.Nat.{ℕ, _-_, _≤_, _<_}
-use mathlib.Core.Path.{_≡_, sym, _∙_, subst}
+use mathlib.Core.Path.{_≡_, refl, sym, _∙_, subst}
 use mathlib.Core.Bool.{Bool, true, false}
 use mathlib.Core.Logic.{⊎-elim}
 use mathlib.Core.List.{List}
@@ -13,7 +13,7 @@ use Rattle.setchain.specs.Step.{rounded, stepFigure, Reaches, NotAfter}
 use Rattle.setchain.specs.Certificate.{Ahead, Certificate}
 use Rattle.setchain.specs.Laws.Step.{certified-reaches, reached-figure}
 use Rattle.order.specs.Order.{payoffAt, Occurs}
-use Rattle.order.specs.Laws.Insertion.{not-after-refl}
+use Rattle.setchain.specs.Laws.NotAfter.{not-after-same}
 use Rattle.order.specs.Laws.Permutations.{sorted-permutation}
 use Rattle.step.specs.Lists.{listsRow}
 use Rattle.step.specs.Fill.{FillPre, FillPost}
@@ -50,7 +50,7 @@ module _ {lower upper payoff order : List ℕ} {high : Bool} {row₀ row : List 
   by-place k l h z = by (ℕ-discrete k l)
     where
       by : Dec (k ≡ l) → NotAfter high (payoffAt payoff order k) (payoffAt payoff order l)
-      by (yes e) = rw e (not-after-refl high (payoffAt payoff order l))
+      by (yes e) = rw e (not-after-same high refl)
       by (no ne) = s .sorted .sorted k l (omega arith) (omega (arith, s .payoffs))
 
   -- A class that comes before the one at which the fill stopped is full.
