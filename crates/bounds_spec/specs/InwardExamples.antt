@@ -10,7 +10,7 @@ use Rattle.setchain.specs.Years.{yearsFigure}
 use Rattle.scheme.specs.Tables.{anyBelow, tab}
 use Rattle.scheme.specs.Cause.{sizeOut, startOut, horizonOut, ruleOut, bandOut, sumOut, premiumOut, causeWhere}
 use Rattle.scheme.specs.Examples.{schemeA, rows-a}
-use Rattle.scheme.specs.TrimmedExamples.{narrowA, slackA, trimmed-a}
+use Rattle.scheme.specs.TrimmedExamples.{narrowA, unchangedA, trimmed-a}
 use Rattle.scheme.specs.Laws.Judged.{accepted-cause}
 use Rattle.bounds_spec.specs.declared.Bounds.the-variants.{Answered, Refused}
 use Rattle.bounds_spec.specs.Answers.{shareAnswer, meanAnswer, totalAnswer}
@@ -21,8 +21,8 @@ use Rattle.bounds_spec.specs.Inward.{BoundsInward, SlicesInward, Slices,
 pub narrow-inward : AnswersInward schemeA narrowA
 narrow-inward = answers-inward (accepted-cause schemeA (rows-a .accepted)) (accepted-cause narrowA (trimmed-a .narrowAccepted)) (trimmed-a .narrow)
 
-pub slack-inward : AnswersInward schemeA slackA
-slack-inward = answers-inward (accepted-cause schemeA (rows-a .accepted)) (accepted-cause slackA (trimmed-a .slackAccepted)) (trimmed-a .slack)
+pub unchanged-inward : AnswersInward schemeA unchangedA
+unchanged-inward = answers-inward (accepted-cause schemeA (rows-a .accepted)) (accepted-cause unchangedA (trimmed-a .unchangedAccepted)) (trimmed-a .unchanged)
 
 -- With the last column's band trimmed the bounds move: Example A has shares of .92 to .99 and .01 to .08 in year 2, a mean of 10050 to 10400 and a total of
 -- 25500 to 26000, whose high end alone stays.
@@ -37,13 +37,13 @@ unfolding shareAnswer meanAnswer totalAnswer causeWhere sizeOut startOut horizon
 narrow-a = record { share1 = refl; share2 = refl; mean = refl; total = refl }
 
 -- With the second column's band trimmed, whose upper end no row reaches, no figure moves.
-pub record SlackA : Type 0 where
-  pub lows : lowTable slackA ≡ lowTable schemeA
-  pub highs : highTable slackA ≡ highTable schemeA
+pub record UnchangedA : Type 0 where
+  pub lows : lowTable unchangedA ≡ lowTable schemeA
+  pub highs : highTable unchangedA ≡ highTable schemeA
 
-pub slack-a : SlackA
+pub unchanged-a : UnchangedA
 unfolding figureTable tableEntry tab yearsFigure stepFigure fillRow capacityBefore sumTo onlyIf
-slack-a = record { lows = refl; highs = refl }
+unchanged-a = record { lows = refl; highs = refl }
 
 -- The slices of two numbers each, after a call without a cause.
 abbrev pairs : (low low′ high high′ : ℕ) → Slices

@@ -38,8 +38,8 @@ narrowA = bandsA (ends 800000000 100000000 10000000) (ends 900000000 200000000 4
 
 -- The second column's band, .1 to .2, trimmed to .1 to .15. From class 2 the upper entry of class 2 falls from .25 to .2, and no row can have more there,
 -- since the first column leads at least .8 to class 1; from class 1 the upper entry of class 1 stays ONE.
-abbrev pub slackA : Scheme
-slackA = bandsA (ends 800000000 100000000 0) (ends 900000000 150000000 50000000)
+abbrev pub unchangedA : Scheme
+unchangedA = bandsA (ends 800000000 100000000 0) (ends 900000000 150000000 50000000)
 
 -- All but the bands is Example A's.
 others-a : (lowers uppers : List ℕ) → SameButBands schemeA (bandsA lowers uppers)
@@ -48,12 +48,11 @@ others-a lowers uppers =
     record { classes = refl; columns = refl; start = refl; horizon = refl; rules = v .rules; premiums = v .premiums }
 
 -- Example A against narrower bands, the other way, and with one end or one premium free.
-
 pub record TrimmedA : Type 0 where
   pub narrowAccepted : causeOf narrowA ≡ 0
-  pub slackAccepted : causeOf slackA ≡ 0
+  pub unchangedAccepted : causeOf unchangedA ≡ 0
   pub narrow : Trimmed schemeA narrowA
-  pub slack : Trimmed schemeA slackA
+  pub unchanged : Trimmed schemeA unchangedA
   pub turned : ¬ Trimmed narrowA schemeA
   pub lowerFree : ¬ Trimmed narrowA (bandsA (ends 800000000 100000000 0) (ends 900000000 200000000 40000000))
   pub upperFree : ¬ Trimmed narrowA (bandsA (ends 800000000 100000000 10000000) (ends 900000000 200000000 50000000))
@@ -64,18 +63,18 @@ unfolding causeWhere sizeOut startOut horizonOut ruleOut bandOut sumOut premiumO
 trimmed-a =
     record {
       narrowAccepted = refl;
-      slackAccepted = refl;
+      unchangedAccepted = refl;
       narrow =
           record {
             others = others-a _ _;
             lowers = λ i k l g. three (λ q. lowerAt schemeA i q ≤ lowerAt narrowA i q) (omega arith) (omega arith) (omega arith) k g;
             uppers = λ i k l g. three (λ q. upperAt narrowA i q ≤ upperAt schemeA i q) (omega arith) (omega arith) (omega arith) k g;
           };
-      slack =
+      unchanged =
           record {
             others = others-a _ _;
-            lowers = λ i k l g. three (λ q. lowerAt schemeA i q ≤ lowerAt slackA i q) (omega arith) (omega arith) (omega arith) k g;
-            uppers = λ i k l g. three (λ q. upperAt slackA i q ≤ upperAt schemeA i q) (omega arith) (omega arith) (omega arith) k g;
+            lowers = λ i k l g. three (λ q. lowerAt schemeA i q ≤ lowerAt unchangedA i q) (omega arith) (omega arith) (omega arith) k g;
+            uppers = λ i k l g. three (λ q. upperAt unchangedA i q ≤ upperAt schemeA i q) (omega arith) (omega arith) (omega arith) k g;
           };
       turned = λ h. omega (arith, h .lowers 1 2 (omega arith) (omega arith));
       lowerFree = λ h. omega (arith, h .lowers 1 2 (omega arith) (omega arith));

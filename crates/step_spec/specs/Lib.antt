@@ -4,3 +4,4 @@ pub mod StepAnswer
 pub mod Examples
 pub mod Ignored
 pub mod Inward
+pub mod InwardExamples

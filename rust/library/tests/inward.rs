@@ -17,7 +17,7 @@ struct Pair {
     horizon: u64,
 }
 
-/// How many bounds moved, and how many stayed.
+/// How many bounds moved, how many stayed, and how many calls both declined.
 #[derive(Default)]
 struct Moves {
     moved: u64,

@@ -1,6 +1,6 @@
 -- Bands in order whose sums enclose ONE give a sound interval row, and bands inside bands give rows inside rows.
 use Prim.Native.Nat.{ℕ, _≤_, _<_}
-use mathlib.Core.Path.{_≡_, ap, sym, _∙_, subst}
+use mathlib.Core.Path.{_≡_, refl, ap, sym, _∙_, subst}
 use lib.Dec.{eqb}
 use native.Mathlib.Omega.{arith}
 use native.Mathlib.Nat.{le-trans, mul-le-mul-right}
@@ -8,6 +8,15 @@ use Rattle.setchain.specs.Sums.{sumTo, onlyIf}
 use Rattle.setchain.specs.Rows.{ONE, IntervalRow, SoundRow, Covers}
 use Rattle.setchain.specs.Cells.{Cells, sumInto, rowOf, SoundCells, BandsWithin}
 use Rattle.setchain.specs.Laws.Sums.{onlyIf-le, onlyIf-mono, eqb-flip, sumTo-eq, sumTo-le, sumTo-swap, sumTo-point, min-sum-le}
+
+-- Ends in order cell by cell, summed where columns merge.
+into-mono : (count : ℕ) (target target′ band band′ : ℕ → ℕ) → ((k : ℕ) → k < count → target k ≡ target′ k) → ((k : ℕ) → k < count → band k ≤ band′ k) → (j : ℕ)
+    → sumTo count (λ k. onlyIf (eqb (target k) j) (band k)) ≤ sumTo count (λ k. onlyIf (eqb (target′ k) j) (band′ k))
+into-mono count target target′ band band′ targets bands j =
+    sumTo-le count (λ k. onlyIf (eqb (target k) j) (band k)) (λ k. onlyIf (eqb (target′ k) j) (band′ k))
+    (λ k l.
+    subst (λ s. onlyIf (eqb (target k) j) (band k) ≤ onlyIf (eqb s j) (band′ k)) (targets k l)
+    (onlyIf-mono (eqb (target k) j) (band k) (band′ k) (bands k l)))
 
 module _ (n : ℕ) (c : Cells) (sound : SoundCells n c) where
   -- Each cell leads to one state, so nothing is lost and nothing counted twice.
@@ -23,9 +32,7 @@ module _ (n : ℕ) (c : Cells) (sound : SoundCells n c) where
           ∙ sumTo-point n (λ j. band k) (c .target k) (sound .leads k l)
 
   into-le : (j : ℕ) → sumInto c (c .lower) j ≤ sumInto c (c .upper) j
-  into-le j =
-      sumTo-le (c .count) (λ k. onlyIf (eqb (c .target k) j) (c .lower k)) (λ k. onlyIf (eqb (c .target k) j) (c .upper k))
-      (λ k l. onlyIf-mono (eqb (c .target k) j) (c .lower k) (c .upper k) (sound .ordered k l))
+  into-le = into-mono (c .count) (c .target) (c .target) (c .lower) (c .upper) (λ k l. refl) (sound .ordered)
 
   pub into-all : (j : ℕ) → sumInto c (c .lower) j ≤ sumTo (c .count) (c .lower)
   into-all j =
@@ -51,15 +58,6 @@ entries-cover n wide narrow lowers uppers q inside =
       above = λ j l. le-trans (mul-le-mul-right (q .over) (lowers j l)) (inside .above j l);
       below = λ j l. le-trans (inside .below j l) (mul-le-mul-right (q .over) (uppers j l));
     }
-
--- Ends in order cell by cell, summed where columns merge.
-into-mono : (count : ℕ) (target target′ band band′ : ℕ → ℕ) → ((k : ℕ) → k < count → target k ≡ target′ k) → ((k : ℕ) → k < count → band k ≤ band′ k) → (j : ℕ)
-    → sumTo count (λ k. onlyIf (eqb (target k) j) (band k)) ≤ sumTo count (λ k. onlyIf (eqb (target′ k) j) (band′ k))
-into-mono count target target′ band band′ targets bands j =
-    sumTo-le count (λ k. onlyIf (eqb (target k) j) (band k)) (λ k. onlyIf (eqb (target′ k) j) (band′ k))
-    (λ k l.
-    subst (λ s. onlyIf (eqb (target k) j) (band k) ≤ onlyIf (eqb s j) (band′ k)) (targets k l)
-    (onlyIf-mono (eqb (target k) j) (band k) (band′ k) (bands k l)))
 
 -- Bands inside bands are rows inside rows, also where an upper entry is held to ONE.
 pub bands-cover : (n : ℕ) {wide narrow : Cells} → BandsWithin wide narrow → Covers n (rowOf wide) (rowOf narrow)
