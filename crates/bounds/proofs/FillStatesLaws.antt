@@ -3,23 +3,21 @@
 use Prim.Native.Nat.{ℕ, zero, suc, min, _+_, _-_, _*_, _≤_, _<_}
 use mathlib.Core.Path.{_≡_, refl, ap, sym, _∙_, subst}
 use mathlib.Core.Logic.{_⊎_, inl, inr, ⊎-elim}
-use mathlib.Core.Bool.{Bool, true, false}
+use mathlib.Core.Bool.{Bool}
 use mathlib.Core.List.{List}
 use native.Mathlib.Decide.{ℕ-discrete, decLe}
 use native.Mathlib.Nat.{le-refl, mul-le-mul-left, mul-le-mul-right}
 use native.Mathlib.Omega.{arith}
-use lib.Dec.{eqb}
 use lib.ListN.{length, set, length-set}
-use borrow.Author.Tests.{eq-eqb}
 use lib.Seq.{getD-set-same, getD-set-other, ext-getD}
-use Rattle.setchain.specs.Sums.{at, sumTo, onlyIf, dot}
+use Rattle.setchain.specs.Sums.{at, sumTo, dot}
 use Rattle.setchain.specs.Rows.{ONE, IntervalRow, SoundRow}
 use Rattle.setchain.specs.Step.{rounded, capacity, stepFigure}
-use Rattle.setchain.specs.Laws.Sums.{onlyIf-true, sumTo-eq, sumTo-add, sumTo-scale, sumTo-swap, sumTo-point, term-le, eqb-flip, sumTo-front, sumTo-change}
+use Rattle.setchain.specs.Laws.Sums.{sumTo-eq, sumTo-front, sumTo-change}
 use Rattle.scheme.specs.Tables.{tab}
 use Rattle.scheme.specs.Laws.Tab.{length-tab, getD-tab}
-use Rattle.order.specs.Order.{Occurs, Permutation, SortedPermutation}
-use Rattle.order.specs.Laws.Permutations.{sorted-permutation}
+use Rattle.order.specs.Order.{along, Occurs, Permutation, SortedPermutation}
+use Rattle.order.specs.Laws.Along.{along-permutation, sum-along}
 use Rattle.step.specs.Lists.{listsRow}
 use Rattle.setchain.specs.Laws.Agreeing.{Agree, sound-agrees, step-agrees}
 use Rattle.step.specs.Fill.{FillPost, FillSlackPre}
@@ -28,88 +26,6 @@ use Rattle.step.specs.Figure.{LARGEST}
 use Rattle.bounds.specs.Fill.{Small, leftAt, sumAt}
 use Rattle.step.specs.Laws.Fill.{Filling, filling-none, filling-more, filling-last}
 use Rattle.step.specs.Laws.Extreme.{step-reached}
-
--- As many ones as are summed.
-count : (k : ℕ) → sumTo k (λ i. 1) ≡ k
-unfolding sumTo
-count zero = refl
-count (suc k) = omega (arith, count k)
-
--- Numbers from 1 on whose sum is their count are all 1.
-ones : (n : ℕ) (c : ℕ → ℕ) → ((j : ℕ) → j < n → 1 ≤ c j) → sumTo n c ≡ n → (j : ℕ) → j < n → c j ≡ 1
-ones n c h e j l =
-    let s : sumTo n (λ i. c i - 1) + sumTo n (λ i. 1) ≡ sumTo n c =
-    sym (sumTo-add n (λ i. c i - 1) (λ i. 1)) ∙ sumTo-eq n (λ i. c i - 1 + 1) c (λ i m. omega (arith, h i m)) in
-    let z : c j - 1 ≤ sumTo n (λ i. c i - 1) = term-le n (λ i. c i - 1) j l in
-    omega (arith, s, z, h j l, count n)
-
--- A sum along an order is the sum over the states.
-module _ (n : ℕ) (order : List ℕ) (p : Permutation n order) where
-  -- How often state j occurs in the order.
-  times : ℕ → ℕ
-  times j = sumTo n (λ q. onlyIf (eqb (at order q - 1) j) 1)
-
-  along : (g : ℕ → ℕ) → sumTo n (λ q. g (at order q - 1)) ≡ sumTo n (λ j. sumTo n (λ q. onlyIf (eqb (at order q - 1) j) (g j)))
-  along g =
-      sumTo-eq n (λ q. g (at order q - 1)) (λ q. sumTo n (λ j. onlyIf (eqb (at order q - 1) j) (g j))) point
-      ∙ sumTo-swap n n (λ q j. onlyIf (eqb (at order q - 1) j) (g j))
-    where
-      point : (q : ℕ) → q < n → g (at order q - 1) ≡ sumTo n (λ j. onlyIf (eqb (at order q - 1) j) (g j))
-      point q l =
-          sym
-          (sumTo-eq n (λ j. onlyIf (eqb (at order q - 1) j) (g j)) (λ j. onlyIf (eqb j (at order q - 1)) (g j))
-          (λ j m. ap (λ b. onlyIf b (g j)) (eqb-flip (at order q - 1) j))
-          ∙ sumTo-point n g (at order q - 1) (omega (arith, p .within q l)))
-
-  scaled : (j x : ℕ) → sumTo n (λ q. onlyIf (eqb (at order q - 1) j) x) ≡ times j * x
-  unfolding times onlyIf
-  scaled j x =
-      sumTo-eq n (λ q. onlyIf (eqb (at order q - 1) j) x) (λ q. onlyIf (eqb (at order q - 1) j) 1 * x) (λ q l. by (eqb (at order q - 1) j))
-      ∙ sumTo-scale n (λ q. onlyIf (eqb (at order q - 1) j) 1) x
-    where
-      by : (b : Bool) → onlyIf b x ≡ onlyIf b 1 * x
-      by true = omega arith
-      by false = omega arith
-
-  once : (j : ℕ) → j < n → times j ≡ 1
-  unfolding times
-  once = ones n times occurs whole
-    where
-      occurs : (j : ℕ) → j < n → 1 ≤ times j
-      occurs j l =
-          let s : Occurs order n j = p .onto j l in
-          omega (
-            arith,
-            term-le n (λ q. onlyIf (eqb (at order q - 1) j) 1) (s .place) (s .early),
-            onlyIf-true (eqb (at order (s .place) - 1) j) 1 (eq-eqb (at order (s .place) - 1) j (omega (arith, s .held))),
-          )
-
-      whole : sumTo n times ≡ n
-      whole = sym (along (λ j. 1)) ∙ count n
-
-  sum-along : (g : ℕ → ℕ) → sumTo n (λ q. g (at order q - 1)) ≡ sumTo n g
-  sum-along g =
-      along g
-      ∙ sumTo-eq n (λ j. sumTo n (λ q. onlyIf (eqb (at order q - 1) j) (g j))) g
-      (λ j l. scaled j (g j) ∙ ap (λ t. t * g j) (once j l) ∙ one (g j))
-    where
-      one : (x : ℕ) → 1 * x ≡ x
-      one x = omega arith
-
-  -- No state occurs at two places.
-  places-apart : (a b : ℕ) → a < b → b < n → at order a ≡ at order b → ⊥
-  unfolding times sumTo
-  places-apart a b l m e =
-      let j : ℕ = at order b - 1 in
-      let f : ℕ → ℕ = λ q. onlyIf (eqb (at order q - 1) j) 1 in
-      omega (
-        arith,
-        once j (omega (arith, p .within b m)),
-        sumTo-front f n (suc b) m,
-        term-le b f a l,
-        onlyIf-true (eqb (at order a - 1) j) 1 (eq-eqb (at order a - 1) j (omega arith)),
-        onlyIf-true (eqb (at order b - 1) j) 1 (eq-eqb (at order b - 1) j refl),
-      )
 
 -- The sum stays within the largest payoff.
 module _ (n : ℕ) (r : IntervalRow) (f : ℕ → ℕ) (order : List ℕ) (slack : ℕ) (p : Permutation n order)
@@ -173,7 +89,7 @@ dot-set n row f j given l e =
 
 -- The figure: each row is filled as by the step.
 module _ (high : Bool) (r : IntervalRow) (payoff order : List ℕ) (slack : ℕ)
-    (sound : SoundRow (length payoff) r) (sorted : SortedPermutation payoff high order) (small : Small (length payoff) payoff) (whole : sumTo (length payoff) (r .lower) + slack ≡ ONE) where
+    (sound : SoundRow (length payoff) r) (sorted : SortedPermutation payoff order) (small : Small (length payoff) payoff) (whole : sumTo (length payoff) (r .lower) + slack ≡ ONE) where
   abbrev n : ℕ
   n = length payoff
 
@@ -183,8 +99,12 @@ module _ (high : Bool) (r : IntervalRow) (payoff order : List ℕ) (slack : ℕ)
   abbrev upper : List ℕ
   upper = tab n (r .upper)
 
-  permutation : Permutation n order
-  permutation = sorted-permutation sorted
+  -- The order as it is read.
+  abbrev read : List ℕ
+  read = along high order
+
+  permutation : Permutation n read
+  permutation = along-permutation high order (sorted .permutation)
 
   lower-size : length lower ≡ n
   lower-size = length-tab n (r .lower)
@@ -209,30 +129,30 @@ module _ (high : Bool) (r : IntervalRow) (payoff order : List ℕ) (slack : ℕ)
         sorted = sorted;
       }
 
-  fillable : FillSlackPre lower upper order slack
+  fillable : FillSlackPre lower upper read slack
   fillable =
       record {
         uppers = steppable .uppers;
-        permutation = subst (λ k. Permutation k order) (sym lower-size) permutation;
+        permutation = subst (λ k. Permutation k read) (sym lower-size) permutation;
         sound = steppable .sound;
         whole = omega (arith, whole, sumTo-eq n (at lower) (r .lower) low-at, ap (λ k. sumTo k (at lower)) lower-size);
       }
 
   -- The lower parts times payoff of the states at the first k places.
   bare : ℕ → ℕ
-  bare k = sumTo k (λ q. r .lower (at order q - 1) * at payoff (at order q - 1))
+  bare k = sumTo k (λ q. r .lower (at read q - 1) * at payoff (at read q - 1))
 
   -- All slack is given.
   record Done (row : List ℕ) (left : ℕ) : Type 0 where
     stop : ℕ
-    filled : FillPost lower upper order row stop
+    filled : FillPost lower upper read row stop
     none : left ≡ 0
 
   -- The row as the step's fill has it at place k, or when it is done.
   record RowAt (k : ℕ) : Type 0 where
     row : List ℕ
-    sums : sumAt r (at payoff) order slack k + dot n (r .lower) (at payoff) ≡ bare k + dot n (at row) (at payoff)
-    state : Filling lower upper order row (leftAt r order slack k) k ⊎ Done row (leftAt r order slack k)
+    sums : sumAt r (at payoff) read slack k + dot n (r .lower) (at payoff) ≡ bare k + dot n (at row) (at payoff)
+    state : Filling lower upper read row (leftAt r read slack k) k ⊎ Done row (leftAt r read slack k)
 
   row-none : RowAt 0
   unfolding leftAt sumAt bare sumTo
@@ -245,24 +165,27 @@ module _ (high : Bool) (r : IntervalRow) (payoff order : List ℕ) (slack : ℕ)
 
   module _ {k : ℕ} (more : k < n) where
     abbrev j : ℕ
-    j = at order k - 1
+    j = at read k - 1
 
     here : j < n
     here = omega (arith, permutation .within k more)
 
     -- A state that the fill has not passed is bare.
-    still : {row : List ℕ} {left : ℕ} → Filling lower upper order row left k → at row j ≡ r .lower j
+    still : {row : List ℕ} {left : ℕ} → Filling lower upper read row left k → at row j ≡ r .lower j
     still w =
-        ⊎-elim (λ b. b ∙ low-at j here) (λ s. absurd (places-apart n order permutation (s .place) k (s .early) more (s .held ∙ held)))
+        ⊎-elim (λ b. b ∙ low-at j here) (λ s. absurd (passed s (permutation .once (s .place) k (omega (arith, s .early)) more (s .held ∙ held))))
         (w .rest j (omega (arith, here, lower-size)))
       where
-        held : suc j ≡ at order k
+        held : suc j ≡ at read k
         held = omega (arith, permutation .within k more)
 
+        passed : (s : Occurs read k j) → s .place ≡ k → ⊥
+        passed s e = omega (arith, s .early)
+
     -- The sums when state j gets `given`.
-    sums-more : (row : List ℕ) (given : ℕ) → length row ≡ n → given ≡ min (leftAt r order slack k) (capacity r j)
-        → sumAt r (at payoff) order slack k + dot n (r .lower) (at payoff) ≡ bare k + dot n (at row) (at payoff)
-        → sumAt r (at payoff) order slack (suc k) + dot n (r .lower) (at payoff) ≡ bare (suc k) + dot n (at (set row j (at row j + given))) (at payoff)
+    sums-more : (row : List ℕ) (given : ℕ) → length row ≡ n → given ≡ min (leftAt r read slack k) (capacity r j)
+        → sumAt r (at payoff) read slack k + dot n (r .lower) (at payoff) ≡ bare k + dot n (at row) (at payoff)
+        → sumAt r (at payoff) read slack (suc k) + dot n (r .lower) (at payoff) ≡ bare (suc k) + dot n (at (set row j (at row j + given))) (at payoff)
     unfolding sumAt bare sumTo
     sums-more row given e g h =
         omega (arith, h, dot-set n row (at payoff) j given here e, ap (λ x. (r .lower j + x) * at payoff j) g)
@@ -272,9 +195,9 @@ module _ (high : Bool) (r : IntervalRow) (payoff order : List ℕ) (slack : ℕ)
     row-more w = ⊎-elim (λ s. by s (decLe left (at upper j - at (w .row) j))) done (w .state)
       where
         left : ℕ
-        left = leftAt r order slack k
+        left = leftAt r read slack k
 
-        by : Filling lower upper order (w .row) left k → Dec (left ≤ at upper j - at (w .row) j) → RowAt (suc k)
+        by : Filling lower upper read (w .row) left k → Dec (left ≤ at upper j - at (w .row) j) → RowAt (suc k)
         by s (yes h) =
             record {
               row = set (w .row) j (at (w .row) j + left);
@@ -311,17 +234,17 @@ module _ (high : Bool) (r : IntervalRow) (payoff order : List ℕ) (slack : ℕ)
   row-at (suc k) h = row-more h (row-at k (omega arith))
 
   -- The sum at the end is the filled row's.
-  pub filled-figure : rounded high (sumAt r (at payoff) order slack n) ≡ stepFigure high n r (at payoff)
+  pub filled-figure : rounded high (sumAt r (at payoff) read slack n) ≡ stepFigure high n r (at payoff)
   unfolding bare
   filled-figure = ⊎-elim (λ s. absurd (omega (arith, s .inside, lower-size))) by (w .state)
     where
       w : RowAt n
       w = row-at n (le-refl n)
 
-      sums-are : sumAt r (at payoff) order slack n ≡ dot n (at (w .row)) (at payoff)
-      sums-are = omega (arith, w .sums, sum-along n order permutation (λ j. r .lower j * at payoff j))
+      sums-are : sumAt r (at payoff) read slack n ≡ dot n (at (w .row)) (at payoff)
+      sums-are = omega (arith, w .sums, sum-along n read permutation (λ j. r .lower j * at payoff j))
 
-      by : Done (w .row) (leftAt r order slack n) → rounded high (sumAt r (at payoff) order slack n) ≡ stepFigure high n r (at payoff)
+      by : Done (w .row) (leftAt r read slack n) → rounded high (sumAt r (at payoff) read slack n) ≡ stepFigure high n r (at payoff)
       by s =
           ap (rounded high) (sums-are ∙ ap (λ k. dot k (at (w .row)) (at payoff)) (sym lower-size))
           ∙ step-reached steppable (s .filled)

@@ -12,9 +12,7 @@ use Rattle.setchain.specs.Years.{yearsFigure}
 use Rattle.setchain.specs.Laws.Agreeing.{years-agree}
 use Rattle.scheme.specs.declared.Scheme.{Scheme}
 use Rattle.scheme.specs.Rows.{chainOf}
-use Rattle.order.specs.Order.{Permutation}
-use Rattle.order.specs.Laws.Permutations.{identity-permutation}
-use Rattle.order.specs.States.{identityOrder}
+use Rattle.order.specs.Order.{Permutation, SortedPermutation}
 use Rattle.bounds_spec.specs.Answers.{startOf}
 use Rattle.bounds.specs.Entries.{chainListed, SoundLists, ListRowsPost}
 use Rattle.bounds.specs.Years.{YearsPre, YearsPost}
@@ -32,15 +30,19 @@ module _ (s : Scheme) {entries slack gain payoff : List ℕ} {t stride : ℕ} (w
   start-inside : startOf s < n
   start-inside = omega (arith, w .accepted .start .positive, w .accepted .start .within)
 
-  -- The classes in the order of their numbers, at the front of an array.
-  module _ (order rest : List ℕ) (is : order ≡ identityOrder (take n zeros)) where
-    permutation : Permutation (length (take n zeros)) order
+  -- The classes ranked by the payoff, at the front of an array.
+  module _ (payoffStored : 32 ≤ length payoff) (order rest : List ℕ)
+      (ranks : length (take n zeros) ≡ length (take n payoff) → length (take n payoff) ≤ 128 → SortedPermutation (take n payoff) order) where
+    payoffs-count : length (take n payoff) ≡ n
+    payoffs-count = length-take-le n payoff (omega (arith, e .lists .states))
+
+    permutation : Permutation n order
     permutation =
-        subst (Permutation (length (take n zeros))) (sym is)
-        (identity-permutation (take n zeros) (omega (arith, length-take-le n zeros (e .lists .states), e .lists .states)))
+        subst (λ k. Permutation k order) payoffs-count
+        (ranks (length-take-le n zeros (e .lists .states) ∙ sym payoffs-count) (omega (arith, payoffs-count, e .lists .states)) .permutation)
 
     order-count : length order ≡ n
-    order-count = permutation .size ∙ length-take-le n zeros (e .lists .states)
+    order-count = permutation .size
 
     pub order-fits : n ≤ length (order ++ rest)
     order-fits = omega (arith, order-count, length-append order rest)
@@ -52,9 +54,7 @@ module _ (s : Scheme) {entries slack gain payoff : List ℕ} {t stride : ℕ} (w
     series-years i g =
         record {
           lists = subst (λ k. SoundLists k entries slack) (sym gains-count) (e .lists);
-          permutation =
-              subst (λ o. Permutation (length (take n gain)) o) (sym (take-at order rest n order-count))
-              (subst (λ k. Permutation k order) (length-take-le n zeros (e .lists .states) ∙ sym gains-count) permutation);
+          permutation = rw (take-at order rest n order-count, gains-count) permutation;
           fits =
               record {
                 payoffMost = w .fits .payoffMost;

@@ -12,9 +12,9 @@ use mir.Syntax.{w64}
 use mir.Val.{Fits}
 use Rattle.setchain.specs.Rows.{ONE, IntervalRow, SoundRow}
 use Rattle.setchain.specs.Step.{rounded, capacity, stepFigure}
-use Rattle.order.specs.Order.{Permutation, SortedPermutation, sorted}
+use Rattle.order.specs.Order.{along, Permutation, SortedPermutation}
 use Rattle.order.specs.Laws.Written.{Rewritten}
-use Rattle.order.specs.Laws.Permutations.{sorted-permutation, sorted-holds}
+use Rattle.order.specs.Laws.Along.{along-permutation}
 use Rattle.setchain.specs.Sums.{at}
 use Rattle.step.specs.Figure.{LARGEST}
 use Rattle.bounds.specs.Entries.{lowerEnds, capacities, counts, sumOf, listSum, listedRow, chainListed, SoundLists}
@@ -145,21 +145,19 @@ module _ {entries slack gain order before : List ℕ} (w : YearPre entries slack
   slack-at : (i : ℕ) → i < length gain → at (take (length gain) slack) i ≡ at slack i
   slack-at i l = getD-take (length gain) slack i 0 l
 
-  module _ (high : Bool) {order′ : List ℕ} (is : order′ ≡ sorted (take (length gain) before) high order) where
+  module _ (high : Bool) {order′ : List ℕ}
+      (ranks : Permutation (length (take (length gain) before)) order → length (take (length gain) before) ≤ 128 → SortedPermutation (take (length gain) before) order′) where
     -- The order has the classes by the figures before.
-    by-payoff : SortedPermutation (take (length gain) before) high order′
-    by-payoff =
-        subst (SortedPermutation (take (length gain) before) high) (sym is)
-        (sorted-holds (take (length gain) before) high order
-        (subst (λ n. Permutation n order) (sym front-count) (w .permutation)) (omega (arith, front-count, w .lists .states)))
+    by-payoff : SortedPermutation (take (length gain) before) order′
+    by-payoff = ranks (subst (λ n. Permutation n order) (sym front-count) (w .permutation)) (omega (arith, front-count, w .lists .states))
 
     small : Small (length gain) (take (length gain) before)
     small j l = subst (λ x. x ≤ LARGEST) (sym (getD-take (length gain) before j 0 l)) (w .small j l)
 
     pub year-permutation : Permutation (length gain) order′
-    year-permutation = subst (λ n. Permutation n order′) front-count (sorted-permutation by-payoff)
+    year-permutation = subst (λ n. Permutation n order′) front-count (by-payoff .permutation)
 
-    pub year-fills : FillStatesPre entries (take (length gain) before) order′ (take (length gain) slack) (take (length gain) zeros)
+    pub year-fills : FillStatesPre entries (take (length gain) before) (along high order′) (take (length gain) slack) (take (length gain) zeros)
     year-fills =
         record {
           lists =
@@ -171,7 +169,7 @@ module _ {entries slack gain order before : List ℕ} (w : YearPre entries slack
                 sound = w .lists .sound;
                 whole = λ i l. omega (arith, w .lists .whole i l, slack-at i l);
               });
-          permutation = sorted-permutation by-payoff;
+          permutation = along-permutation high order′ (by-payoff .permutation);
           small = λ j l. small j (omega (arith, front-count));
           leftSize = slack-count ∙ sym front-count;
           size = zero-count ∙ sym front-count;
@@ -179,7 +177,7 @@ module _ {entries slack gain order before : List ℕ} (w : YearPre entries slack
               getD-take (length gain) zeros i 0 (omega (arith, front-count)) ∙ getD-replicate 32 i 0 0 (omega (arith, front-count, w .lists .states));
         }
 
-    module _ {sums : List ℕ} (k : FillStatesPost entries (take (length gain) before) order′ (take (length gain) slack) sums) (rest : List ℕ) where
+    module _ {sums : List ℕ} (k : FillStatesPost entries (take (length gain) before) (along high order′) (take (length gain) slack) sums) (rest : List ℕ) where
       sums-count : length sums ≡ length gain
       sums-count = k .size ∙ front-count
 
@@ -214,7 +212,7 @@ module _ {entries slack gain order before : List ℕ} (w : YearPre entries slack
           }
         where
           figure : (i : ℕ) → i < length gain
-              → rounded high (sumAt (listedRow entries i) (at (take (length gain) before)) order′ (at (take (length gain) slack) i) (length (take (length gain) before)))
+              → rounded high (sumAt (listedRow entries i) (at (take (length gain) before)) (along high order′) (at (take (length gain) slack) i) (length (take (length gain) before)))
               ≡ stepFigure high (length gain) (listedRow entries i) (at before)
           figure i l =
               filled-figure high (listedRow entries i) (take (length gain) before) order′ (at (take (length gain) slack) i)

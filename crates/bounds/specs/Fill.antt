@@ -46,7 +46,7 @@ pub record FillStatePost (entries : List ℕ) (first end payoff : ℕ) (left sum
   pub rest : (i : ℕ) → i < length left → at left′ i ≡ at left i - sumOf entries capacities first (end - first) i
   pub more : (i : ℕ) → i < length left → at sums′ i ≡ at sums i + taken entries first end left i * payoff
 
--- What it takes to fill all states: lists that hold sound rows, an order, payoffs that are not too large, the rows' slack, and sums of 0.
+-- What it takes to fill all states: lists that hold sound rows, an order as it is read, payoffs that are not too large, the rows' slack, and sums of 0.
 pub record FillStatesPre (entries payoff order left sums : List ℕ) : Type 0 where
   pub lists : SoundLists (length payoff) entries left
   pub permutation : Permutation (length payoff) order

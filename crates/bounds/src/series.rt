@@ -2,7 +2,7 @@
 use crate::Bounds;
 use crate::entries::list_scheme;
 use crate::years::years;
-use order::identity_order;
+use order::rank;
 use order::state;
 use scheme::Scheme;
 ghost use mathlib.Core.Path.{_≡_};
@@ -30,8 +30,8 @@ pub fn series(
 {
     let n = scheme.classes as usize;
     let mut order = [0u8; 32];
-    identity_order(&mut order[..n]);
     let mut figures = payoff;
+    rank(&figures[..n], &mut order[..n]);
     let begins = state(scheme.start);
     years(
         entries,

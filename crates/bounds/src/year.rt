@@ -2,12 +2,13 @@
 use crate::entries::CAPACITIES;
 use crate::entries::COUNTS;
 use crate::entries::LOWER_ENDS;
-use order::sort;
+use order::class_at;
+use order::rank_again;
 use order::state;
 ghost use mathlib.Core.Path.{_≡_};
 ghost use Prim.Native.Nat.{min};
 ghost use lib.ListN.{length};
-ghost use Rattle.order.specs.Order.{Permutation};
+ghost use Rattle.order.specs.Order.{Permutation, along};
 ghost use Rattle.bounds.specs.Entries.{chainListed};
 ghost use Rattle.bounds.specs.Fill.{FillStatePre, FillStatePost, RoundSumsPre, RoundSumsPost, FillStatesPre, FillStatesPost};
 ghost use Rattle.bounds.specs.Years.{YearPost, YearPre};
@@ -42,20 +43,21 @@ fn fill_state(
     }
 }
 
-// Fills all states along the order, and leaves in `sums` for each row the sum of part times payoff.
+// Fills all states along the order, for high figures from its other end, and leaves in `sums` for each row the sum of part times payoff.
 fn fill_states(
     entries: &[u32; 3104],
     payoff: &[u64],
     order: &[u8],
+    high: bool,
     left: &mut [u32],
     sums: &mut [u64],
 )
-    requires { ⌜ FillStatesPre (now entries) (now payoff) (now order) (now left) (now sums) ⌝ }
-    ensures { λ _. ⌜ FillStatesPost (now (entries .entry)) (now (payoff .entry)) (now (order .entry)) (now (left .entry)) (now (sums .exit)) ⌝ }
+    requires { ⌜ FillStatesPre (now entries) (now payoff) (along high (now order)) (now left) (now sums) ⌝ }
+    ensures { λ _. ⌜ FillStatesPost (now (entries .entry)) (now (payoff .entry)) (along high (now (order .entry))) (now (left .entry)) (now (sums .exit)) ⌝ }
 {
     let mut k: usize = 0;
     while k < order.len() {
-        let j = state(order[k]);
+        let j = state(class_at(order, k, high));
         let first = j * 32;
         fill_state(
             entries,
@@ -96,10 +98,17 @@ pub fn year(
     ensures order { λ _. ⌜ Permutation (length (now (gain .entry))) (now (order .exit)) ⌝ }
 {
     let n = gain.len();
-    sort(&before[..n], high, order);
+    rank_again(&before[..n], order);
     let mut left = *slack;
     let mut sums = [0u64; 32];
-    fill_states(entries, &before[..n], order, &mut left[..n], &mut sums[..n]);
+    fill_states(
+        entries,
+        &before[..n],
+        order,
+        high,
+        &mut left[..n],
+        &mut sums[..n],
+    );
     round_sums(gain, high, &mut sums[..n]);
     sums
 }

@@ -2,6 +2,5 @@
 pub mod PayoffLaws
 pub mod InsertLaws
 pub mod InOrderLaws
-pub mod SortLaws
+pub mod RankLaws
 pub mod StateLaws
-pub mod AheadLaws

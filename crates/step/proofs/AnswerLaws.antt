@@ -29,21 +29,12 @@ use Rattle.scheme.specs.Laws.Sound.{accepted-sound}
 use Rattle.scheme.specs.Laws.Tables.{any-false}
 use Rattle.scheme.specs.Laws.Tab.{length-tab, getD-tab}
 use Rattle.rows.specs.Laws.Front.{front-lent, whole-size, whole-front, whole-beyond}
-use Rattle.order.specs.Order.{SortedPermutation, Permutation, sorted}
-use Rattle.order.specs.Laws.Permutations.{identity-permutation, sorted-holds}
+use Rattle.order.specs.Order.{SortedPermutation}
 use Rattle.step_spec.specs.declared.StepAnswer.{StepAnswer}
 use Rattle.step_spec.specs.StepAnswer.{payoffOut, stepCause, classRow, StepAnswered}
 use Rattle.step.specs.Lists.{listsRow}
 use Rattle.step.specs.Answer.{schemeCause, stepRefused}
 use Rattle.step.specs.Step.{StepPre, StepPost}
-use Rattle.order.specs.States.{identityOrder}
-
--- The classes in the order of their numbers, sorted, are sorted.
-pub numbers-sorted : (payoff before order : List ℕ) {order′ : List ℕ} {high : Bool} → length before ≡ length payoff → length payoff ≤ 128
-    → order ≡ identityOrder before → order′ ≡ sorted payoff high order → SortedPermutation payoff high order′
-numbers-sorted payoff before order {order′} {high} e few n s =
-    let numbers : Permutation (length payoff) (identityOrder before) = subst (λ k. Permutation k (identityOrder before)) e (identity-permutation before (omega arith)) in
-    subst (SortedPermutation payoff high) (sym s) (sorted-holds payoff high order (subst (Permutation (length payoff)) (sym n) numbers) few)
 
 -- A second test of cause 10 comes after all that the first has.
 joined : (a b c d e f g h : Bool)
@@ -224,7 +215,7 @@ module _ (s : Scheme) (payoff : List ℕ) (class : ℕ) where
 
       module _ (enough : s .classes ≤ length payoff) {high : Bool} where
         -- What the step asks, with the sorted order back in its place.
-        pub answer-steps : (order rest : List ℕ) → SortedPermutation (take (s .classes) payoff) high order
+        pub answer-steps : (order rest : List ℕ) → SortedPermutation (take (s .classes) payoff) order
             → StepPre (take (s .classes) (interval .lower)) (take (s .classes) (interval .upper)) (take (s .classes) payoff)
             (take (s .classes) (order ++ rest)) high (take (s .classes) (replicate 32 0))
         answer-steps order rest by-payoff =
@@ -238,7 +229,7 @@ module _ (s : Scheme) (payoff : List ℕ) (class : ℕ) where
               small = λ j l.
                   let h : j < s .classes = rw lower-count at l in
                   omega (arith, getD-take (s .classes) payoff j 0 h, payoff-fits j h);
-              sorted = subst (SortedPermutation (take (s .classes) payoff) high) (sym (take-at order rest (s .classes) (by-payoff .size ∙ pays))) by-payoff;
+              sorted = subst (SortedPermutation (take (s .classes) payoff)) (sym (take-at order rest (s .classes) (by-payoff .permutation .size ∙ pays))) by-payoff;
             }
           where
             pays : length (take (s .classes) payoff) ≡ s .classes

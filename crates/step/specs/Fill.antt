@@ -10,7 +10,7 @@ use Rattle.setchain.specs.Step.{Parts}
 use Rattle.order.specs.Order.{Occurs, Permutation}
 use Rattle.step.specs.Lists.{listsRow}
 
--- What a fill takes: lists of one length, a sound row, and an order of its classes.
+-- What a fill takes: lists of one length, a sound row, and an order of its classes, as it is read.
 pub record FillPre (lower upper order row : List ℕ) : Type 0 where
   pub uppers : length upper ≡ length lower
   pub rows : length row ≡ length lower

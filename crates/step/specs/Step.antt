@@ -18,7 +18,7 @@ pub record StepPre (lower upper payoff order : List ℕ) (high : Bool) (row : Li
   pub rows : length row ≡ length lower
   pub sound : SoundRow (length lower) (listsRow lower upper)
   pub small : (j : ℕ) → j < length lower → at payoff j ≤ LARGEST
-  pub sorted : SortedPermutation payoff high order
+  pub sorted : SortedPermutation payoff order
 
 -- The row is one that reaches the figure r.
 pub record StepPost (lower upper payoff : List ℕ) (high : Bool) (row : List ℕ) (r : ℕ) : Type 0 where

@@ -1,14 +1,12 @@
 // The public one-year step's parts (document 01, "One year" and "When a call is declined").
 use crate::StepAnswer;
 use crate::step::step;
-use order::identity_order;
-use order::sort;
+use order::rank;
 use scheme::Scheme;
 use scheme::or_else;
 ghost use mathlib.Core.Path.{_≡_};
 ghost use Prim.Native.Nat.{_≤_};
 ghost use lib.ListN.{length};
-ghost use Rattle.order.specs.Order.{SortedPermutation};
 ghost use Rattle.scheme.specs.Stages.{limitCause};
 ghost use Rattle.step.specs.Answer.{schemeCause, stepRefused};
 ghost use Rattle.step_spec.specs.StepAnswer.{StepAnswered};
@@ -25,8 +23,8 @@ fn scheme_cause(number: u8) -> u8
 }
 
 // Cause 10 where some class's payoff is above 1,000,000,000, or 0.
-fn payoff_cause(payoff: &[u64; 32], classes: u8) -> u8
-    requires { ⌜ classes ≤ 32 ⌝ }
+fn payoff_cause(payoff: &[u64], classes: u8) -> u8
+    requires { ⌜ classes ≤ length (now payoff) ⌝ }
     ensures { λ r. ⌜ r ≡ limitCause 1000000000 (now (payoff .entry)) classes ⌝ }
 {
     let n = classes as usize;
@@ -51,25 +49,17 @@ fn refused(number: u8) -> StepAnswer
     }
 }
 
-// Puts all classes in the order of their payoffs.
-fn sort_classes(payoff: &[u64], high: bool, order: &mut [u8])
-    requires { ⌜ (length (now order) ≡ length (now payoff)) × (length (now payoff) ≤ 128) ⌝ }
-    ensures { λ _. ⌜ SortedPermutation (now (payoff .entry)) high (now (order .exit)) ⌝ }
-{
-    identity_order(order);
-    sort(payoff, high, order);
-}
-
 // The low step's answer, or, where `high` is set, the high step's.
-pub fn answer(scheme: Scheme, payoff: [u64; 32], class: u64, high: bool) -> StepAnswer
-    ensures { λ r. ⌜ StepAnswered high scheme payoff class r ⌝ }
+pub fn answer(scheme: Scheme, payoff: &[u64], class: u64, high: bool) -> StepAnswer
+    requires { ⌜ length (now payoff) ≡ 32 ⌝ }
+    ensures { λ r. ⌜ StepAnswered high scheme (now (payoff .entry)) class r ⌝ }
 {
     let interval = rows::row(scheme, class);
     let own = scheme_cause(interval.number);
     if own != 0 {
         return refused(own);
     }
-    let number = or_else(payoff_cause(&payoff, scheme.classes), interval.number);
+    let number = or_else(payoff_cause(payoff, scheme.classes), interval.number);
     if number != 0 {
         return refused(number);
     }
@@ -78,7 +68,7 @@ pub fn answer(scheme: Scheme, payoff: [u64; 32], class: u64, high: bool) -> Step
     let upper = interval.upper;
     let payoffs = &payoff[..n];
     let mut order = [0u8; 32];
-    sort_classes(payoffs, high, &mut order[..n]);
+    rank(payoffs, &mut order[..n]);
     let mut row = [0u64; 32];
     let figure = step(
         &lower[..n],

@@ -14,12 +14,12 @@ mod step;
 pub fn low_step(scheme: Scheme, payoff: [u64; 32], class: u64) -> StepAnswer
     ensures { λ r. ⌜ StepAnswered false scheme payoff class r ⌝ }
 {
-    answer::answer(scheme, payoff, class, false)
+    answer::answer(scheme, &payoff, class, false)
 }
 
 // The high step: the greatest figure of a class one year on, rounded up, and a row that reaches it unrounded.
 pub fn high_step(scheme: Scheme, payoff: [u64; 32], class: u64) -> StepAnswer
     ensures { λ r. ⌜ StepAnswered true scheme payoff class r ⌝ }
 {
-    answer::answer(scheme, payoff, class, true)
+    answer::answer(scheme, &payoff, class, true)
 }

@@ -15,6 +15,6 @@ pub fn step(
     requires { ⌜ StepPre (now lower) (now upper) (now payoff) (now order) high (now row) ⌝ }
     ensures { λ r. ⌜ StepPost (now (lower .entry)) (now (upper .entry)) (now (payoff .entry)) high (now (row .exit)) r ⌝ }
 {
-    fill(lower, upper, order, row);
+    fill(lower, upper, order, high, row);
     figure(row, payoff, high)
 }

@@ -12,9 +12,9 @@ use Rattle.setchain.specs.Sums.{at, dot}
 use Rattle.setchain.specs.Step.{rounded, stepFigure, Reaches, NotAfter}
 use Rattle.setchain.specs.Certificate.{Ahead, Certificate}
 use Rattle.setchain.specs.Laws.Step.{certified-reaches, reached-figure}
-use Rattle.order.specs.Order.{payoffAt, Occurs}
+use Rattle.order.specs.Order.{payoffAt, along, Occurs}
 use Rattle.setchain.specs.Laws.NotAfter.{not-after-same}
-use Rattle.order.specs.Laws.Permutations.{sorted-permutation}
+use Rattle.order.specs.Laws.Along.{along-permutation, along-sorted}
 use Rattle.step.specs.Lists.{listsRow}
 use Rattle.step.specs.Fill.{FillPre, FillPost}
 use Rattle.step.specs.Figure.{WeighPre}
@@ -26,17 +26,21 @@ ahead-only false a b h k = omega arith
 ahead-only true a b h k = omega arith
 
 -- What the fill asks.
-pub step-fills : {lower upper payoff order : List ℕ} {high : Bool} {row : List ℕ} → StepPre lower upper payoff order high row → FillPre lower upper order row
-step-fills s =
+pub step-fills : {lower upper payoff order : List ℕ} {high : Bool} {row : List ℕ} → StepPre lower upper payoff order high row → FillPre lower upper (along high order) row
+step-fills {order = order} {high} s =
     record {
       uppers = s .uppers;
       rows = s .rows;
-      permutation = rw (s .payoffs) at (sorted-permutation (s .sorted));
+      permutation = along-permutation high order (rw (s .payoffs) at (s .sorted .permutation));
       sound = s .sound;
     }
 
 module _ {lower upper payoff order : List ℕ} {high : Bool} {row₀ row : List ℕ} {stop : ℕ}
-    (s : StepPre lower upper payoff order high row₀) (w : FillPost lower upper order row stop) where
+    (s : StepPre lower upper payoff order high row₀) (w : FillPost lower upper (along high order) row stop) where
+  -- The order as the fill reads it.
+  abbrev read : List ℕ
+  read = along high order
+
   -- What the figure asks.
   pub step-weighs : WeighPre row payoff
   step-weighs =
@@ -46,26 +50,26 @@ module _ {lower upper payoff order : List ℕ} {high : Bool} {row₀ row : List 
         small = λ j l. s .small j (omega (arith, w .size));
       }
 
-  by-place : (k l : ℕ) → k ≤ l → l < length lower → NotAfter high (payoffAt payoff order k) (payoffAt payoff order l)
+  by-place : (k l : ℕ) → k ≤ l → l < length lower → NotAfter high (payoffAt payoff read k) (payoffAt payoff read l)
   by-place k l h z = by (ℕ-discrete k l)
     where
-      by : Dec (k ≡ l) → NotAfter high (payoffAt payoff order k) (payoffAt payoff order l)
+      by : Dec (k ≡ l) → NotAfter high (payoffAt payoff read k) (payoffAt payoff read l)
       by (yes e) = rw e (not-after-same high refl)
-      by (no ne) = s .sorted .sorted k l (omega arith) (omega (arith, s .payoffs))
+      by (no ne) = along-sorted high payoff order (s .sorted) k l (omega arith) (omega (arith, s .payoffs))
 
   -- A class that comes before the one at which the fill stopped is full.
-  before-full : (j : ℕ) → j < length lower → (NotAfter high (payoffAt payoff order stop) (at payoff j) → ⊥) → at row j ≡ at upper j
+  before-full : (j : ℕ) → j < length lower → (NotAfter high (payoffAt payoff read stop) (at payoff j) → ⊥) → at row j ≡ at upper j
   before-full j l h =
-      let p : Occurs order (length payoff) j = s .sorted .onto j (omega (arith, s .payoffs)) in
-      let e : at order (p .place) - 1 ≡ j = omega (arith, p .held) in
+      let p : Occurs read (length payoff) j = along-permutation high order (s .sorted .permutation) .onto j (omega (arith, s .payoffs)) in
+      let e : at read (p .place) - 1 ≡ j = omega (arith, p .held) in
       by p e (decLt (p .place) stop)
     where
-      by : (p : Occurs order (length payoff) j) → at order (p .place) - 1 ≡ j → Dec (p .place < stop) → at row j ≡ at upper j
+      by : (p : Occurs read (length payoff) j) → at read (p .place) - 1 ≡ j → Dec (p .place < stop) → at row j ≡ at upper j
       by p e (yes z) = rw e at (w .full (p .place) z)
       by p e (no z) = absurd (h (rw (p .held) at (by-place stop (p .place) (omega arith) (omega (arith, s .payoffs, p .early)))))
 
   -- A class that comes after it is bare.
-  after-bare : (j : ℕ) → j < length lower → (NotAfter high (at payoff j) (payoffAt payoff order stop) → ⊥) → at row j ≡ at lower j
+  after-bare : (j : ℕ) → j < length lower → (NotAfter high (at payoff j) (payoffAt payoff read stop) → ⊥) → at row j ≡ at lower j
   after-bare j l h =
       ⊎-elim
       (λ b. b)
@@ -76,9 +80,9 @@ module _ {lower upper payoff order : List ℕ} {high : Bool} {row₀ row : List 
   certificate : Certificate high (length lower) (listsRow lower upper) (at payoff) (at row)
   certificate =
       record {
-        threshold = payoffAt payoff order stop;
-        filled = λ j l h. before-full j l (ahead-only high (at payoff j) (payoffAt payoff order stop) h);
-        bare = λ j l h. after-bare j l (ahead-only high (payoffAt payoff order stop) (at payoff j) h);
+        threshold = payoffAt payoff read stop;
+        filled = λ j l h. before-full j l (ahead-only high (at payoff j) (payoffAt payoff read stop) h);
+        bare = λ j l h. after-bare j l (ahead-only high (payoffAt payoff read stop) (at payoff j) h);
       }
 
   -- It reaches its figure.

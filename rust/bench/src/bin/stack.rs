@@ -64,12 +64,14 @@ fn largest(seed: u64) -> Vec<u8> {
 }
 
 /// The depth of each call on a record.
-fn depths(record: &[u8]) -> [(&'static str, usize); 11] {
+fn depths(record: &[u8]) -> [(&'static str, usize); 12] {
     let mut out = [0; 2];
     let (mut low, mut high) = ([0; 32], [0; 32]);
     let mut text = vec![0; library::SHEET_ROOM];
     let mut length = [0];
     let mut bytes = [0; library::RECORD_ROOM];
+    let payoff: Vec<u64> = (1..=32).collect();
+    let (mut figure, mut row) = ([0], [0; 32]);
     let mut share = |year| used(|| library::share(record, 32, year, &mut out).expect("a share"));
     [
         ("nothing", used(|| ())),
@@ -91,6 +93,12 @@ fn depths(record: &[u8]) -> [(&'static str, usize); 11] {
         (
             "sheet",
             used(|| library::sheet(record, &mut text, &mut length).expect("a text")),
+        ),
+        (
+            "high_step",
+            used(|| {
+                library::high_step(record, &payoff, 32, &mut figure, &mut row).expect("a step");
+            }),
         ),
         ("check", used(|| library::check(record).expect("a record"))),
         (

@@ -3,10 +3,11 @@
 use Prim.Native.Nat.{_≤_}
 use mathlib.Core.Path.{_≡_, ap, sym, _∙_}
 use native.Mathlib.Omega.{arith}
-use lib.ListN.{length}
+use lib.ListN.{length, take}
 use lib.Seq.{length-take-le}
 use Rattle.scheme.specs.Cause.{orElse}
 use Rattle.rows.specs.Laws.Front.{front-fits, front-size, front-lent}
+use Rattle.order.specs.Order.{SortedPermutation}
 use Rattle.step_spec.specs.StepAnswer.{stepCause}
 use Rattle.step.proofs.AnswerLaws.{step-declined, cause-scheme, classes-fit, cause-later, entries-fit, answer-steps, answer-made}
 use borrow.Author.Needs.{needs}
@@ -26,39 +27,41 @@ returns : tie.Need-returns
 returns c =
     let at-scheme-cause = c .before .before in
     let at-row = at-scheme-cause .before in
-    let a = at-row .before .args in
-    step-declined (a .scheme) (a .t2) (a .class) _ (c .refused .ensures)
-    (cause-scheme (a .scheme) (a .t2) (a .class) (at-row .row .ensures) (at-scheme-cause .scheme-cause .ensures) (c .before .if1 .taken)) (c .before .if1 .taken)
+    let a = at-row .before .before .args in
+    step-declined (a .scheme) (a .payoff .now) (a .class) _ (c .refused .ensures)
+    (cause-scheme (a .scheme) (a .payoff .now) (a .class) (at-row .row .ensures) (at-scheme-cause .scheme-cause .ensures) (c .before .if1 .taken)) (c .before .if1 .taken)
 
 -- A scheme without a cause of its own has 32 classes at most.
-few : (c : tie.Else1) → let start = c .before .before .before in
+few : (c : tie.Else1) → let start = c .before .before .before .before in
     start .args .scheme .classes ≤ 32
 few c =
     let at-row = c .before .before in
-    let a = at-row .before .args in
-    classes-fit (a .scheme) (a .t2) (a .class) (at-row .row .ensures) (c .before .scheme-cause .ensures) (c .if1 .left)
+    let a = at-row .before .before .args in
+    classes-fit (a .scheme) (a .payoff .now) (a .class) (at-row .row .ensures) (c .before .scheme-cause .ensures) (c .if1 .left)
 
 -- Each with a payoff.
-enough : (c : tie.Else1) → let start = c .before .before .before in
-    start .args .scheme .classes ≤ length (start .args .t2)
-enough c = omega (arith, few c)
+enough : (c : tie.Else1) → let start = c .before .before .before .before in
+    start .args .scheme .classes ≤ length (start .args .payoff .now)
+enough c =
+    let start = c .before .before .before .before in
+    omega (arith, few c, start .pre)
 
 payoff-cause-requires : tie.Need-payoff-cause-requires
-payoff-cause-requires c κs = few (c .before)
+payoff-cause-requires c κs = enough c
 
 or-else-requires : tie.Need-or-else-requires
 or-else-requires c κs = search needs
 
 -- The first cause of all.
 cause : (c : tie.After-or-else) → let start = c .before .before .before .before .before .before in
-    c .or-else .result ≡ stepCause (start .args .scheme) (start .args .t2) (start .args .class)
+    c .or-else .result ≡ stepCause (start .args .scheme) (start .args .payoff .now) (start .args .class)
 cause c =
-    let at-else1 = c .before .before .before in
+    let at-else1 = c .before .before in
     let at-row = at-else1 .before .before in
-    let a = at-row .before .args in
+    let a = at-row .before .before .args in
     c .or-else .ensures
     ∙ ap (λ n. orElse n (at-row .row .result .number)) (c .before .payoff-cause .ensures)
-    ∙ cause-later (a .scheme) (a .t2) (a .class) (at-row .row .ensures) (at-else1 .before .scheme-cause .ensures) (at-else1 .if1 .left)
+    ∙ cause-later (a .scheme) (a .payoff .now) (a .class) (at-row .row .ensures) (at-else1 .before .scheme-cause .ensures) (at-else1 .if1 .left)
 
 refused-requires-2 : tie.Need-refused-requires-2
 refused-requires-2 c κs = search needs
@@ -67,47 +70,38 @@ returns-2 : tie.Need-returns-2
 returns-2 c =
     let at-or-else = c .before .before in
     let start = at-or-else .before .before .before .before .before .before in
-    step-declined (start .args .scheme) (start .args .t2) (start .args .class) _ (c .refused2 .ensures) (cause at-or-else) (c .before .if2 .taken)
+    step-declined (start .args .scheme) (start .args .payoff .now) (start .args .class) _ (c .refused2 .ensures) (cause at-or-else) (c .before .if2 .taken)
 
 cast-n : tie.Need-cast-n
 cast-n c = search needs
 
-array-share-prefix-payoff : tie.Need-array-share-prefix-payoff
-array-share-prefix-payoff c =
-    let at-else1 = c .before .before .before .before .before .before .before in
-    enough at-else1
-
 slice-aggregate-payoffs : tie.Need-slice-aggregate-payoffs
 slice-aggregate-payoffs c =
-    let at-else1 = c .before .before .before .before .before .before .before .before in
-    let start = at-else1 .before .before .before in
-    sym (length-take-le (start .args .scheme .classes) (start .args .t2) (enough at-else1))
+    let at-else1 = c .before .before .before .before .before .before .before in
+    let start = at-else1 .before .before .before .before in
+    sym (length-take-le (start .args .scheme .classes) (start .args .payoff .now) (enough at-else1))
 
 array-borrow-prefix-order : tie.Need-array-borrow-prefix-order
 array-borrow-prefix-order c =
-    let at-else1 = c .before .before .before .before .before .before .before .before in
+    let at-else1 = c .before .before .before .before .before .before .before in
     few at-else1
 
-slice-aggregate-sort-classes : tie.Need-slice-aggregate-sort-classes
-slice-aggregate-sort-classes c =
-    let at-else1 = c .before .before .before .before .before .before .before .before .before in
+slice-aggregate-rank : tie.Need-slice-aggregate-rank
+slice-aggregate-rank c =
+    let at-else1 = c .before .before .before .before .before .before .before .before in
     sym (front-lent _ (few at-else1))
 
-sort-classes-requires : tie.Need-sort-classes-requires
-sort-classes-requires c κs =
-    let at-else1 = c .before .before .before .before .before .before .before .before .before in
-    let start = at-else1 .before .before .before in
-    let count = length-take-le (start .args .scheme .classes) (start .args .t2) (enough at-else1) in
-    (front-lent _ (few at-else1) ∙ sym count, omega (arith, count, few at-else1))
+rank-requires : tie.Need-rank-requires
+rank-requires c κs = tt
 
 -- Without a cause the row has entries for each class.
-entries : (c : tie.Else2) → let at-row = c .before .before .before .before .before .before in
-    let classes = at-row .before .args .scheme .classes in
+entries : (c : tie.Else2) → let at-row = c .before .before .before .before .before in
+    let classes = at-row .before .before .args .scheme .classes in
     (classes ≤ length (at-row .row .result .lower)) × (classes ≤ length (at-row .row .result .upper))
 entries c =
-    let at-row = c .before .before .before .before .before .before in
-    let a = at-row .before .args in
-    entries-fit (a .scheme) (a .t2) (a .class) (at-row .row .ensures) (cause (c .before)) (c .if2 .left)
+    let at-row = c .before .before .before .before .before in
+    let a = at-row .before .before .args in
+    entries-fit (a .scheme) (a .payoff .now) (a .class) (at-row .row .ensures) (cause (c .before)) (c .if2 .left)
 
 array-share-prefix-lower : tie.Need-array-share-prefix-lower
 array-share-prefix-lower c =
@@ -129,52 +123,63 @@ slice-aggregate-step-2 c =
     let at-else2 = c .before .before .before .before .before .before .before .before .before in
     sym (length-take-le _ _ (entries at-else2 .1))
 
--- The sorted order has each class.
-order-size : (c : tie.After-sort-classes) → let start = c .before .before .before .before .before .before .before .before .before .before .before .before .before in
-    length (c .sort-classes .last .1 .1 .0) ≡ start .args .scheme .classes
+-- The classes by payoff.
+sorted : (c : tie.After-rank) → let start = c .before .before .before .before .before .before .before .before .before .before .before .before .before in
+    SortedPermutation (take (start .args .scheme .classes) (start .args .payoff .now)) (c .rank .last .1 .0)
+sorted c =
+    let at-else1 = c .before .before .before .before .before .before .before .before .before in
+    let start = at-else1 .before .before .before .before in
+    let count = length-take-le (start .args .scheme .classes) (start .args .payoff .now) (enough at-else1) in
+    c .rank .ensures .1 (front-lent _ (few at-else1) ∙ sym count) (omega (arith, count, few at-else1))
+
+-- The order has a place for each.
+order-size : (c : tie.After-rank) → let start = c .before .before .before .before .before .before .before .before .before .before .before .before .before in
+    length (c .rank .last .1 .0) ≡ start .args .scheme .classes
 order-size c =
-    let at-else1 = c .before .before .before .before .before .before .before .before .before .before in
-    c .sort-classes .kept .1 .1 .0 ∙ front-lent _ (few at-else1)
+    let at-else1 = c .before .before .before .before .before .before .before .before .before in
+    c .rank .kept .1 .0 ∙ front-lent _ (few at-else1)
 
 array-share-prefix-order : tie.Need-array-share-prefix-order
 array-share-prefix-order c =
-    let at-sort-classes = c .before .before .before in
-    front-fits _ (at-sort-classes .sort-classes .last .1 .1 .0) _ (order-size at-sort-classes)
+    let at-rank = c .before .before .before in
+    front-fits _ (at-rank .rank .last .1 .0) _ (order-size at-rank)
 
 slice-aggregate-step-3 : tie.Need-slice-aggregate-step-3
 slice-aggregate-step-3 c =
-    let at-sort-classes = c .before .before .before .before in
-    front-size _ (at-sort-classes .sort-classes .last .1 .1 .0) _ (order-size at-sort-classes)
+    let at-rank = c .before .before .before .before in
+    front-size _ (at-rank .rank .last .1 .0) _ (order-size at-rank)
 
 array-borrow-prefix-row : tie.Need-array-borrow-prefix-row
 array-borrow-prefix-row c =
-    let at-else1 = c .before .before .before .before .before .before .before .before .before .before .before .before .before .before in
+    let at-rank = c .before .before .before .before in
+    let at-else1 = at-rank .before .before .before .before .before .before .before .before .before in
     few at-else1
 
 slice-aggregate-step-4 : tie.Need-slice-aggregate-step-4
 slice-aggregate-step-4 c =
-    let at-else1 = c .before .before .before .before .before .before .before .before .before .before .before .before .before .before .before in
+    let at-rank = c .before .before .before .before .before in
+    let at-else1 = at-rank .before .before .before .before .before .before .before .before .before in
     sym (front-lent _ (few at-else1))
 
 step-requires : tie.Need-step-requires
 step-requires c κs =
-    let at-sort-classes = c .before .before .before .before .before in
-    let at-else2 = at-sort-classes .before .before .before .before .before .before in
-    let at-else1 = at-else2 .before .before .before .before in
+    let at-rank = c .before .before .before .before .before in
+    let at-else2 = at-rank .before .before .before .before .before .before in
+    let at-else1 = at-else2 .before .before .before in
     let at-row = at-else1 .before .before in
-    let a = at-row .before .args in
-    answer-steps (a .scheme) (a .t2) (a .class) (at-row .row .ensures) (cause (at-else2 .before)) (at-else2 .if2 .left) (enough at-else1) _ _
-    (at-sort-classes .sort-classes .ensures)
+    let a = at-row .before .before .args in
+    answer-steps (a .scheme) (a .payoff .now) (a .class) (at-row .row .ensures) (cause (at-else2 .before)) (at-else2 .if2 .left) (enough at-else1) _ _
+    (sorted at-rank)
 
 returns-3 : tie.Need-returns-3
 returns-3 c =
     let at-step = c .before in
-    let at-sort-classes = at-step .before .before .before .before .before .before in
-    let at-else2 = at-sort-classes .before .before .before .before .before .before in
-    let at-else1 = at-else2 .before .before .before .before in
+    let at-rank = at-step .before .before .before .before .before .before in
+    let at-else2 = at-rank .before .before .before .before .before .before in
+    let at-else1 = at-else2 .before .before .before in
     let at-row = at-else1 .before .before in
-    let a = at-row .before .args in
-    answer-made (a .scheme) (a .t2) (a .class) (at-row .row .ensures) (cause (at-else2 .before)) (at-else2 .if2 .left) (enough at-else1) _ (at-step .step .ensures)
+    let a = at-row .before .before .args in
+    answer-made (a .scheme) (a .payoff .now) (a .class) (at-row .row .ensures) (cause (at-else2 .before)) (at-else2 .if2 .left) (enough at-else1) _ (at-step .step .ensures)
 
 pub answer-spec : {M : Type 1} → statement M
 answer-spec =
@@ -189,11 +194,10 @@ answer-spec =
     refused-requires-2
     returns-2
     cast-n
-    array-share-prefix-payoff
     slice-aggregate-payoffs
     array-borrow-prefix-order
-    slice-aggregate-sort-classes
-    sort-classes-requires
+    slice-aggregate-rank
+    rank-requires
     array-share-prefix-lower
     slice-aggregate-step
     array-share-prefix-upper

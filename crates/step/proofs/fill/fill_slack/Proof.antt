@@ -1,30 +1,32 @@
 -- `fill_slack` gives the slack along the order: the row with what is left sums to ONE, full where it passed and bare elsewhere.
 -- Assumes nothing.
 use Prim.Native.Nat.{_-_, _≤_, _<_}
-use mathlib.Core.Path.{_≡_, _∙_}
+use mathlib.Core.Path.{_≡_, ap, _∙_}
 use native.Mathlib.Omega.{arith}
 use lib.ListN.{length, length-set}
 use Rattle.setchain.specs.Sums.{at}
 use Rattle.setchain.specs.Rows.{ONE}
 use Rattle.step.specs.Laws.Fill.{Filling, filling-none, filling-more, filling-last, shift-inside}
+use Rattle.order.specs.Order.{along}
+use Rattle.order.specs.States.{stateOf}
 use Rattle.order.specs.Laws.Numbers.{state-of}
 use Rattle.step.proofs.fill.fill_slack.Statement.{statement}
 use Rattle.step.proofs.fill.fill_slack.Tie as tie
 
 abbrev Inv-loop : tie.InvT-loop
-Inv-loop upper order row₀ parts slack₀ k₀ row slack k = Filling row₀ upper order row slack k
+Inv-loop upper order high row₀ parts slack₀ k₀ row slack k = Filling row₀ upper (along high order) row slack k
 
 abbrev μ-loop : tie.MeasureT-loop
-μ-loop upper order row₀ parts slack₀ k₀ row slack k = length row₀ - k
+μ-loop upper order high row₀ parts slack₀ k₀ row slack k = length row₀ - k
 
 -- The class at place k has a state.
 named : (c : tie.After-state Inv-loop μ-loop) → let at-loop = c .before .before in
     let start = at-loop .before .before .before .before in
-    c .state .result ≡ at (start .args .order .now) (at-loop .loop .k) - 1
+    c .state .result ≡ at (along (start .args .high) (start .args .order .now)) (at-loop .loop .k) - 1
 named c =
     let at-loop = c .before .before in
     let start = at-loop .before .before .before .before in
-    c .state .ensures ∙ state-of _ (start .pre .permutation .within (at-loop .loop .k) (at-loop .loop .inv .inside) .0)
+    c .state .ensures ∙ ap stateOf (c .before .class-at .ensures) ∙ state-of _ (start .pre .permutation .within (at-loop .loop .k) (at-loop .loop .inv .inside) .0)
 
 -- Whose entry lies between its ends.
 here : (c : tie.After-state Inv-loop μ-loop)
@@ -43,8 +45,8 @@ loop-holds c =
     let start = c .before .before .before in
     filling-none (start .pre)
 
-shared-slice-read-state : tie.Need-shared-slice-read-state Inv-loop μ-loop
-shared-slice-read-state c = omega arith
+class-at-requires : tie.Need-class-at-requires Inv-loop μ-loop
+class-at-requires c κs = tt
 
 state-requires : tie.Need-state-requires Inv-loop μ-loop
 state-requires c κs = tt
@@ -141,7 +143,7 @@ fill-slack-spec =
     Inv-loop
     μ-loop
     loop-holds
-    shared-slice-read-state
+    class-at-requires
     state-requires
     mul-capacity
     shared-slice-read-capacity
