@@ -10,15 +10,14 @@ use native.Mathlib.Omega.{arith}
 use borrow.Author.Tests.{ltb-false}
 use Rattle.scheme.specs.declared.Scheme.{Scheme}
 use Rattle.scheme.specs.Cause.{causeOf}
-use Rattle.scheme.specs.Stored.{schemeOf}
 use Rattle.scheme.specs.Laws.Cause.{first-none, second-none, test-none, answered}
 use Rattle.record_spec.specs.declared.ReadAnswer.{ReadAnswer}
-use Rattle.record_spec.specs.Layout.{version1, schemeIn}
+use Rattle.record_spec.specs.Layout.{schemeIn}
 use Rattle.record_spec.specs.Read.{readAnswer}
-use Rattle.record_spec.specs.Laws.Read.{read-framed, read-passed, read-in}
+use Rattle.record_spec.specs.Laws.Read.{read-passed, read-in}
 use Rattle.record_spec.specs.Write.{writeNumber, recordLength, writeCause, writeAnswer, writeLeaves}
 use Rattle.big_endian_spec.specs.Numbers.{Bytes}
-use Rattle.record_write.specs.Agreement.{copied}
+use Rattle.record_write.specs.Agreement.{rewritten-length, copied}
 use Rattle.record_write.specs.Laws.Write.{answer-number, answer-value}
 use Rattle.ready_spec.specs.declared.ReadyAnswer.{ReadyAnswer}
 use Rattle.ready_spec.specs.Answer.{readyAnswer}
@@ -41,11 +40,10 @@ module _ (bytes out size : List ℕ) {a : ReadAnswer} (is : a ≡ readAnswer byt
 
   -- The scheme in the bytes.
   abbrev s : Scheme
-  s = schemeIn version1 bytes
+  s = schemeIn bytes
 
   whole : a .number ≡ 0 → length bytes ≡ recordLength s
-  unfolding schemeOf
-  whole none = read-framed bytes (read-passed bytes is none) .whole
+  whole none = rewritten-length bytes (read-passed bytes is none)
 
   -- Written with no cause.
   clear : recordNumber s out size ≡ 0 → writeCause s out ≡ 0

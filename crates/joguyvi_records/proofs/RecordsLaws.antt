@@ -9,9 +9,7 @@ use Prim.Native.Nat.{ℕ}
 use Rattle.scheme.specs.declared.Scheme.{Scheme}
 use Rattle.scheme.specs.Cause.{causeOf}
 use Rattle.scheme.specs.Laws.Cause.{second-cause, declined}
-use Rattle.record_spec.specs.Layout.{version1}
-use Rattle.record_spec.specs.Bytes.{bytesOf}
-use Rattle.record_spec.specs.Write.{writeNumber, recordLength, writeCause, writeAnswer, writeLeaves}
+use Rattle.record_spec.specs.Write.{writeNumber, recordOf, recordLength, writeCause, writeAnswer, writeLeaves}
 use Rattle.record_write.specs.Laws.Write.{answer-number}
 use Rattle.joguyvi_spec.specs.Laws.Causes.{cause-only}
 
@@ -22,4 +20,4 @@ module _ (s : Scheme) (out : List ℕ) where
 
   pub write-left : (writeNumber (writeAnswer s out) ≡ 0 → ⊥) → writeLeaves s out ≡ out
   unfolding writeLeaves
-  write-left h = declined (writeCause s out) (bytesOf version1 s ++ drop (recordLength s) out) out (λ z. h (answer-number s out ∙ z))
+  write-left h = declined (writeCause s out) (recordOf s ++ drop (recordLength s) out) out (λ z. h (answer-number s out ∙ z))

@@ -14,7 +14,7 @@ use Rattle.scheme.specs.Stored.{schemeOf}
 use Rattle.scheme.specs.RowAnswer.{rowAnswer}
 use Rattle.scheme.specs.Laws.Cause.{second-cause, declined, answered}
 use Rattle.record_spec.specs.declared.ReadAnswer.{ReadAnswer}
-use Rattle.record_spec.specs.Layout.{version1, schemeIn, rowPlace, classesIn, columnsIn}
+use Rattle.record_spec.specs.Layout.{layoutIn, schemeIn, rowPlace, classesIn, columnsIn}
 use Rattle.record_spec.specs.Read.{readCause, readAnswer}
 use Rattle.record_spec.specs.RuleRow.{ruleRowCause, ruleRow}
 use Rattle.record_spec.specs.Laws.Read.{read-in}
@@ -46,13 +46,13 @@ module _ (bytes lower upper : List ℕ) {a : ReadAnswer} (is : a ≡ readAnswer 
   pub bands-passed : {n : ℕ} {lower′ upper′ : List ℕ} → a .number ≡ 0 → BandsPost (a .scheme) lower upper n lower′ upper′ → BandsCall bytes lower upper n lower′ upper′
   unfolding schemeOf
   bands-passed {n} {lower′} {upper′} none put =
-      let found : BandsPost (schemeIn version1 bytes) lower upper n lower′ upper′ = subst (λ s. BandsPost s lower upper n lower′ upper′) (read-in bytes is none) put in
+      let found : BandsPost (schemeIn bytes) lower upper n lower′ upper′ = subst (λ s. BandsPost s lower upper n lower′ upper′) (read-in bytes is none) put in
       record { answer = passed-number bytes is none (found .answer); lowers = found .filled; uppers = found .otherFilled }
 
 -- A rule row that is shown has a byte for each column.
 module _ (bytes : List ℕ) (class : ℕ) (out : List ℕ) where
   abbrev place : ℕ
-  place = rowPlace version1 (columnsIn bytes) (class - 1)
+  place = rowPlace (layoutIn bytes) (columnsIn bytes) (class - 1)
 
   row-size : ruleRowCause bytes class ≡ 0 → length (ruleRow bytes class) ≡ columnsIn bytes
   unfolding ruleRow

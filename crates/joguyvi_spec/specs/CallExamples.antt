@@ -14,6 +14,7 @@ use Rattle.scheme.specs.Stored.{upTo, schemeOf}
 use Rattle.scheme.specs.Examples.{padded}
 use Rattle.scheme.specs.RowAnswer.{rowAt}
 use Rattle.big_endian_spec.specs.Numbers.{beAt, beBytes}
+use Rattle.record_spec.specs.Layout.{layoutIn}
 use Rattle.record_spec.specs.Joined.{joined}
 use Rattle.record_spec.specs.Read.{frameCause}
 use Rattle.record_spec.specs.Bytes.{headerBytes, bytesOf}
@@ -45,7 +46,7 @@ use Rattle.joguyvi_spec.specs.Laws.Figures.{RecordBoundsPost, share-call
 
 -- The number of Example A's record and of no bytes, and not another.
 pub check-calls : CheckCall exampleA 0 × CheckCall [] 1 × ¬ CheckCall [] 0
-unfolding frameCause
+unfolding layoutIn frameCause
 check-calls = (record { answer = sym read-a }, record { answer = refl }, λ w. omega (arith, w .answer))
 
 -- Example A's class 2: its lower and upper entries, each in its own buffer; where the record is declined, neither.
@@ -58,7 +59,7 @@ uppers = padded 30 (900000000 ∷ 250000000 ∷ [])
 pub row-calls :
     RowCall exampleA 2 long long 0 lowers uppers × ¬ RowCall exampleA 2 long long 0 uppers uppers × ¬ RowCall exampleA 2 long long 0 lowers lowers
     × RowCall [] 2 long long 1 long long × ¬ RowCall [] 2 long long 1 lowers long × ¬ RowCall [] 2 long long 0 lowers uppers
-unfolding rowAt onlyIf frameCause beAt schemeOf upTo tab causeWhere sizeOut startOut horizonOut ruleOut bandOut sumOut premiumOut anyBelow sumTo
+unfolding layoutIn rowAt onlyIf frameCause beAt schemeOf upTo tab causeWhere sizeOut startOut horizonOut ruleOut bandOut sumOut premiumOut anyBelow sumTo
 row-calls = (
   record { answer = sym (after-a _); lowers = refl; uppers = refl },
   λ w. let e : _≡_ {A = ℕ} 900000000 800000000 = ap (λ l. getD l 0 0) (w .lowers) in omega arith,
@@ -72,7 +73,7 @@ row-calls = (
 pub rule-row-calls :
     RuleRowCall exampleA 2 three 0 (1 ∷ 2 ∷ 2 ∷ []) × ¬ RuleRowCall exampleA 2 three 0 (1 ∷ 1 ∷ 2 ∷ []) × RuleRowCall exampleA 3 two 11 two
     × ¬ RuleRowCall exampleA 3 two 13 two
-unfolding frameCause beAt schemeOf upTo tab causeWhere sizeOut startOut horizonOut ruleOut bandOut sumOut premiumOut anyBelow sumTo
+unfolding layoutIn frameCause beAt schemeOf upTo tab causeWhere sizeOut startOut horizonOut ruleOut bandOut sumOut premiumOut anyBelow sumTo
 rule-row-calls = (
   record { answer = refl; rules = sym (rows-a .0) },
   λ w. let e : _≡_ {A = ℕ} 1 2 = ap (λ l. getD l 1 0) (w .rules ∙ rows-a .0) in omega arith,
@@ -90,7 +91,7 @@ upperEnds = 900000000 ∷ 200000000 ∷ 50000000 ∷ []
 pub bands-calls :
     BandsCall exampleA three three 0 lowerEnds upperEnds × ¬ BandsCall exampleA three three 0 upperEnds upperEnds × ¬ BandsCall exampleA three three 0 lowerEnds lowerEnds
     × BandsCall [] three three 1 three three × ¬ BandsCall [] three three 2 three three
-unfolding frameCause beAt schemeOf upTo tab
+unfolding layoutIn frameCause beAt schemeOf upTo tab
 bands-calls = (
   record { answer = sym (after-a _); lowers = refl; uppers = refl },
   λ w. let e : _≡_ {A = ℕ} 900000000 800000000 = ap (λ l. getD l 0 0) (w .lowers) in omega arith,
@@ -108,7 +109,7 @@ pub rewrite-calls :
     × ¬ RewriteCall [] two one 1 three one
     × ¬ RewriteCall [] two one 1 two (0 ∷ [])
     × ¬ RewriteCall [] two one 2 two one
-unfolding writeAnswer writeLeaves bytesOf headerBytes joined beBytes frameCause beAt schemeOf upTo tab causeWhere sizeOut startOut horizonOut ruleOut bandOut sumOut premiumOut anyBelow sumTo
+unfolding layoutIn writeAnswer writeLeaves bytesOf headerBytes joined beBytes frameCause beAt schemeOf upTo tab causeWhere sizeOut startOut horizonOut ruleOut bandOut sumOut premiumOut anyBelow sumTo
 rewrite-calls = (
   record { answer = sym (after-a _); written = refl; lengths = refl; copied = λ z. refl; counted = λ z. refl },
   λ w. let e : _≡_ {A = ℕ} 8 9 = ap (λ l. getD l 46 0) (w .copied refl) in omega arith,
@@ -126,7 +127,7 @@ pub ready-calls :
     × ¬ ReadyCall 1 100 (replicate 211 9) one 0 (writeLeaves (readyScheme 1 100) (replicate 211 9)) (211 ∷ [])
     × ReadyCall 4 100 two one 14 two one
     × ¬ ReadyCall 4 100 two one 0 two one
-unfolding readyAnswer readyScheme schemeOf upTo scale1 writeAnswer writeLeaves bytesOf headerBytes beBytes tab causeWhere sizeOut startOut horizonOut ruleOut bandOut sumOut premiumOut anyBelow sumTo
+unfolding layoutIn readyAnswer readyScheme schemeOf upTo scale1 writeAnswer writeLeaves bytesOf headerBytes beBytes tab causeWhere sizeOut startOut horizonOut ruleOut bandOut sumOut premiumOut anyBelow sumTo
 ready-calls = (
   record { answer = refl; written = refl; lengths = refl },
   λ w. let e : _≡_ {A = ℕ} 9 1 = ap (λ l. getD l 0 0) (w .written) in omega arith,
@@ -142,7 +143,7 @@ refusedOne = 82 ∷ 69 ∷ 70 ∷ 85 ∷ 83 ∷ 69 ∷ 68 ∷ 32 ∷ 49 ∷ 10 �
 pub sheet-calls :
     SheetCall [] (replicate 11 0) one 0 refusedOne (10 ∷ []) × ¬ SheetCall [] (replicate 11 0) one 0 (replicate 11 0) (10 ∷ [])
     × ¬ SheetCall [] (replicate 11 0) one 0 refusedOne (11 ∷ []) × SheetCall [] two one 13 two one × ¬ SheetCall [] two one 1 two one
-unfolding sheetAnswer sheetLeaves spaceFor sheetText refusedLine digitsWithin frameCause
+unfolding layoutIn sheetAnswer sheetLeaves spaceFor sheetText refusedLine digitsWithin frameCause
 sheet-calls = (
   record { answer = refl; text = refl; lengths = refl },
   λ w. let e : _≡_ {A = ℕ} 0 82 = ap (λ l. getD l 0 0) (w .text) in omega arith,
@@ -160,7 +161,7 @@ put-a query e = record { answer = sym (after-a _ ∙ ap (λ b. putNumber b two) 
 pub share-calls :
     ShareCall exampleA 1 2 two 0 (920000000 ∷ 990000000 ∷ []) × ¬ ShareCall exampleA 1 2 two 0 (919999997 ∷ 990000000 ∷ [])
     × ShareCall [] 1 2 two 1 two × ¬ ShareCall [] 1 2 two 1 (920000000 ∷ 990000000 ∷ []) × ¬ ShareCall [] 1 2 two 0 two
-unfolding frameCause
+unfolding layoutIn frameCause
 share-calls = (
   share-call exampleA 2 two 1 (put-a (λ s. shareAnswer s 1 2) (ap (λ s. shareAnswer s 1 2) scheme-a ∙ document-examples .year2Class1)),
   λ w. forbidden .lowWide (λ z. subst (λ s. Kept s 2 (startShare s 0) 919999997 990000000) scheme-a (w .promise refl)),
@@ -197,7 +198,7 @@ pub share-sheet-calls :
     × ¬ ShareSheetCall exampleA 2 two two 0 (10000000 ∷ 10000000 ∷ []) (80000000 ∷ 80000000 ∷ [])
     × ShareSheetCall [] 1 two two 1 two two
     × ¬ ShareSheetCall [] 1 two two 2 two two
-unfolding sheetCause frameCause beAt schemeOf upTo tab causeWhere sizeOut startOut horizonOut ruleOut bandOut sumOut premiumOut anyBelow sumTo
+unfolding layoutIn sheetCause frameCause beAt schemeOf upTo tab causeWhere sizeOut startOut horizonOut ruleOut bandOut sumOut premiumOut anyBelow sumTo
 share-sheet-calls = (
   record { answer = sym (after-a _); lows = refl; highs = refl; promise = sheet-kept inA 1 two two },
   λ w. let e : _≡_ {A = ℕ} 900000000 800000000 = ap (λ l. getD l 0 0) (sym highs-a ∙ w .lows ∙ lows-a) in omega arith,
@@ -225,7 +226,7 @@ pub step-calls :
     × StepCall false [] thirtyTen 2 one long 1 one long
     × ¬ StepCall false [] thirtyTen 2 one long 1 one fourFifths
     × ¬ StepCall false [] thirtyTen 2 one long 2 one long
-unfolding payoffRead payoffOut stepFigure fillRow capacityBefore onlyIf frameCause beAt schemeOf upTo tab causeWhere sizeOut startOut horizonOut ruleOut bandOut sumOut premiumOut anyBelow sumTo
+unfolding layoutIn payoffRead payoffOut stepFigure fillRow capacityBefore onlyIf frameCause beAt schemeOf upTo tab causeWhere sizeOut startOut horizonOut ruleOut bandOut sumOut premiumOut anyBelow sumTo
 step-calls =
     let reached = step-answers .answered .reaches refl in (
       record {

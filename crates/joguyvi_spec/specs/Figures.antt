@@ -7,7 +7,7 @@ use Rattle.setchain.specs.Fractions.{Fraction}
 use Rattle.setchain.specs.Picks.{Matrix}
 use Rattle.scheme.specs.Cause.{orElse}
 use Rattle.scheme.specs.declared.Scheme.{Scheme}
-use Rattle.record_spec.specs.Layout.{version1, schemeIn}
+use Rattle.record_spec.specs.Layout.{schemeIn}
 use Rattle.record_spec.specs.Read.{readCause}
 use Rattle.bounds_spec.specs.declared.Bounds.{Bounds}
 use Rattle.bounds_spec.specs.Answers.{numberOf, lowOf, highOf, shareAnswer, meanAnswer, totalAnswer}
@@ -33,10 +33,10 @@ boundsNumber bytes b out = orElse (readCause bytes) (putNumber b out)
 -- What a call for low and high answers and leaves, where `query` answers for a scheme and `exact` is the figure between low and high.
 pub record BoundsCall (query : Scheme → Bounds) (exact : Scheme → List Matrix → Fraction) (bytes : List ℕ) (year : ℕ) (out : List ℕ) (number : ℕ) (out′ : List ℕ) : Type 0 where
   -- The cause of reading, then that of the answer, then 13.
-  pub answer : number ≡ boundsNumber bytes (query (schemeIn version1 bytes)) out
-  pub figures : out′ ≡ filledWhere number (lowAndHigh (query (schemeIn version1 bytes))) out
+  pub answer : number ≡ boundsNumber bytes (query (schemeIn bytes)) out
+  pub figures : out′ ≡ filledWhere number (lowAndHigh (query (schemeIn bytes))) out
   -- The buffer's two numbers keep what is promised (crate bounds_spec, `Promises`).
-  pub promise : number ≡ 0 → Kept (schemeIn version1 bytes) year (exact (schemeIn version1 bytes)) (getD out′ 0 0) (getD out′ 1 0)
+  pub promise : number ≡ 0 → Kept (schemeIn bytes) year (exact (schemeIn bytes)) (getD out′ 0 0) (getD out′ 1 0)
 
 -- joguyvi_share: the share of a class after a number of years.
 abbrev pub ShareCall : (bytes : List ℕ) (class year : ℕ) (out : List ℕ) (number : ℕ) (out′ : List ℕ) → Type 0

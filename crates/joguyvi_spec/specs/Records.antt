@@ -5,7 +5,7 @@ use mathlib.Core.List.{List, [], _∷_, _++_}
 use lib.ListN.{length, drop}
 use Rattle.scheme.specs.declared.Scheme.{Scheme}
 use Rattle.scheme.specs.Cause.{orElse}
-use Rattle.record_spec.specs.Layout.{version1, schemeIn}
+use Rattle.record_spec.specs.Layout.{schemeIn}
 use Rattle.record_spec.specs.Read.{readCause}
 use Rattle.record_spec.specs.Write.{writeNumber, writtenLength, writeAnswer, writeLeaves}
 use Rattle.ready_spec.specs.Answer.{readyAnswer}
@@ -33,14 +33,14 @@ RecordPost s out size = BuffersPost (recordNumber s out size) (writeLeaves s out
 
 -- The number for a record written again: the cause of reading comes first.
 abbrev pub rewriteNumber : List ℕ → (out size : List ℕ) → ℕ
-rewriteNumber bytes out size = orElse (readCause bytes) (recordNumber (schemeIn version1 bytes) out size)
+rewriteNumber bytes out size = orElse (readCause bytes) (recordNumber (schemeIn bytes) out size)
 
 -- joguyvi_rewrite: what it answers and leaves; `size` is the buffer for the length.
 pub record RewriteCall (bytes out size : List ℕ) (number : ℕ) (out′ size′ : List ℕ) : Type 0 where
   -- The cause of reading, then that of writing, then 13.
   pub answer : number ≡ rewriteNumber bytes out size
-  pub written : out′ ≡ filledWhere number (writeLeaves (schemeIn version1 bytes) out) out
-  pub lengths : size′ ≡ filledWhere number (lengthAlone (schemeIn version1 bytes) out) size
+  pub written : out′ ≡ filledWhere number (writeLeaves (schemeIn bytes) out) out
+  pub lengths : size′ ≡ filledWhere number (lengthAlone (schemeIn bytes) out) size
   -- "A record read and rewritten has the same bytes": with the number 0, `out` begins with them and is as it was past them, and the length is theirs.
   pub copied : number ≡ 0 → out′ ≡ bytes ++ drop (length bytes) out
   pub counted : number ≡ 0 → size′ ≡ length bytes ∷ []

@@ -11,7 +11,7 @@ use Rattle.scheme.specs.Tables.{tab}
 use Rattle.scheme.specs.Access.{lowerAt, upperAt}
 use Rattle.scheme.specs.Cause.{orElse}
 use Rattle.scheme.specs.RowAnswer.{rowAnswer}
-use Rattle.record_spec.specs.Layout.{version1, schemeIn, columnsIn}
+use Rattle.record_spec.specs.Layout.{schemeIn, columnsIn}
 use Rattle.record_spec.specs.Read.{readCause}
 use Rattle.record_spec.specs.RuleRow.{ruleRowCause, ruleRow}
 use Rattle.joguyvi_spec.specs.Buffers.{bufferCause, buffersCause, filledWhere, BufferPost, BuffersPost}
@@ -26,7 +26,7 @@ RowPost answer lower upper = BuffersPost (putRowNumber answer lower upper) (answ
 
 -- The row of a class of a record (document 01, "Interval rows").
 abbrev pub rowOfRecord : List ℕ → (class : ℕ) → RowAnswer
-rowOfRecord bytes class = rowAnswer (schemeIn version1 bytes) class
+rowOfRecord bytes class = rowAnswer (schemeIn bytes) class
 
 -- The number for it: the cause of reading comes first.
 abbrev pub rowNumber : List ℕ → (class : ℕ) (lower upper : List ℕ) → ℕ
@@ -75,5 +75,5 @@ bandsNumber bytes lower upper = orElse (readCause bytes) (buffersCause (columnsI
 -- joguyvi_bands: what it answers and leaves.
 pub record BandsCall (bytes lower upper : List ℕ) (number : ℕ) (lower′ upper′ : List ℕ) : Type 0 where
   pub answer : number ≡ bandsNumber bytes lower upper
-  pub lowers : lower′ ≡ filledWhere number (lowerBands (schemeIn version1 bytes)) lower
-  pub uppers : upper′ ≡ filledWhere number (upperBands (schemeIn version1 bytes)) upper
+  pub lowers : lower′ ≡ filledWhere number (lowerBands (schemeIn bytes)) lower
+  pub uppers : upper′ ≡ filledWhere number (upperBands (schemeIn bytes)) upper

@@ -3,7 +3,7 @@ use Prim.Native.Nat.{ℕ}
 use mathlib.Core.Path.{_≡_}
 use mathlib.Core.List.{List}
 use Rattle.scheme.specs.Cause.{orElse}
-use Rattle.record_spec.specs.Layout.{version1, schemeIn}
+use Rattle.record_spec.specs.Layout.{schemeIn}
 use Rattle.record_spec.specs.Read.{readCause}
 use Rattle.bounds_spec.specs.Answers.{sheetCause, lowShares, highShares}
 use Rattle.bounds_spec.specs.Promises.{SheetPromise}
@@ -11,12 +11,12 @@ use Rattle.joguyvi_spec.specs.Buffers.{filledWhere}
 
 -- The cause of reading, then that of the share sheet, where 13 stands last.
 abbrev pub sharesNumber : List ℕ → (year : ℕ) (low high : List ℕ) → ℕ
-sharesNumber bytes year low high = orElse (readCause bytes) (sheetCause (schemeIn version1 bytes) year low high)
+sharesNumber bytes year low high = orElse (readCause bytes) (sheetCause (schemeIn bytes) year low high)
 
 -- joguyvi_share_sheet: what it answers and leaves.
 pub record ShareSheetCall (bytes : List ℕ) (year : ℕ) (low high : List ℕ) (number : ℕ) (low′ high′ : List ℕ) : Type 0 where
   pub answer : number ≡ sharesNumber bytes year low high
-  pub lows : low′ ≡ filledWhere number (lowShares (schemeIn version1 bytes) year) low
-  pub highs : high′ ≡ filledWhere number (highShares (schemeIn version1 bytes) year) high
+  pub lows : low′ ≡ filledWhere number (lowShares (schemeIn bytes) year) low
+  pub highs : high′ ≡ filledWhere number (highShares (schemeIn bytes) year) high
   -- The buffers' numbers keep what is promised (crate bounds_spec, `Promises`).
-  pub promise : SheetPromise (schemeIn version1 bytes) year number low′ high′
+  pub promise : SheetPromise (schemeIn bytes) year number low′ high′

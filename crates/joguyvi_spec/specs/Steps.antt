@@ -8,7 +8,7 @@ use Rattle.setchain.specs.Step.{stepFigure, Reaches}
 use Rattle.scheme.specs.declared.Scheme.{Scheme}
 use Rattle.scheme.specs.Tables.{tab}
 use Rattle.scheme.specs.Cause.{orElse}
-use Rattle.record_spec.specs.Layout.{version1, schemeIn}
+use Rattle.record_spec.specs.Layout.{schemeIn}
 use Rattle.record_spec.specs.Read.{readCause}
 use Rattle.setchain.specs.Sums.{at}
 use Rattle.step_spec.specs.declared.StepAnswer.{StepAnswer}
@@ -29,7 +29,7 @@ StepBuffersPost answer payoff figure row = BuffersPost (orElse (answer .number) 
 
 -- The number for a record's step: the cause of reading, then that of the step, where 10 is for the payoff and 11 for the class, then 13.
 abbrev pub stepNumber : List ℕ → (payoff : List ℕ) (class : ℕ) (figure row : List ℕ) → ℕ
-stepNumber bytes payoff class figure row = orElse (readCause bytes) (orElse (stepCause (schemeIn version1 bytes) (payoffRead payoff) class) (stepBuffers payoff figure row))
+stepNumber bytes payoff class figure row = orElse (readCause bytes) (orElse (stepCause (schemeIn bytes) (payoffRead payoff) class) (stepBuffers payoff figure row))
 
 -- The figure of a class, low or high, as a buffer of 1 number.
 abbrev pub figureOf : (high : Bool) → Scheme → (payoff : List ℕ) (class : ℕ) → List ℕ
@@ -38,13 +38,13 @@ figureOf high s payoff class = stepFigure high (s .classes) (classRow s class) (
 -- joguyvi_low_step (`high` is false) and joguyvi_high_step (`high` is true): what they answer and leave.
 pub record StepCall (high : Bool) (bytes payoff : List ℕ) (class : ℕ) (figure row : List ℕ) (number : ℕ) (figure′ row′ : List ℕ) : Type 0 where
   pub answer : number ≡ stepNumber bytes payoff class figure row
-  pub figures : figure′ ≡ filledWhere number (figureOf high (schemeIn version1 bytes) payoff class) figure
+  pub figures : figure′ ≡ filledWhere number (figureOf high (schemeIn bytes) payoff class) figure
   -- The row is left as it was where the call is declined.
   pub left : (number ≡ 0 → ⊥) → row′ ≡ row
   -- Otherwise it has 32 parts.
   pub size : number ≡ 0 → length row′ ≡ 32
   -- "with 0 beyond s".
-  pub beyond : number ≡ 0 → (j : ℕ) → schemeIn version1 bytes .classes ≤ j → at row′ j ≡ 0
+  pub beyond : number ≡ 0 → (j : ℕ) → schemeIn bytes .classes ≤ j → at row′ j ≡ 0
   -- It lies inside the class's interval and reaches its unrounded figure (crate setchain, `Step`).
   pub reaches : number ≡ 0
-      → Reaches high (schemeIn version1 bytes .classes) (classRow (schemeIn version1 bytes) class) (at (payoffRead payoff)) (at row′) (getD figure′ 0 0)
+      → Reaches high (schemeIn bytes .classes) (classRow (schemeIn bytes) class) (at (payoffRead payoff)) (at row′) (getD figure′ 0 0)

@@ -8,7 +8,7 @@ use lib.ListN.{length}
 use Rattle.scheme.specs.Cause.{orElse}
 use Rattle.scheme.specs.Laws.Cause.{first-none, second-none}
 use Rattle.record_spec.specs.declared.ReadAnswer.{ReadAnswer}
-use Rattle.record_spec.specs.Layout.{schemeIn, version1}
+use Rattle.record_spec.specs.Layout.{schemeIn}
 use Rattle.record_spec.specs.Read.{readAnswer}
 use Rattle.record_spec.specs.Laws.Read.{read-in}
 use Rattle.step_spec.specs.declared.StepAnswer.{StepAnswer}
@@ -41,7 +41,7 @@ module _ (high : Bool) (bytes payoff : List ℕ) (class : ℕ) (figure row : Lis
       → StepAnswered high (a .scheme) numbers class answer → StepBuffersPost answer payoff figure row n figure′ row′
       → StepCall high bytes payoff class figure row n figure′ row′
   step-passed {numbers} {answer} none same step put =
-      let found : StepAnswered high (schemeIn version1 bytes) (payoffRead payoff) class answer =
+      let found : StepAnswered high (schemeIn bytes) (payoffRead payoff) class answer =
       subst₂ (λ s p. StepAnswered high s p class answer) (read-in bytes is none) same step in
       step-call high bytes payoff class figure row found
       (record {

@@ -11,7 +11,7 @@ use Rattle.setchain.specs.Picks.{Matrix}
 use Rattle.scheme.specs.declared.Scheme.{Scheme}
 use Rattle.record_spec.specs.declared.ReadAnswer.{ReadAnswer}
 use Rattle.record_spec.specs.declared.WriteAnswer.the-variants.{Written, Declined}
-use Rattle.record_spec.specs.Layout.{schemeIn, version1}
+use Rattle.record_spec.specs.Layout.{schemeIn}
 use Rattle.record_spec.specs.Read.{readAnswer}
 use Rattle.record_spec.specs.Write.{writeNumber, writtenLength}
 use Rattle.record_spec.specs.Laws.Read.{read-in}
@@ -36,7 +36,7 @@ module _ {query : Scheme → Bounds} {exact : Scheme → List Matrix → Fractio
   pub bounds-passed : {b : Bounds} {n : ℕ} {out′ : List ℕ} → a .number ≡ 0 → (b ≡ query (a .scheme)) × BoundsPromise exact year (a .scheme) b → BoundsPost b out n out′
       → BoundsCall query exact bytes year out n out′
   bounds-passed {b} {n} {out′} none answered put =
-      let s = schemeIn version1 bytes in
+      let s = schemeIn bytes in
       let same : b ≡ query s = answered .0 ∙ ap query (read-in bytes is none) in
       let found : BoundsPost (query s) out n out′ = subst (λ x. BoundsPost x out n out′) same put in
       bounds-call bytes out (subst₂ (λ x y. BoundsPromise exact year x y) (read-in bytes is none) same (answered .1))
@@ -58,7 +58,7 @@ module _ (bytes : List ℕ) (year : ℕ) (low high : List ℕ) {a : ReadAnswer} 
 
   pub shares-passed : {n : ℕ} {low′ high′ : List ℕ} → a .number ≡ 0 → SharesPost (a .scheme) year low high n low′ high′ → ShareSheetCall bytes year low high n low′ high′
   shares-passed {n} {low′} {high′} none put =
-      let found : SharesPost (schemeIn version1 bytes) year low high n low′ high′ = subst (λ s. SharesPost s year low high n low′ high′) (read-in bytes is none) put in
+      let found : SharesPost (schemeIn bytes) year low high n low′ high′ = subst (λ s. SharesPost s year low high n low′ high′) (read-in bytes is none) put in
       record { answer = passed-number bytes is none (found .0); lows = found .1 .0; highs = found .1 .1 .0; promise = found .1 .1 .1 }
 
 -- Over the outcome of the test for space.

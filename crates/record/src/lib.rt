@@ -54,5 +54,7 @@ pub fn length_of(classes: u8, columns: u8) -> usize
 {
     let s = classes as usize;
     let m = columns as usize;
-    record_spec::HEADER + s * m + record_spec::BAND_WIDTH * m + record_spec::NUMBER_WIDTH * s
+    let header = record_spec::HEADER;
+    let width = record_spec::PREMIUM_WIDTH;
+    header + s * m + record_spec::BAND_WIDTH * m + width * s
 }

@@ -5,7 +5,7 @@ ghost use lib.ListN.{length, getD, replicate};
 ghost use Rattle.scheme.specs.Tables.{tab};
 ghost use Rattle.big_endian_spec.specs.Numbers.{beAt};
 ghost use Rattle.scheme.specs.Stored.{upTo, rulesUpTo};
-ghost use Rattle.record_spec.specs.Layout.{version1, schemeIn};
+ghost use Rattle.record_spec.specs.Layout.{HEADER, schemeIn};
 ghost use Rattle.record_spec.specs.Read.{versionCause, fieldCause, lengthCause, frameCause};
 ghost use Rattle.record_spec.specs.Frame.{Framed};
 use super::FIELD_OUT;
@@ -13,8 +13,9 @@ use super::LENGTH_OUT;
 use super::VERSION_OUT;
 use super::length_of;
 use record_spec::BAND_WIDTH;
+use record_spec::END_WIDTH;
 use record_spec::HEADER;
-use record_spec::NUMBER_WIDTH;
+use record_spec::PREMIUM_WIDTH;
 use scheme::Scheme;
 use scheme::or_else;
 
@@ -45,10 +46,11 @@ fn field_cause(bytes: &[u8]) -> u8
 }
 
 // Cause 4, or 0.
-fn length_cause(length: usize, classes: u8, columns: u8) -> u8
-    ensures { λ r. ⌜ r ≡ lengthCause length classes columns ⌝ }
+fn length_cause(bytes: &[u8]) -> u8
+    requires { ⌜ HEADER ≤ length (now bytes) ⌝ }
+    ensures { λ r. ⌜ r ≡ lengthCause (now (bytes .entry)) ⌝ }
 {
-    if length != length_of(classes, columns) {
+    if bytes.len() != length_of(bytes[3], bytes[4]) {
         return LENGTH_OUT;
     }
     0
@@ -67,7 +69,7 @@ pub fn frame(bytes: &[u8]) -> u8
     let classes = bytes[3];
     let columns = bytes[4];
     let sizes = scheme::sizes_cause(classes, columns);
-    let length = length_cause(bytes.len(), classes, columns);
+    let length = length_cause(bytes);
     or_else(sizes, length)
 }
 
@@ -89,15 +91,15 @@ fn rules(bytes: &[u8], from: usize, s: usize, m: usize) -> [u8; 256]
     rules
 }
 
-// Fills the first n places of a slice of 0 with numbers, one every `stride` bytes from place `from` on.
-fn read_numbers(bytes: &[u8], from: usize, stride: usize, out: &mut [u32], n: usize)
-    requires { ⌜ (from + n * stride ≤ length (now bytes)) × (4 ≤ stride) × (n ≤ length (now out)) × (now out ≡ replicate (length (now out)) 0) ⌝ }
-    ensures { λ _. ⌜ now (out .exit) ≡ tab (length (now (out .entry))) (upTo n (λ k. beAt 4 (now (bytes .entry)) (from + k * stride))) ⌝ }
+// Fills the first n places of a slice of 0 with numbers of `width` bytes, one every `stride` bytes from place `from` on.
+fn read_numbers(bytes: &[u8], from: usize, width: usize, stride: usize, out: &mut [u32], n: usize)
+    requires { ⌜ (from + n * stride ≤ length (now bytes)) × (width ≤ 4) × (width ≤ stride) × (n ≤ length (now out)) × (now out ≡ replicate (length (now out)) 0) ⌝ }
+    ensures { λ _. ⌜ now (out .exit) ≡ tab (length (now (out .entry))) (upTo n (λ k. beAt width (now (bytes .entry)) (from + k * stride))) ⌝ }
 {
     let mut k: usize = 0;
     let mut at = from;
     while k < n {
-        out[k] = big_endian::number_at(bytes, at, NUMBER_WIDTH);
+        out[k] = big_endian::number_at(bytes, at, width);
         at += stride;
         k += 1;
     }
@@ -106,7 +108,7 @@ fn read_numbers(bytes: &[u8], from: usize, stride: usize, out: &mut [u32], n: us
 // The scheme in bytes that none of the causes 1 to 4 declines.
 pub fn parsed(bytes: &[u8]) -> Scheme
     requires { ⌜ Framed (now bytes) ⌝ }
-    ensures { λ r. ⌜ r ≡ schemeIn version1 (now (bytes .entry)) ⌝ }
+    ensures { λ r. ⌜ r ≡ schemeIn (now (bytes .entry)) ⌝ }
 {
     let classes = bytes[3];
     let columns = bytes[4];
@@ -114,20 +116,24 @@ pub fn parsed(bytes: &[u8]) -> Scheme
     let horizon = bytes[6];
     let s = classes as usize;
     let m = columns as usize;
-    let bands = HEADER + s * m;
-    let rules = rules(bytes, HEADER, s, m);
+    let header = HEADER;
+    let width = PREMIUM_WIDTH;
+    let bands = header + s * m;
+    let money = bands + m * BAND_WIDTH;
+    let rules = rules(bytes, header, s, m);
     let mut lowers = [0u32; 8];
-    read_numbers(bytes, bands, BAND_WIDTH, &mut lowers, m);
+    read_numbers(bytes, bands, END_WIDTH, BAND_WIDTH, &mut lowers, m);
     let mut uppers = [0u32; 8];
-    read_numbers(bytes, bands + NUMBER_WIDTH, BAND_WIDTH, &mut uppers, m);
-    let mut premiums = [0u32; 32];
     read_numbers(
         bytes,
-        bands + m * BAND_WIDTH,
-        NUMBER_WIDTH,
-        &mut premiums,
-        s,
+        bands + END_WIDTH,
+        END_WIDTH,
+        BAND_WIDTH,
+        &mut uppers,
+        m,
     );
+    let mut premiums = [0u32; 32];
+    read_numbers(bytes, money, width, width, &mut premiums, s);
     Scheme {
         classes,
         columns,

@@ -5,8 +5,8 @@ ghost use Rattle.record_spec.specs.RuleRow.{ruleRowCause, ruleRow};
 ghost use Rattle.record_spec.specs.Reader.{stored, handedOut, bandAt, BandAnswered, afterAt, openPart};
 use record_spec::BAND_WIDTH;
 pub use record_spec::Band;
+use record_spec::END_WIDTH;
 use record_spec::HEADER;
-use record_spec::NUMBER_WIDTH;
 
 // The first cause of a rule row, or 0.
 fn rule_row_cause(bytes: &[u8], class: u64) -> u8
@@ -29,8 +29,9 @@ pub fn rule_row(bytes: &[u8], class: u64) -> &[u8]
     if rule_row_cause(bytes, class) != 0 {
         return &bytes[0..0];
     }
+    let header = HEADER;
     let columns = bytes[4] as usize;
-    let start = HEADER + ((class - 1) as usize) * columns;
+    let start = header + ((class - 1) as usize) * columns;
     &bytes[start..start + columns]
 }
 
@@ -75,11 +76,12 @@ pub fn band_at(bytes: &[u8], column: usize) -> Band
     if !stored(bytes, column) {
         return Band::NoMore;
     }
+    let header = HEADER;
     let classes = bytes[3] as usize;
     let columns = bytes[4] as usize;
-    let place = HEADER + classes * columns + column * BAND_WIDTH;
-    let lower = big_endian::number_at(bytes, place, NUMBER_WIDTH);
-    let upper = big_endian::number_at(bytes, place + NUMBER_WIDTH, NUMBER_WIDTH);
+    let place = header + classes * columns + column * BAND_WIDTH;
+    let lower = big_endian::number_at(bytes, place, END_WIDTH);
+    let upper = big_endian::number_at(bytes, place + END_WIDTH, END_WIDTH);
     Band::Ends { lower, upper }
 }
 

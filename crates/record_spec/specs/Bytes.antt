@@ -8,13 +8,13 @@ use Rattle.big_endian_spec.specs.Numbers.{beBytes}
 use Rattle.record_spec.specs.Joined.{joined}
 use Rattle.record_spec.specs.Layout.{Layout, lengthOf}
 
--- "Byte 0: version … Bytes 1 to 2: length of the whole record. Byte 3: s. Byte 4: m. Byte 5: start. Byte 6: horizon."
-unfoldable pub headerBytes : (version length s m start horizon : ℕ) → List ℕ
-headerBytes version length s m start horizon = (version ∷ []) ++ beBytes 2 length ++ (s ∷ m ∷ start ∷ horizon ∷ [])
+-- "Byte 0: version … Bytes 1 to 2: length of the whole record. Byte 3: s. Byte 4: m. Byte 5: start. Byte 6: horizon.", then the layout's further bytes.
+unfoldable pub headerBytes : Layout → (length s m start horizon : ℕ) → List ℕ
+headerBytes y length s m start horizon = (y .version ∷ []) ++ beBytes 2 length ++ (s ∷ m ∷ start ∷ horizon ∷ []) ++ tab (y .further) (y .holds m)
 
 -- The header of a scheme's record.
 abbrev pub headerOf : Layout → Scheme → List ℕ
-headerOf y s = headerBytes (y .version) (lengthOf y (s .classes) (s .columns)) (s .classes) (s .columns) (s .start) (s .horizon)
+headerOf y s = headerBytes y (lengthOf y (s .classes) (s .columns)) (s .classes) (s .columns) (s .start) (s .horizon)
 
 -- The rules, class by class.
 abbrev pub rulesOf : Scheme → List ℕ

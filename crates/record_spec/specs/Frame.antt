@@ -1,17 +1,18 @@
 -- What holds of bytes that none of the causes 1 to 4 declines (document 01, "Record").
-use Prim.Native.Nat.{ℕ, _≤_}
+use Prim.Native.Nat.{ℕ, _+_, _≤_, _<_}
 use mathlib.Core.Path.{_≡_}
 use mathlib.Core.List.{List}
 use lib.ListN.{length, getD}
 use Rattle.big_endian_spec.specs.Numbers.{beAt}
-use Rattle.record_spec.specs.Layout.{HEADER, version1, lengthOf, classesIn, columnsIn}
+use Rattle.record_spec.specs.Layout.{HEADER, layoutIn, lengthOf, classesIn, columnsIn}
 
 pub record Framed (bytes : List ℕ) : Type 0 where
-  pub version : getD bytes 0 0 ≡ 1
+  pub version : getD bytes 0 0 ≡ layoutIn bytes .version
   pub header : HEADER ≤ length bytes
   pub field : beAt 2 bytes 1 ≡ length bytes
   pub someClass : 1 ≤ classesIn bytes
   pub classes : classesIn bytes ≤ 32
   pub someColumn : 1 ≤ columnsIn bytes
   pub columns : columnsIn bytes ≤ 8
-  pub whole : length bytes ≡ lengthOf version1 (classesIn bytes) (columnsIn bytes)
+  pub whole : length bytes ≡ lengthOf (layoutIn bytes) (classesIn bytes) (columnsIn bytes)
+  pub further : (k : ℕ) → k < layoutIn bytes .further → getD bytes (HEADER + k) 0 ≡ layoutIn bytes .holds (columnsIn bytes) k

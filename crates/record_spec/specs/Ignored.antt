@@ -26,7 +26,7 @@ unfolding readAnswer
 read-cleared bytes = by (eqb (readCause bytes) 0)
   where
     answer : Bool → ReadAnswer
-    answer passed = cond passed (record { number = 0; scheme = schemeIn version1 bytes }) (declinedWith (readCause bytes))
+    answer passed = cond passed (record { number = 0; scheme = schemeIn bytes }) (declinedWith (readCause bytes))
 
     by : (passed : Bool) → cleared (answer passed .scheme) ≡ answer passed .scheme
     by true = made-cleared _ _ _ _ _ _ _ _

@@ -1,4 +1,4 @@
--- Where a record's fields stand and what they hold (document 01, "Record"), with the header's length and the premium's width as parameters.
+-- Where a record's fields stand and what they hold (document 01, "Record"), over any layout: what its versions differ in are parameters.
 use Prim.Native.Nat.{ℕ, _+_, _*_}
 use mathlib.Core.List.{List}
 use lib.ListN.{getD}
@@ -10,34 +10,44 @@ use Rattle.scheme.specs.Stored.{schemeOf}
 pub record Layout : Type 0 where
   -- What byte 0 holds.
   pub version : ℕ
-  -- The header's length: the rules start there.
-  pub header : ℕ
+  -- How many bytes the header has after the horizon's.
+  pub further : ℕ
+  -- What each of them holds, where there are m columns.
+  pub holds : (m : ℕ) → ℕ → ℕ
   -- How many bytes a premium has.
   pub width : ℕ
 
--- The length of the header, bytes 0 to 6.
+-- How many bytes every header has: the version, the length, s, m, the start and the horizon, bytes 0 to 6.
 abbrev pub HEADER : ℕ
 HEADER = 7
 
--- "Byte 0: version, 1.", the header, "premiums of 4 bytes".
+-- "Byte 0: version, 1.", no byte of the header after the horizon's, "premiums of 4 bytes".
 abbrev pub version1 : Layout
-version1 = record { version = 1; header = HEADER; width = 4 }
+version1 = record { version = 1; further = 0; holds = λ m k. 0; width = 4 }
+
+-- The layout of a record, found from its bytes: that of version 1.
+unfoldable pub layoutIn : List ℕ → Layout
+layoutIn bytes = version1
+
+-- The header's length: the rules start there.
+abbrev pub headerLength : Layout → ℕ
+headerLength y = HEADER + y .further
 
 -- "Length = 7 + s × m + 8 × m + 4 × s".
 abbrev pub lengthOf : Layout → (s m : ℕ) → ℕ
-lengthOf y s m = y .header + s * m + 8 * m + y .width * s
+lengthOf y s m = headerLength y + s * m + 8 * m + y .width * s
 
 -- "Then s × m rule bytes, class by class": the row of class i, counted from 0.
 abbrev pub rowPlace : Layout → (m : ℕ) → (i : ℕ) → ℕ
-rowPlace y m i = y .header + i * m
+rowPlace y m i = headerLength y + i * m
 
 -- "m bands of lower and upper, 4 bytes each": the band of column k.
 abbrev pub bandPlace : Layout → (s m : ℕ) → (k : ℕ) → ℕ
-bandPlace y s m k = y .header + s * m + k * 8
+bandPlace y s m k = headerLength y + s * m + k * 8
 
 -- "s premiums of 4 bytes": the premium of class i, counted from 0.
 abbrev pub premiumPlace : Layout → (s m : ℕ) → (i : ℕ) → ℕ
-premiumPlace y s m i = y .header + s * m + m * 8 + i * y .width
+premiumPlace y s m i = headerLength y + s * m + m * 8 + i * y .width
 
 -- "Byte 3: s."
 abbrev pub classesIn : List ℕ → ℕ
@@ -47,7 +57,7 @@ classesIn bytes = getD bytes 3 0
 abbrev pub columnsIn : List ℕ → ℕ
 columnsIn bytes = getD bytes 4 0
 
--- The scheme that stands in the bytes, with s classes and m columns.
+-- The scheme that stands in the bytes by a layout, with s classes and m columns.
 abbrev pub schemeFrom : Layout → List ℕ → (s m : ℕ) → Scheme
 schemeFrom y bytes s m =
     schemeOf s m (getD bytes 5 0) (getD bytes 6 0)
@@ -57,5 +67,5 @@ schemeFrom y bytes s m =
     (λ i. beAt (y .width) bytes (premiumPlace y s m i))
 
 -- The scheme that stands in the bytes: "Byte 5: start. Byte 6: horizon. Then s × m rule bytes … m bands … s premiums".
-abbrev pub schemeIn : Layout → List ℕ → Scheme
-schemeIn y bytes = schemeFrom y bytes (classesIn bytes) (columnsIn bytes)
+abbrev pub schemeIn : List ℕ → Scheme
+schemeIn bytes = schemeFrom (layoutIn bytes) bytes (classesIn bytes) (columnsIn bytes)

@@ -5,7 +5,7 @@ use mathlib.Core.List.{List, []}
 use lib.Dec.{eqb}
 use lib.ListN.{take, drop}
 use Rattle.scheme.specs.Cause.{orElse, outside}
-use Rattle.record_spec.specs.Layout.{version1, rowPlace, classesIn, columnsIn}
+use Rattle.record_spec.specs.Layout.{layoutIn, rowPlace, classesIn, columnsIn}
 use Rattle.record_spec.specs.Read.{readCause}
 
 -- "reading the record tells which cause, and where it is accepted the cause was 11".
@@ -16,5 +16,5 @@ ruleRowCause bytes class = orElse (readCause bytes) (cond (outside (classesIn by
 unfoldable pub ruleRow : List ℕ → ℕ → List ℕ
 ruleRow bytes class =
     cond (eqb (ruleRowCause bytes class) 0)
-    (take (columnsIn bytes) (drop (rowPlace version1 (columnsIn bytes) (class - 1)) bytes))
+    (take (columnsIn bytes) (drop (rowPlace (layoutIn bytes) (columnsIn bytes) (class - 1)) bytes))
     []

@@ -25,7 +25,11 @@ abbrev pub writtenLength : WriteAnswer → ℕ
 writtenLength (Written length) = length
 writtenLength (Declined number) = 0
 
--- The length of the scheme's record.
+-- The record that is written for a scheme: that of version 1.
+abbrev pub recordOf : Scheme → List ℕ
+recordOf s = bytesOf version1 s
+
+-- Its length.
 abbrev pub recordLength : Scheme → ℕ
 recordLength s = lengthOf version1 (s .classes) (s .columns)
 
@@ -39,7 +43,7 @@ writeAnswer s out = cond (eqb (writeCause s out) 0) (Written (recordLength s)) (
 
 -- "and leaves bytes past it unchanged"; declined, all of them.
 unfoldable pub writeLeaves : Scheme → List ℕ → List ℕ
-writeLeaves s out = cond (eqb (writeCause s out) 0) (bytesOf version1 s ++ drop (recordLength s) out) out
+writeLeaves s out = cond (eqb (writeCause s out) 0) (recordOf s ++ drop (recordLength s) out) out
 
 -- "written and read, a scheme keeps each value it uses": reading answers no cause, and a scheme with the same values.
 pub record Reread (s : Scheme) (answer : ReadAnswer) : Type 0 where

@@ -4,8 +4,11 @@ use scheme::Scheme;
 // The header's length: the rules start there.
 pub const HEADER: usize = 7;
 
-// How many bytes a band's end has, and a premium.
-pub const NUMBER_WIDTH: usize = 4;
+// How many bytes a band's end has.
+pub const END_WIDTH: usize = 4;
+
+// How many bytes a premium has.
+pub const PREMIUM_WIDTH: usize = 4;
 
 // How many bytes a band has, lower and upper end.
 pub const BAND_WIDTH: usize = 8;

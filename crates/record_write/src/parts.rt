@@ -9,17 +9,18 @@ ghost use Rattle.scheme.specs.Accepted.{SizeFits};
 ghost use Rattle.big_endian_spec.specs.Numbers.{beBytes};
 ghost use Rattle.record_spec.specs.Joined.{joined};
 ghost use Rattle.record_spec.specs.Layout.{HEADER, version1};
-ghost use Rattle.record_spec.specs.Bytes.{headerBytes, bandBytes, bytesOf};
-ghost use Rattle.record_spec.specs.Write.{recordLength};
+ghost use Rattle.record_spec.specs.Bytes.{headerBytes, bandBytes};
+ghost use Rattle.record_spec.specs.Write.{recordOf, recordLength};
 use record_spec::BAND_WIDTH;
+use record_spec::END_WIDTH;
 use record_spec::HEADER;
-use record_spec::NUMBER_WIDTH;
+use record_spec::PREMIUM_WIDTH;
 use scheme::Scheme;
 
 // Puts the header.
 fn header(out: &mut [u8], size: usize, s: u8, m: u8, start: u8, horizon: u8)
     requires { ⌜ (HEADER ≤ length (now out)) × (size ≤ 455) ⌝ }
-    ensures { λ _. ⌜ now (out .exit) ≡ sets (now (out .entry)) 0 (headerBytes 1 size s m start horizon) ⌝ }
+    ensures { λ _. ⌜ now (out .exit) ≡ sets (now (out .entry)) 0 (headerBytes version1 size s m start horizon) ⌝ }
 {
     out[0] = 1;
     big_endian::put_number(out, 1, 2, size as u32);
@@ -50,8 +51,8 @@ fn put_band(out: &mut [u8], at: usize, lower: u32, upper: u32)
     requires { ⌜ at + 8 ≤ length (now out) ⌝ }
     ensures { λ _. ⌜ now (out .exit) ≡ sets (now (out .entry)) at (bandBytes lower upper) ⌝ }
 {
-    big_endian::put_number(out, at, NUMBER_WIDTH, lower);
-    big_endian::put_number(out, at + NUMBER_WIDTH, NUMBER_WIDTH, upper);
+    big_endian::put_number(out, at, END_WIDTH, lower);
+    big_endian::put_number(out, at + END_WIDTH, END_WIDTH, upper);
 }
 
 // Puts m bands, lower and upper, from place `from` on.
@@ -68,16 +69,16 @@ fn bands(out: &mut [u8], from: usize, lowers: &[u32; 8], uppers: &[u32; 8], m: u
     }
 }
 
-// Puts s premiums, from place `from` on.
-fn premiums(out: &mut [u8], from: usize, premiums: &[u32; 32], s: usize)
-    requires { ⌜ (from + s * 4 ≤ length (now out)) × (s ≤ 32) ⌝ }
-    ensures { λ _. ⌜ now (out .exit) ≡ sets (now (out .entry)) from (joined s (λ i. beBytes 4 (getD (now (premiums .entry)) i 0))) ⌝ }
+// Puts s premiums of `width` bytes, from place `from` on.
+fn premiums(out: &mut [u8], from: usize, width: usize, premiums: &[u32; 32], s: usize)
+    requires { ⌜ (from + s * width ≤ length (now out)) × (s ≤ 32) ⌝ }
+    ensures { λ _. ⌜ now (out .exit) ≡ sets (now (out .entry)) from (joined s (λ i. beBytes width (getD (now (premiums .entry)) i 0))) ⌝ }
 {
     let mut j: usize = 0;
     let mut to = from;
     while j < s {
-        big_endian::put_number(out, to, NUMBER_WIDTH, premiums[j]);
-        to += NUMBER_WIDTH;
+        big_endian::put_number(out, to, width, premiums[j]);
+        to += width;
         j += 1;
     }
 }
@@ -85,7 +86,7 @@ fn premiums(out: &mut [u8], from: usize, premiums: &[u32; 32], s: usize)
 // Puts the whole record of a scheme, of `size` bytes.
 pub fn whole(scheme: Scheme, out: &mut [u8], size: usize)
     requires { ⌜ SizeFits scheme × (size ≡ recordLength scheme) × (size ≤ length (now out)) ⌝ }
-    ensures { λ _. ⌜ now (out .exit) ≡ bytesOf version1 scheme ++ drop size (now (out .entry)) ⌝ }
+    ensures { λ _. ⌜ now (out .exit) ≡ recordOf scheme ++ drop size (now (out .entry)) ⌝ }
 {
     let s = scheme.classes as usize;
     let m = scheme.columns as usize;
@@ -97,12 +98,13 @@ pub fn whole(scheme: Scheme, out: &mut [u8], size: usize)
         scheme.start,
         scheme.horizon,
     );
+    let header_length = HEADER;
     let rows = scheme.rules;
-    rules(out, HEADER, &rows, s, m);
+    rules(out, header_length, &rows, s, m);
     let lowers = scheme.lowers;
     let uppers = scheme.uppers;
-    let after = HEADER + s * m;
+    let after = header_length + s * m;
     bands(out, after, &lowers, &uppers, m);
     let money = scheme.premiums;
-    premiums(out, after + m * BAND_WIDTH, &money, s);
+    premiums(out, after + m * BAND_WIDTH, PREMIUM_WIDTH, &money, s);
 }

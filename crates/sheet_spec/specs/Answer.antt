@@ -6,7 +6,7 @@ use mathlib.Core.List.{List, _++_}
 use lib.Dec.{eqb, ltb}
 use lib.ListN.{length, take, drop}
 use Rattle.scheme.specs.declared.Scheme.{Scheme}
-use Rattle.record_spec.specs.Layout.{version1, schemeIn}
+use Rattle.record_spec.specs.Layout.{schemeIn}
 use Rattle.record_spec.specs.Read.{readCause}
 use Rattle.record_spec.specs.declared.WriteAnswer.{WriteAnswer}
 use Rattle.record_spec.specs.declared.WriteAnswer.the-variants.{Written, Declined}
@@ -19,7 +19,7 @@ spaceOf s = 19 + suc (s .horizon) * (s .classes * 40 + 35) + 28
 
 -- The space that the sheet of these bytes takes: a refusal has at most 11 bytes.
 unfoldable pub spaceFor : List ℕ → ℕ
-spaceFor bytes = cond (eqb (readCause bytes) 0) (spaceOf (schemeIn version1 bytes)) 11
+spaceFor bytes = cond (eqb (readCause bytes) 0) (spaceOf (schemeIn bytes)) 11
 
 -- A text into a slice of at least `space` bytes: its length, and 13 for a shorter slice.
 abbrev pub textAnswer : (space : ℕ) (text out : List ℕ) → WriteAnswer

@@ -8,7 +8,7 @@ use Rattle.scheme.specs.declared.Scheme.{Scheme}
 use Rattle.scheme.specs.Access.{premiumAt}
 use Rattle.scheme.specs.Rows.{chainOf}
 use Rattle.record_spec.specs.Joined.{joined}
-use Rattle.record_spec.specs.Layout.{version1, schemeIn}
+use Rattle.record_spec.specs.Layout.{schemeIn}
 use Rattle.record_spec.specs.Read.{readCause}
 use Rattle.bounds_spec.specs.Answers.{startOf}
 use Rattle.sheet_spec.specs.Text.{field, newline, schemeWord, yearWord, classWord, premiumWord, totalWord, refusedWord}
@@ -56,4 +56,4 @@ refusedLine number = refusedWord ++ field number ++ newline
 
 -- "All of the input is the record."
 unfoldable pub sheetText : List ℕ → List ℕ
-sheetText bytes = cond (eqb (readCause bytes) 0) (sheetOf (schemeIn version1 bytes)) (refusedLine (readCause bytes))
+sheetText bytes = cond (eqb (readCause bytes) 0) (sheetOf (schemeIn bytes)) (refusedLine (readCause bytes))

@@ -7,7 +7,7 @@ use mathlib.Core.List.{List}
 use Rattle.scheme.specs.Cause.{causeOf, orElse}
 use Rattle.scheme.specs.Laws.Cause.{first-cause, second-cause, second-none}
 use Rattle.record_spec.specs.declared.ReadAnswer.{ReadAnswer}
-use Rattle.record_spec.specs.Layout.{version1, schemeIn}
+use Rattle.record_spec.specs.Layout.{schemeIn}
 use Rattle.record_spec.specs.Read.{frameCause, readCause, readAnswer}
 use Rattle.record_spec.specs.Laws.Read.{read-cause, read-passed, read-in}
 
@@ -34,4 +34,4 @@ module _ (bytes : List ℕ) {a : ReadAnswer} (is : a ≡ readAnswer bytes) where
   -- The scheme that is read has no cause.
   pub passed-scheme : a .number ≡ 0 → causeOf (a .scheme) ≡ 0
   passed-scheme none =
-      ap causeOf (read-in bytes is none) ∙ second-none (frameCause bytes) (causeOf (schemeIn version1 bytes)) (read-passed bytes is none)
+      ap causeOf (read-in bytes is none) ∙ second-none (frameCause bytes) (causeOf (schemeIn bytes)) (read-passed bytes is none)

@@ -7,7 +7,7 @@ use Rattle.setchain.specs.Fractions.{Fraction}
 use Rattle.setchain.specs.Picks.{Matrix}
 use Rattle.scheme.specs.declared.Scheme.{Scheme}
 use Rattle.scheme.specs.Laws.Cause.{answered, first-none, second-none}
-use Rattle.record_spec.specs.Layout.{schemeIn, version1}
+use Rattle.record_spec.specs.Layout.{schemeIn}
 use Rattle.record_spec.specs.Read.{readCause}
 use Rattle.bounds_spec.specs.declared.Bounds.{Bounds}
 use Rattle.bounds_spec.specs.Answers.{numberOf, lowOf, highOf, shareAnswer, meanAnswer, totalAnswer}
@@ -18,7 +18,7 @@ use Rattle.joguyvi_spec.specs.Figures.{putNumber, lowAndHigh, boundsNumb
 
 -- What is answered and left for low and high of a record: the cause of reading comes first.
 abbrev pub RecordBoundsPost : (query : Scheme → Bounds) (bytes out : List ℕ) (number : ℕ) (out′ : List ℕ) → Type 0
-RecordBoundsPost query bytes out = BufferPost (boundsNumber bytes (query (schemeIn version1 bytes)) out) (lowAndHigh (query (schemeIn version1 bytes))) out
+RecordBoundsPost query bytes out = BufferPost (boundsNumber bytes (query (schemeIn bytes)) out) (lowAndHigh (query (schemeIn bytes))) out
 
 -- What low and high of a scheme promise where they are answered.
 abbrev pub BoundsPromise : (exact : Scheme → List Matrix → Fraction) (year : ℕ) → Scheme → Bounds → Type 0
@@ -26,11 +26,11 @@ BoundsPromise exact year s b = numberOf b ≡ 0 → Kept s year (exact s) (lowOf
 
 -- The buffer keeps it where the number is 0.
 pub bounds-call : {query : Scheme → Bounds} {exact : Scheme → List Matrix → Fraction} {year : ℕ} (bytes out : List ℕ) {number : ℕ} {out′ : List ℕ}
-    → BoundsPromise exact year (schemeIn version1 bytes) (query (schemeIn version1 bytes)) → RecordBoundsPost query bytes out number out′
+    → BoundsPromise exact year (schemeIn bytes) (query (schemeIn bytes)) → RecordBoundsPost query bytes out number out′
     → BoundsCall query exact bytes year out number out′
 unfolding putNumber
 bounds-call {query} bytes out {number} {out′} kept put =
-    let b = query (schemeIn version1 bytes) in
+    let b = query (schemeIn bytes) in
     record {
       answer = put .answer;
       figures = put .filled;
@@ -43,10 +43,10 @@ bounds-call {query} bytes out {number} {out′} kept put =
 -- The share of a class, the mean premium of a year, and the total.
 module _ (bytes : List ℕ) (year : ℕ) (out : List ℕ) {number : ℕ} {out′ : List ℕ} where
   pub share-call : (class : ℕ) → RecordBoundsPost (λ s. shareAnswer s class year) bytes out number out′ → ShareCall bytes class year out number out′
-  share-call class = bounds-call bytes out (share-kept (schemeIn version1 bytes) class year)
+  share-call class = bounds-call bytes out (share-kept (schemeIn bytes) class year)
 
   pub mean-call : RecordBoundsPost (λ s. meanAnswer s year) bytes out number out′ → MeanCall bytes year out number out′
-  mean-call = bounds-call bytes out (mean-kept (schemeIn version1 bytes) year)
+  mean-call = bounds-call bytes out (mean-kept (schemeIn bytes) year)
 
   pub total-call : RecordBoundsPost (λ s. totalAnswer s year) bytes out number out′ → TotalCall bytes year out number out′
-  total-call = bounds-call bytes out (total-kept (schemeIn version1 bytes) year)
+  total-call = bounds-call bytes out (total-kept (schemeIn bytes) year)

@@ -9,7 +9,7 @@ use Rattle.setchain.specs.Step.{Reaches}
 use Rattle.scheme.specs.declared.Scheme.{Scheme}
 use Rattle.scheme.specs.Cause.{orElse}
 use Rattle.scheme.specs.Laws.Cause.{declined, answered, by-cause, first-none, second-none}
-use Rattle.record_spec.specs.Layout.{schemeIn, version1}
+use Rattle.record_spec.specs.Layout.{schemeIn}
 use Rattle.record_spec.specs.Read.{readCause}
 use Rattle.step_spec.specs.declared.StepAnswer.{StepAnswer}
 use Rattle.setchain.specs.Sums.{at}
@@ -19,10 +19,10 @@ use Rattle.joguyvi_spec.specs.Steps.{payoffRead, stepBuffers, stepNumber
 
 -- An answer of the step, put into its buffers.
 module _ (high : Bool) (bytes payoff : List ℕ) (class : ℕ) (figure row : List ℕ) {answer : StepAnswer}
-    (is : StepAnswered high (schemeIn version1 bytes) (payoffRead payoff) class answer)
+    (is : StepAnswered high (schemeIn bytes) (payoffRead payoff) class answer)
     {n : ℕ} {figure′ row′ : List ℕ} (put : BuffersPost (stepNumber bytes payoff class figure row) (answer .figure ∷ []) (answer .row) figure row n figure′ row′) where
   abbrev s : Scheme
-  s = schemeIn version1 bytes
+  s = schemeIn bytes
 
   none : n ≡ 0 → stepCause s (payoffRead payoff) class ≡ 0
   none z =

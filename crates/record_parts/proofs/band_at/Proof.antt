@@ -8,6 +8,7 @@ use Rattle.record_spec.specs.Reader.{stored}
 use Rattle.record_spec.specs.Laws.Read.{read-framed}
 use Rattle.big_endian_spec.specs.Laws.{read-held}
 use Rattle.record_parts.specs.Laws.Reader.{band-answered, stored-read, band-within, answer-none, answer-ends}
+use Rattle.record_spec.specs.Layout.{layoutIn}
 use borrow.Author.Needs.{needs}
 use Rattle.record_parts.proofs.band_at.Statement.{statement}
 use Rattle.record_parts.proofs.band_at.Tie as tie
@@ -59,6 +60,7 @@ number-at-requires-2 : tie.Need-number-at-requires-2
 number-at-requires-2 c κs = search needs
 
 returns-2 : tie.Need-returns-2
+unfolding layoutIn
 returns-2 c =
     let stands = c .before .before .before .before in
     let start = stands .before .before .before .args in

@@ -3,7 +3,7 @@ use Prim.Native.Nat.{_+_, _-_, _<_}
 use mathlib.Core.Path.{_≡_, sym, _∙_}
 use native.Mathlib.Omega.{arith}
 use lib.ListN.{length}
-use Rattle.record_spec.specs.Layout.{version1, rowPlace, columnsIn}
+use Rattle.record_spec.specs.Layout.{layoutIn, rowPlace, columnsIn}
 use Rattle.record_spec.specs.Frame.{Framed}
 use Rattle.record_spec.specs.RuleRow.{ruleRowCause}
 use Rattle.record_parts.specs.Laws.RuleRow.{row-empty, row-framed, row-class, row-within, row-shown}
@@ -30,7 +30,7 @@ framed : (c : tie.Else1) → Framed (c .before .before .before .args .bytes .now
 framed c = row-framed _ (c .before .before .before .args .class) (shown c)
 
 within : (c : tie.Else1) → let start = c .before .before .before .args in
-    rowPlace version1 (columnsIn (start .bytes .now)) (start .class - 1) + columnsIn (start .bytes .now) < length (start .bytes .now)
+    rowPlace (layoutIn (start .bytes .now)) (columnsIn (start .bytes .now)) (start .class - 1) + columnsIn (start .bytes .now) < length (start .bytes .now)
 within c = row-within _ _ (shown c)
 
 returns : tie.Need-returns
@@ -61,9 +61,11 @@ part-result-start-2 : tie.Need-part-result-start-2
 part-result-start-2 c = search needs
 
 part-result-end-2 : tie.Need-part-result-end-2
+unfolding layoutIn
 part-result-end-2 c = omega (arith, within (c .before))
 
 returns-2 : tie.Need-returns-2
+unfolding layoutIn
 returns-2 c = row-shown _ _ (shown (c .before .before))
 
 pub rule-row-spec : {M : Type 1} → statement M

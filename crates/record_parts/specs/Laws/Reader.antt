@@ -1,11 +1,11 @@
 -- What a band reader hands out: the record's bands in order, then no more.
-use Prim.Native.Nat.{ℕ, zero, suc, max, _+_, _*_, _≤_, _<_}
+use Prim.Native.Nat.{ℕ, zero, suc, max, _+_, _≤_, _<_}
 use mathlib.Core.Path.{_≡_, refl, ap, sym, _∙_}
 use mathlib.Core.Bool.{Bool, true, false, cond, _&&_}
 use mathlib.Core.List.{List, [], _∷_, _++_}
 use native.Mathlib.Decide.{ℕ-discrete}
 use native.Mathlib.Omega.{arith}
-use native.Mathlib.Nat.{mul-le-mul, le-refl, add-zero, zero-add}
+use native.Mathlib.Nat.{le-refl, add-zero, zero-add}
 use lib.Dec.{eqb, ltb}
 use lib.ListN.{length, replicate}
 use borrow.Author.Tests.{eq-eqb, ne-eqb, lt-ltb, le-ltb, eqb-true, ltb-true}
@@ -15,10 +15,11 @@ use Rattle.scheme.specs.Laws.Tab.{tab-eq}
 use Rattle.record_spec.specs.declared.Band.{Band}
 use Rattle.record_spec.specs.declared.Band.the-variants.{Ends, NoMore}
 use Rattle.big_endian_spec.specs.Numbers.{beAt}
-use Rattle.record_spec.specs.Layout.{version1, bandPlace, schemeIn, classesIn, columnsIn}
+use Rattle.record_spec.specs.Layout.{layoutIn, bandPlace, schemeIn, classesIn, columnsIn}
 use Rattle.record_spec.specs.Frame.{Framed}
 use Rattle.record_spec.specs.Read.{frameCause, readCause}
 use Rattle.record_spec.specs.Reader.{handedOut, endsOf, stored, bandIn, bandAt, BandAnswered, afterAt, openPart, answers, cursorAfter, storedBands}
+use Rattle.record_spec.specs.Laws.Frame.{framed-short}
 use Rattle.record_spec.specs.Laws.Read.{read-framed}
 use Rattle.scheme.specs.Laws.Stored.{lower-made, upper-made}
 
@@ -88,13 +89,12 @@ module _ (bytes : List ℕ) where
 
     -- Where it stands, and that its 8 bytes lie within the record.
     abbrev place : ℕ
-    place = bandPlace version1 (classesIn bytes) (columnsIn bytes) column
+    place = bandPlace (layoutIn bytes) (classesIn bytes) (columnsIn bytes) column
 
-    pub band-within : stored bytes column ≡ true → (place + 8 ≤ length bytes) × (length bytes ≤ 1000)
+    pub band-within : stored bytes column ≡ true → (place + 8 ≤ length bytes) × (length bytes ≤ 455)
     band-within e =
         let framed : Framed bytes = read-framed bytes (stored-read e) in
-        let less : classesIn bytes * columnsIn bytes ≤ 32 * 8 = mul-le-mul (framed .classes) (framed .columns) in
-        (omega (arith, stored-column e), omega arith)
+        (omega (arith, stored-column e, framed .whole), framed-short framed)
 
     -- The answer and the cursor after it, by cases.
     pub answer-band : stored bytes column ≡ true → bandIn bytes column ≡ bandAt bytes column
@@ -201,12 +201,12 @@ none-handed-out bytes some n =
 
 -- A stored band is that of the scheme in the bytes.
 pub band-read : (bytes : List ℕ) → readCause bytes ≡ 0 → (k : ℕ) → k < columnsIn bytes
-    → bandIn bytes k ≡ Ends (lowerAt (schemeIn version1 bytes) 0 k) (upperAt (schemeIn version1 bytes) 0 k)
+    → bandIn bytes k ≡ Ends (lowerAt (schemeIn bytes) 0 k) (upperAt (schemeIn bytes) 0 k)
 band-read bytes none k lt =
     let most : columnsIn bytes ≤ 8 = read-framed bytes none .columns in
     rw (lower-made _ (columnsIn bytes) _ _ _ _ _ _ 0 k most lt, upper-made _ (columnsIn bytes) _ _ _ _ _ _ 0 k most lt)
 
 -- So the bands handed out are those of the scheme that reading answers.
 pub bands-read : (bytes : List ℕ) → readCause bytes ≡ 0
-    → storedBands bytes ≡ tab (columnsIn bytes) (λ k. Ends (lowerAt (schemeIn version1 bytes) 0 k) (upperAt (schemeIn version1 bytes) 0 k))
+    → storedBands bytes ≡ tab (columnsIn bytes) (λ k. Ends (lowerAt (schemeIn bytes) 0 k) (upperAt (schemeIn bytes) 0 k))
 bands-read bytes none = tab-eq NoMore (columnsIn bytes) _ _ (band-read bytes none)

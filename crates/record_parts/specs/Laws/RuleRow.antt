@@ -9,7 +9,7 @@ use lib.ListN.{length, take, drop}
 use borrow.Author.Tests.{eq-eqb, ne-eqb}
 use Rattle.scheme.specs.Cause.{outside}
 use Rattle.scheme.specs.Laws.Cause.{class-fits, first-cause, second-cause, first-none, second-none}
-use Rattle.record_spec.specs.Layout.{version1, rowPlace, classesIn, columnsIn}
+use Rattle.record_spec.specs.Layout.{layoutIn, rowPlace, classesIn, columnsIn}
 use Rattle.record_spec.specs.Frame.{Framed}
 use Rattle.record_spec.specs.Read.{readCause}
 use Rattle.record_spec.specs.Laws.Read.{read-framed}
@@ -35,7 +35,7 @@ module _ (bytes : List ℕ) (class : ℕ) where
 
   -- Where it stands.
   abbrev place : ℕ
-  place = rowPlace version1 (columnsIn bytes) (class - 1)
+  place = rowPlace (layoutIn bytes) (columnsIn bytes) (class - 1)
 
   pub row-within : ruleRowCause bytes class ≡ 0 → place + columnsIn bytes < length bytes
   row-within e =

@@ -26,7 +26,7 @@ as-many {n} e f g h = joined-eq n f g h ∙ ap (λ k. joined k g) e
 -- The record is that of the values up to s and m: the bands are those of the first class.
 module _ (y : Layout) {s s′ : Scheme} (v : SameValues s s′) (some : 0 < s .classes) where
   header-same : headerOf y s ≡ headerOf y s′
-  header-same = λ t. headerBytes (y .version) (lengthOf y (v .others .classes t) (v .others .columns t)) (v .others .classes t) (v .others .columns t) (v .others .start t) (v .others .horizon t)
+  header-same = λ t. headerBytes y (lengthOf y (v .others .classes t) (v .others .columns t)) (v .others .classes t) (v .others .columns t) (v .others .start t) (v .others .horizon t)
 
   rules-same : rulesOf s ≡ rulesOf s′
   rules-same =

@@ -13,7 +13,7 @@ use Rattle.scheme.specs.Laws.Tab.{length-tab, getD-tab, tab-eq}
 use Rattle.big_endian_spec.specs.Numbers.{beAt, beBytes}
 use Rattle.record_spec.specs.Joined.{joined}
 use Rattle.scheme.specs.Stored.{schemeOf}
-use Rattle.record_spec.specs.Layout.{Layout, lengthOf, rowPlace, bandPlace, premiumPlace, schemeFrom}
+use Rattle.record_spec.specs.Layout.{Layout, headerLength, lengthOf, rowPlace, bandPlace, premiumPlace, schemeFrom}
 use Rattle.record_spec.specs.Bytes.{bandBytes, rulesOf, bandsOf, premiumsOf}
 use Rattle.record_write.specs.Laws.Lists.{tab-part, joined-parts, getD-joined}
 use Rattle.record_spec.specs.Laws.Joined.{joined-eq}
@@ -32,13 +32,13 @@ module _ (y : Layout) (bytes : List ℕ) (s m : ℕ) (small : (k : ℕ) → getD
   abbrev found : Scheme
   found = schemeFrom y bytes s m
 
-  rules-put : joined s (λ i. tab m (ruleAt found i)) ≡ take (s * m) (drop (y .header) bytes)
+  rules-put : joined s (λ i. tab m (ruleAt found i)) ≡ take (s * m) (drop (headerLength y) bytes)
   rules-put =
       joined-eq s _ (λ i. take m (drop (rowPlace y m i) bytes))
       (λ i is.
       tab-eq 0 m (ruleAt found i) (λ k. getD bytes (rowPlace y m i + k) 0) (λ k ks. rule-made _ _ _ _ _ _ _ _ i k most few is ks)
       ∙ tab-part m (rowPlace y m i) bytes (omega (arith, mul-le-mul-right m is)))
-      ∙ joined-parts m (y .header) s bytes
+      ∙ joined-parts m (headerLength y) s bytes
 
   band-put : (k : ℕ) → k < m → bandBytes (lowerAt found 0 k) (upperAt found 0 k) ≡ take 8 (drop (bandPlace y s m k) bytes)
   band-put k ks =
@@ -49,21 +49,21 @@ module _ (y : Layout) (bytes : List ℕ) (s m : ℕ) (small : (k : ℕ) → getD
       ∙ ap₂ (λ a b. a ++ b) (put-read 4 bytes at (omega arith) small) (put-read 4 bytes (at + 4) (omega arith) small)
       ∙ sym (take-add 4 4 (drop at bytes) ∙ ap (λ l. take 4 (drop at bytes) ++ take 4 l) (drop-drop 4 at bytes))
 
-  bands-put : joined m (λ k. bandBytes (lowerAt found 0 k) (upperAt found 0 k)) ≡ take (m * 8) (drop (y .header + s * m) bytes)
-  bands-put = joined-eq m _ (λ k. take 8 (drop (bandPlace y s m k) bytes)) band-put ∙ joined-parts 8 (y .header + s * m) m bytes
+  bands-put : joined m (λ k. bandBytes (lowerAt found 0 k) (upperAt found 0 k)) ≡ take (m * 8) (drop (headerLength y + s * m) bytes)
+  bands-put = joined-eq m _ (λ k. take 8 (drop (bandPlace y s m k) bytes)) band-put ∙ joined-parts 8 (headerLength y + s * m) m bytes
 
-  premiums-put : joined s (λ i. beBytes (y .width) (premiumAt found i)) ≡ take (s * y .width) (drop (y .header + s * m + m * 8) bytes)
+  premiums-put : joined s (λ i. beBytes (y .width) (premiumAt found i)) ≡ take (s * y .width) (drop (headerLength y + s * m + m * 8) bytes)
   premiums-put =
       joined-eq s _ (λ i. take (y .width) (drop (premiumPlace y s m i) bytes))
       (λ i is.
       ap (beBytes (y .width)) (premium-made _ _ _ _ _ _ _ _ i most is)
       ∙ put-read (y .width) bytes (premiumPlace y s m i) (omega (arith, mul-le-mul-right (y .width) is)) small)
-      ∙ joined-parts (y .width) (y .header + s * m + m * 8) s bytes
+      ∙ joined-parts (y .width) (headerLength y + s * m + m * 8) s bytes
 
-  pub body-put : rulesOf found ++ bandsOf found ++ premiumsOf y found ≡ drop (y .header) bytes
+  pub body-put : rulesOf found ++ bandsOf found ++ premiumsOf y found ≡ drop (headerLength y) bytes
   unfolding schemeOf
   body-put =
-      let h : ℕ = y .header in
+      let h : ℕ = headerLength y in
       let two : take (s * m) (drop h bytes) ++ take (m * 8) (drop (h + s * m) bytes) ≡ take (s * m + m * 8) (drop h bytes) =
       sym (take-add (s * m) (m * 8) (drop h bytes) ∙ ap (λ l. take (s * m) (drop h bytes) ++ take (m * 8) l) (drop-drop (s * m) h bytes))
       in
@@ -77,33 +77,33 @@ module _ (y : Layout) (bytes : List ℕ) (s m : ℕ) (small : (k : ℕ) → getD
       rw (rules-put, bands-put, premiums-put, two, three, all)
 
 -- Read after put: behind any header, the values of the scheme stand where the layout says.
-module _ (y : Layout) (s : Scheme) (front : List ℕ) (size : length front ≡ y .header) where
+module _ (y : Layout) (s : Scheme) (front : List ℕ) (size : length front ≡ headerLength y) where
   abbrev laidOut : List ℕ
   laidOut = front ++ (rulesOf s ++ (bandsOf s ++ premiumsOf y s))
 
-  behind : (p : ℕ) → getD laidOut (y .header + p) 0 ≡ getD (rulesOf s ++ (bandsOf s ++ premiumsOf y s)) p 0
+  behind : (p : ℕ) → getD laidOut (headerLength y + p) 0 ≡ getD (rulesOf s ++ (bandsOf s ++ premiumsOf y s)) p 0
   behind p = ap (λ n. getD laidOut (n + p) 0) (sym size) ∙ getD-append-add front _ p 0
 
   pub rule-read : (i k : ℕ) → i < s .classes → k < s .columns → getD laidOut (rowPlace y (s .columns) i + k) 0 ≡ ruleAt s i k
   rule-read i k is ks =
       let m : ℕ = s .columns in
-      ap (λ n. getD laidOut n 0) (add-assoc (y .header) (i * m) k) ∙ behind (i * m + k)
+      ap (λ n. getD laidOut n 0) (add-assoc (headerLength y) (i * m) k) ∙ behind (i * m + k)
       ∙ List·getD-append (rulesOf s) _ 0 (i * m + k) (omega (arith, length-rules y s, within (s .classes) m i k is ks))
       ∙ getD-joined m (s .classes) (λ j. tab m (ruleAt s j)) (λ j lt. length-tab m (ruleAt s j)) i k is ks
       ∙ getD-tab m (ruleAt s i) k 0 ks
 
-  past-rules : (p : ℕ) → getD laidOut (y .header + s .classes * s .columns + p) 0 ≡ getD (bandsOf s ++ premiumsOf y s) p 0
+  past-rules : (p : ℕ) → getD laidOut (headerLength y + s .classes * s .columns + p) 0 ≡ getD (bandsOf s ++ premiumsOf y s) p 0
   past-rules p =
       let n : ℕ = s .classes * s .columns in
       let e : n + p ≡ length (rulesOf s) + p = ap (λ k. k + p) (sym (length-rules y s)) in
-      ap (λ q. getD laidOut q 0) (add-assoc (y .header) n p) ∙ behind (n + p)
+      ap (λ q. getD laidOut q 0) (add-assoc (headerLength y) n p) ∙ behind (n + p)
       ∙ rw e (getD-append-add (rulesOf s) (bandsOf s ++ premiumsOf y s) p 0)
 
   -- Byte j of the band of column k.
   band-byte : (k j : ℕ) → k < s .columns → j < 8
       → getD laidOut (bandPlace y (s .classes) (s .columns) k + j) 0 ≡ getD (bandBytes (lowerAt s 0 k) (upperAt s 0 k)) j 0
   band-byte k j ks js =
-      let from : ℕ = y .header + s .classes * s .columns in
+      let from : ℕ = headerLength y + s .classes * s .columns in
       ap (λ q. getD laidOut q 0) (add-assoc from (k * 8) j) ∙ past-rules (k * 8 + j)
       ∙ List·getD-append (bandsOf s) _ 0 (k * 8 + j) (omega (arith, length-bands y s, within (s .columns) 8 k j ks js))
       ∙ getD-joined 8 (s .columns) (λ c. bandBytes (lowerAt s 0 c) (upperAt s 0 c)) (λ c lt. length-band (lowerAt s 0 c) (upperAt s 0 c)) k j ks js
@@ -157,7 +157,7 @@ module _ (y : Layout) (s : Scheme) (front : List ℕ) (size : length front ≡ y
       zero-plus : (j : ℕ) → j ≡ 0 + j
       zero-plus j = omega arith
 
-      place : (j : ℕ) → premiumPlace y (s .classes) m i + j ≡ y .header + s .classes * m + (m * 8 + (i * w + j))
+      place : (j : ℕ) → premiumPlace y (s .classes) m i + j ≡ headerLength y + s .classes * m + (m * 8 + (i * w + j))
       place j = omega arith
 
       after : (j : ℕ) → m * 8 + (i * w + j) ≡ length (bandsOf s) + (i * w + j)

@@ -6,6 +6,8 @@ use native.Mathlib.Omega.{arith}
 use lib.ListN.{length, set, length-append}
 use lib.Seq.{sets, length-sets}
 use Rattle.big_endian_spec.specs.Numbers.{beBytes, numberPut}
+use Rattle.scheme.specs.Tables.{tab}
+use Rattle.record_spec.specs.Layout.{version1}
 use Rattle.record_spec.specs.Bytes.{bandBytes, headerBytes}
 use Rattle.big_endian_spec.specs.Laws.{sets-append, length-beBytes, put-held}
 
@@ -23,6 +25,6 @@ put-band l p lower upper fits =
 
 -- The header's bytes, one by one.
 pub put-header : (l : List ℕ) (size s m start horizon : ℕ)
-    → set (set (set (set (sets (set l 0 1) 1 (beBytes 2 size)) 3 s) 4 m) 5 start) 6 horizon ≡ sets l 0 (headerBytes 1 size s m start horizon)
-unfolding headerBytes beBytes
+    → set (set (set (set (sets (set l 0 1) 1 (beBytes 2 size)) 3 s) 4 m) 5 start) 6 horizon ≡ sets l 0 (headerBytes version1 size s m start horizon)
+unfolding headerBytes beBytes tab
 put-header l size s m start horizon = refl

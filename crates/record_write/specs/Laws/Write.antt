@@ -9,9 +9,7 @@ use Rattle.scheme.specs.declared.Scheme.{Scheme}
 use Rattle.scheme.specs.Cause.{causeOf}
 use Rattle.scheme.specs.Laws.Cause.{first-cause, second-cause}
 use Rattle.record_spec.specs.declared.WriteAnswer.the-variants.{Written, Declined}
-use Rattle.record_spec.specs.Layout.{version1}
-use Rattle.record_spec.specs.Bytes.{bytesOf}
-use Rattle.record_spec.specs.Write.{recordLength, writeCause, writeAnswer, writeLeaves, writeNumber, writtenLength}
+use Rattle.record_spec.specs.Write.{recordOf, recordLength, writeCause, writeAnswer, writeLeaves, writeNumber, writtenLength}
 
 module _ (s : Scheme) (out : List ℕ) where
   -- A cause n.
@@ -26,7 +24,7 @@ module _ (s : Scheme) (out : List ℕ) where
   by-slice none short = sym (second-cause (causeOf s) _ none ∙ rw (lt-ltb (length out) (recordLength s) short))
 
   -- none.
-  pub written : {size : ℕ} {left : List ℕ} → causeOf s ≡ 0 → size ≡ recordLength s → size ≤ length out → left ≡ bytesOf version1 s ++ drop size out
+  pub written : {size : ℕ} {left : List ℕ} → causeOf s ≡ 0 → size ≡ recordLength s → size ≤ length out → left ≡ recordOf s ++ drop size out
       → (Written size ≡ writeAnswer s out) × (left ≡ writeLeaves s out)
   unfolding writeAnswer writeLeaves
   written none is fits e =

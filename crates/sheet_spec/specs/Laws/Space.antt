@@ -16,7 +16,7 @@ use Rattle.scheme.specs.Accepted.{Accepted}
 use Rattle.scheme.specs.Cause.{sizesOut, sizesCause, sizeOut, startOut, horizonOut, ruleOut, bandOut, sumOut, premiumOut, causeWhere, causeOf, orElse}
 use Rattle.scheme.specs.Laws.Judged.{accepted-cause}
 use Rattle.big_endian_spec.specs.Numbers.{beAt}
-use Rattle.record_spec.specs.Layout.{HEADER, version1, lengthOf, classesIn, columnsIn, schemeIn}
+use Rattle.record_spec.specs.Layout.{HEADER, layoutIn, lengthOf, classesIn, columnsIn, schemeIn}
 use Rattle.record_spec.specs.Read.{versionCause, fieldCause, lengthCause, frameCause, readCause}
 use Rattle.record_spec.specs.declared.WriteAnswer.the-variants.{Written, Declined}
 use Rattle.sheet_spec.specs.Sheet.{classLines, yearPremium, yearLines, sheetOf, refusedLine, sheetText}
@@ -86,28 +86,28 @@ unfolding frameCause
 frame-cause-most bytes =
     let s = classesIn bytes in
     let m = columnsIn bytes in
-    or-most (orElse (versionCause bytes) (fieldCause bytes)) (orElse (sizesCause s m) (lengthCause (length bytes) s m)) 10
+    or-most (orElse (versionCause bytes) (fieldCause bytes)) (orElse (sizesCause s m) (lengthCause bytes)) 10
     (or-most (versionCause bytes) (fieldCause bytes) 10
-    (cond-most (eqb (length bytes) 0 || not (eqb (getD bytes 0 0) 1)) 1 0 10 (omega arith) (omega arith))
+    (cond-most (eqb (length bytes) 0 || not (eqb (getD bytes 0 0) (layoutIn bytes .version))) 1 0 10 (omega arith) (omega arith))
     (cond-most (ltb (length bytes) HEADER || not (eqb (beAt 2 bytes 1) (length bytes))) 2 0 10 (omega arith) (omega arith)))
-    (or-most (sizesCause s m) (lengthCause (length bytes) s m) 10
+    (or-most (sizesCause s m) (lengthCause bytes) 10
     (cond-most (sizesOut s m) 3 0 10 (omega arith) (omega arith))
-    (cond-most (not (eqb (length bytes) (lengthOf version1 s m))) 4 0 10 (omega arith) (omega arith)))
+    (cond-most (not (eqb (length bytes) (lengthOf (layoutIn bytes) s m))) 4 0 10 (omega arith) (omega arith)))
 
 pub read-cause-most : (bytes : List ℕ) → readCause bytes ≤ 10
-read-cause-most bytes = or-most (frameCause bytes) (causeOf (schemeIn version1 bytes)) 10 (frame-cause-most bytes) (scheme-cause-most (schemeIn version1 bytes))
+read-cause-most bytes = or-most (frameCause bytes) (causeOf (schemeIn bytes)) 10 (frame-cause-most bytes) (scheme-cause-most (schemeIn bytes))
 
 -- Bytes without a cause hold an accepted scheme.
-pub read-accepted : (bytes : List ℕ) → readCause bytes ≡ 0 → Accepted (schemeIn version1 bytes)
-read-accepted bytes e = accepted-cause _ (second-none (frameCause bytes) (causeOf (schemeIn version1 bytes)) e)
+pub read-accepted : (bytes : List ℕ) → readCause bytes ≡ 0 → Accepted (schemeIn bytes)
+read-accepted bytes e = accepted-cause _ (second-none (frameCause bytes) (causeOf (schemeIn bytes)) e)
 
 -- The text and the space of any bytes, by cases.
 module _ (bytes : List ℕ) where
-  pub text-accepted : readCause bytes ≡ 0 → sheetText bytes ≡ sheetOf (schemeIn version1 bytes)
+  pub text-accepted : readCause bytes ≡ 0 → sheetText bytes ≡ sheetOf (schemeIn bytes)
   unfolding sheetText
   text-accepted e = rw (eq-eqb (readCause bytes) 0 e)
 
-  pub space-accepted : readCause bytes ≡ 0 → spaceFor bytes ≡ spaceOf (schemeIn version1 bytes)
+  pub space-accepted : readCause bytes ≡ 0 → spaceFor bytes ≡ spaceOf (schemeIn bytes)
   unfolding spaceFor
   space-accepted e = rw (eq-eqb (readCause bytes) 0 e)
 
@@ -130,8 +130,8 @@ enough-space bytes = by (ℕ-discrete (readCause bytes) 0)
     by : Dec (readCause bytes ≡ 0) → EnoughSpace bytes
     by (yes none) =
         record {
-          enough = rw (text-accepted bytes none, space-accepted bytes none) (sheet-within (schemeIn version1 bytes) (read-accepted bytes none) .fits);
-          most = rw (space-accepted bytes none) (space-at-most (schemeIn version1 bytes) (read-accepted bytes none));
+          enough = rw (text-accepted bytes none, space-accepted bytes none) (sheet-within (schemeIn bytes) (read-accepted bytes none) .fits);
+          most = rw (space-accepted bytes none) (space-at-most (schemeIn bytes) (read-accepted bytes none));
         }
     by (no some) =
         record {

@@ -2,7 +2,7 @@
 use mathlib.Core.Path.{_≡_, ap, sym, _∙_}
 use native.Mathlib.Omega.{arith}
 use Rattle.record_spec.specs.Read.{readCause}
-use Rattle.record_spec.specs.Layout.{version1, schemeIn}
+use Rattle.record_spec.specs.Layout.{schemeIn}
 use Rattle.record_spec.specs.Laws.Read.{read-number, read-scheme}
 use Rattle.sheet_spec.specs.Laws.Space.{read-cause-most, read-accepted}
 use Rattle.sheet_text.specs.Laws.Answer.{sheet-refused, sheet-accepted}
@@ -20,7 +20,7 @@ none : (c : tie.Else1) → let start = c .before .before .before .before in
 none c = sym (number (c .before)) ∙ c .if1 .left
 
 scheme-in : (c : tie.Else1) → let start = c .before .before .before .before in
-    c .before .read .result .scheme ≡ schemeIn version1 (start .args .bytes .now)
+    c .before .read .result .scheme ≡ schemeIn (start .args .bytes .now)
 scheme-in c = ap (λ r. r .scheme) (c .before .read .ensures) ∙ read-scheme _ (none c)
 
 read-requires : tie.Need-read-requires

@@ -10,7 +10,7 @@ use Rattle.scheme.specs.Accepted.{Accepted}
 use Rattle.scheme.specs.Cause.{causeOf}
 use Rattle.scheme.specs.Laws.Cause.{second-cause}
 use Rattle.scheme.specs.Laws.Judged.{cause-accepted}
-use Rattle.record_spec.specs.Layout.{version1, schemeIn}
+use Rattle.record_spec.specs.Layout.{schemeIn}
 use Rattle.record_spec.specs.Read.{readCause}
 use Rattle.record.specs.Laws.Lists.{sets-front}
 use Rattle.bounds_spec.specs.Answers.{sheetSlice}
@@ -56,7 +56,7 @@ module _ (bytes : List ℕ) where
       let cause : readCause bytes ≡ 0 → ⊥ = λ z. some (e ∙ z) in
       keeps out (rw (text-refused bytes cause, space-refused bytes cause, ← e) (answered .answer)) (rw (text-refused bytes cause, space-refused bytes cause, ← e) (answered .leaves))
 
-  pub sheet-accepted : {s : Scheme} {out after : List ℕ} {r : WriteAnswer} → readCause bytes ≡ 0 → s ≡ schemeIn version1 bytes → TextAnswered (spaceOf s) (sheetOf s) out after r
+  pub sheet-accepted : {s : Scheme} {out after : List ℕ} {r : WriteAnswer} → readCause bytes ≡ 0 → s ≡ schemeIn bytes → TextAnswered (spaceOf s) (sheetOf s) out after r
       → Ensured out after r
   unfolding sheetAnswer sheetLeaves
   sheet-accepted {out = out} none e answered =

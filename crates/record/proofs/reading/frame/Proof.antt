@@ -42,7 +42,7 @@ sizes-cause-requires : tie.Need-sizes-cause-requires
 sizes-cause-requires c κs = search needs
 
 length-cause-requires : tie.Need-length-cause-requires
-length-cause-requires c κs = search needs
+length-cause-requires c κs = head-long (given (c .before .before .before .before)) (none (c .before .before .before))
 
 or-else-requires-2 : tie.Need-or-else-requires-2
 or-else-requires-2 c κs = search needs

@@ -4,25 +4,27 @@ use mathlib.Core.Path.{_≡_, refl, ap}
 use mathlib.Core.List.{List}
 use native.Mathlib.Omega.{arith}
 use native.Mathlib.Nat.{mul-le-mul}
-use lib.ListN.{getD}
+use lib.ListN.{length, getD}
 use Rattle.scheme.specs.declared.Scheme.{Scheme}
 use Rattle.scheme.specs.Tables.{tab}
 use Rattle.big_endian_spec.specs.Numbers.{beAt}
 use Rattle.scheme.specs.Stored.{upTo, rulesUpTo, schemeOf}
-use Rattle.record_spec.specs.Layout.{HEADER, version1, classesIn, columnsIn, schemeIn}
+use Rattle.record_spec.specs.Layout.{HEADER, version1, layoutIn, lengthOf, classesIn, columnsIn, schemeIn}
 use Rattle.scheme.specs.Laws.Tab.{tab-eq}
 use Rattle.scheme.specs.Laws.Stored.{upTo-eq}
 use borrow.Author.Needs.{needs}
 use Rattle.record.proofs.reading.parsed.Statement.{statement}
 use Rattle.record.proofs.reading.parsed.Tie as tie
 
--- s × m is within the rules' places.
+-- The bytes are as long as the layout's formula says, and s × m is within the rules' places.
 places : (c : tie.After-shared-slice-known4)
     → let start = c .before .before .before .before in
-    classesIn (start .args .bytes .now) * columnsIn (start .args .bytes .now) ≤ 32 * 8
+    let bytes = start .args .bytes .now in
+    (classesIn bytes * columnsIn bytes ≤ 32 * 8) × (length bytes ≡ lengthOf version1 (classesIn bytes) (columnsIn bytes))
+unfolding layoutIn
 places c =
     let start = c .before .before .before .before in
-    let framed = start .pre in mul-le-mul (framed .classes) (framed .columns)
+    let framed = start .pre in (mul-le-mul (framed .classes) (framed .columns), framed .whole)
 
 -- An upper end stands 4 bytes past the lower end.
 upper-places : (bytes : List ℕ) (p n : ℕ)
@@ -38,8 +40,8 @@ made : (bytes : List ℕ) {rules lowers uppers premiums : List ℕ}
     → premiums ≡ tab 32 (upTo (classesIn bytes) (λ i. beAt 4 bytes (HEADER + classesIn bytes * columnsIn bytes + columnsIn bytes * 8 + i * 4)))
     → _≡_ {A = Scheme}
     record { classes = classesIn bytes; columns = columnsIn bytes; start = getD bytes 5 0; horizon = getD bytes 6 0; rules = rules; lowers = lowers; uppers = uppers; premiums = premiums }
-    (schemeIn version1 bytes)
-unfolding schemeOf
+    (schemeIn bytes)
+unfolding schemeOf layoutIn
 made bytes r l u p = rw (r, l, u, upper-places bytes (HEADER + classesIn bytes * columnsIn bytes) (columnsIn bytes), p)
 
 shared-slice-read-classes : tie.Need-shared-slice-read-classes
@@ -66,6 +68,12 @@ mul-bands c = omega (arith, places (c .before))
 add-bands : tie.Need-add-bands
 add-bands c = omega (arith, places (c .before))
 
+mul-money : tie.Need-mul-money
+mul-money c = search needs
+
+add-money : tie.Need-add-money
+add-money c = omega (arith, places (c .before))
+
 rules-requires : tie.Need-rules-requires
 rules-requires c κs = omega (arith, places (c .before))
 
@@ -73,7 +81,7 @@ slice-aggregate-read-numbers : tie.Need-slice-aggregate-read-numbers
 slice-aggregate-read-numbers c = refl
 
 read-numbers-requires : tie.Need-read-numbers-requires
-read-numbers-requires c κs = let room = places (c .before .before .before) in (omega arith, omega arith, omega arith, refl)
+read-numbers-requires c κs = let room = places (c .before .before .before) in (omega arith, omega arith, omega arith, omega arith, refl)
 
 add-read-numbers : tie.Need-add-read-numbers
 add-read-numbers c = let at-lowers = c .before .before in omega (arith, places (at-lowers .before .before .before))
@@ -85,16 +93,7 @@ read-numbers-requires-2 : tie.Need-read-numbers-requires-2
 read-numbers-requires-2 c κs =
     let at-lowers = c .before .before .before in
     let room = places (at-lowers .before .before .before) in
-    (omega arith, omega arith, omega arith, refl)
-
-mul-read-numbers : tie.Need-mul-read-numbers
-mul-read-numbers c = search needs
-
-add-read-numbers-2 : tie.Need-add-read-numbers-2
-add-read-numbers-2 c =
-    let at-uppers = c .before .before in
-    let at-lowers = at-uppers .before .before .before in
-    omega (arith, places (at-lowers .before .before .before))
+    (omega arith, omega arith, omega arith, omega arith, refl)
 
 slice-aggregate-read-numbers-3 : tie.Need-slice-aggregate-read-numbers-3
 slice-aggregate-read-numbers-3 c = refl
@@ -104,7 +103,7 @@ read-numbers-requires-3 c κs =
     let at-uppers = c .before .before .before in
     let at-lowers = at-uppers .before .before .before in
     let room = places (at-lowers .before .before .before) in
-    (omega arith, omega arith, omega arith, refl)
+    (omega arith, omega arith, omega arith, omega arith, refl)
 
 returns : tie.Need-returns
 returns c =
@@ -128,14 +127,14 @@ parsed-spec =
     cast-m
     mul-bands
     add-bands
+    mul-money
+    add-money
     rules-requires
     slice-aggregate-read-numbers
     read-numbers-requires
     add-read-numbers
     slice-aggregate-read-numbers-2
     read-numbers-requires-2
-    mul-read-numbers
-    add-read-numbers-2
     slice-aggregate-read-numbers-3
     read-numbers-requires-3
     returns)

@@ -15,14 +15,14 @@ use Rattle.record.proofs.reading.read_numbers.Statement.{statement}
 use Rattle.record.proofs.reading.read_numbers.Tie as tie
 
 abbrev Inv-loop : tie.InvT-loop
-Inv-loop bytes from stride out₀ n k₀ at₀ out k at =
-    (k ≤ n) × (at ≡ from + k * stride) × (out ≡ tab (length out₀) (upTo k (λ j. beAt 4 bytes (from + j * stride))))
+Inv-loop bytes from width stride out₀ n k₀ at₀ out k at =
+    (k ≤ n) × (at ≡ from + k * stride) × (out ≡ tab (length out₀) (upTo k (λ j. beAt width bytes (from + j * stride))))
 
 abbrev μ-loop : tie.MeasureT-loop
-μ-loop bytes from stride out₀ n k₀ at₀ out k at = n - k
+μ-loop bytes from width stride out₀ n k₀ at₀ out k at = n - k
 
 loop-holds : tie.Need-loop-holds Inv-loop μ-loop
-loop-holds c = (omega arith, omega arith, c .before .before .pre .3 ∙ stored-none _ _)
+loop-holds c = (omega arith, omega arith, c .before .before .pre .4 ∙ stored-none _ _)
 
 -- The slice keeps its length.
 size : (c : tie.At-loop Inv-loop μ-loop) → length (c .loop .out) ≡ length (c .before .before .before .args .out .now)
@@ -59,7 +59,7 @@ loop-again c =
     let at-loop = c .before .before in
     let start = at-loop .before .before .before .args in
     let turn = at-loop .loop in
-    let held = read-held 4 (start .bytes .now) (turn .at) (omega arith) (omega (arith, room (c .before))) in (
+    let held = read-held (start .width) (start .bytes .now) (turn .at) (omega arith) (omega (arith, room (c .before))) in (
       omega arith,
       omega arith,
       stored-more (length (start .out .now)) (turn .k) _ (turn .out) (c .number-at .result) (omega arith) (turn .inv .2)

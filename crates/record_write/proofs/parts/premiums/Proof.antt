@@ -1,7 +1,8 @@
 -- `parts::premiums` meets its contract: j premiums stand at the head of the loop.
-use Prim.Native.Nat.{_≤_, _+_, _*_, _-_}
+use Prim.Native.Nat.{suc, _≤_, _+_, _*_, _-_}
 use mathlib.Core.Path.{_≡_, _∙_}
 use native.Mathlib.Omega.{arith}
+use native.Mathlib.Nat.{mul-le-mul-right}
 use lib.ListN.{length, getD}
 use lib.Seq.{sets, length-sets}
 use Rattle.big_endian_spec.specs.Numbers.{beBytes}
@@ -13,15 +14,23 @@ use Rattle.record_write.proofs.parts.premiums.Statement.{statement}
 use Rattle.record_write.proofs.parts.premiums.Tie as tie
 
 abbrev Inv-loop : tie.InvT-loop
-Inv-loop out₀ from premiums s j₀ to₀ out j to =
-    (j ≤ s) × (to ≡ from + j * 4) × (out ≡ sets out₀ from (joined j (λ i. beBytes 4 (getD premiums i 0))))
+Inv-loop out₀ from width premiums s j₀ to₀ out j to =
+    (j ≤ s) × (to ≡ from + j * width) × (out ≡ sets out₀ from (joined j (λ i. beBytes width (getD premiums i 0))))
 
 abbrev μ-loop : tie.MeasureT-loop
-μ-loop out₀ from premiums s j₀ to₀ out j to = s - j
+μ-loop out₀ from width premiums s j₀ to₀ out j to = s - j
 
 -- The slice keeps its length.
 size : (c : tie.At-loop Inv-loop μ-loop) → length (c .loop .out) ≡ length (c .before .before .args .out .now)
 size c = rw (c .loop .inv .2) (simp length-sets)
+
+-- The slice holds the next premium.
+room : (c : tie.In-loop Inv-loop μ-loop)
+    → c .before .loop .to + c .before .before .before .args .width ≤ length (c .before .loop .out)
+room c =
+    let start = c .before .before .before .args in
+    let more : suc (c .before .loop .j) ≤ start .s = omega arith in
+    omega (arith, size (c .before), mul-le-mul-right (start .width) more)
 
 loop-holds : tie.Need-loop-holds Inv-loop μ-loop
 loop-holds c = (omega arith, omega arith, join-none _ _ _)
@@ -36,7 +45,7 @@ put-number-requires : tie.Need-put-number-requires Inv-loop μ-loop
 put-number-requires c κs = search needs
 
 add-to : tie.Need-add-to Inv-loop μ-loop
-add-to c = let at-put = c .before .before in omega (arith, size (at-put .before .before .before .before))
+add-to c = let in-loop = c .before .before .before .before .before in omega (arith, room in-loop, size (in-loop .before))
 
 add-j : tie.Need-add-j Inv-loop μ-loop
 add-j c = omega arith
@@ -52,8 +61,8 @@ loop-again c =
     let turn = at-loop .loop in (
       omega arith,
       omega arith,
-      at-put .put-number .ensures ∙ put-held 4 (turn .out) (turn .to) _ (omega (arith, size at-loop))
-          ∙ rw (turn .inv .2, turn .inv .1) (join-more 4 _ (start .out .now) (start .from) (turn .j) (λ i lt. length-beBytes 4 _)),
+      at-put .put-number .ensures ∙ put-held (start .width) (turn .out) (turn .to) _ (room (at-put .before .before .before))
+          ∙ rw (turn .inv .2, turn .inv .1) (join-more (start .width) _ (start .out .now) (start .from) (turn .j) (λ i lt. length-beBytes (start .width) _)),
     )
 
 same-length : tie.Need-same-length Inv-loop μ-loop
