@@ -9,7 +9,7 @@
 use plain::Scheme;
 use std::hint::black_box;
 use std::time::Duration;
-use trials::made::{record_of, scheme_of};
+use trials::made::{record_of, scheme_of, Shape};
 use trials::rng::Rng;
 
 /// How many batches of each side are run.
@@ -244,7 +244,7 @@ fn usual(s: u8) -> Scheme {
 /// Any rules, and bands about random probabilities; premiums at random.
 fn random(seed: u64, s: u8) -> Scheme {
     let mut rng = Rng::new(seed);
-    let mut scheme = scheme_of(&mut rng, s, 8);
+    let mut scheme = scheme_of(&mut rng, Shape::of(s, 8));
     scheme.horizon = 100;
     for rule in &mut scheme.rules {
         *rule = rng.between(1, u64::from(s)) as u8;

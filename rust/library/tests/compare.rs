@@ -3,10 +3,10 @@
 mod lent;
 
 use lent::{check_one, near, of_length, Lent};
-use plain::Scheme;
+use plain::{places, Scheme, VERSION_1};
 use std::io::Write;
 use trials::family;
-use trials::made;
+use trials::made::{self, Shape};
 use trials::rng::Rng;
 
 /// Marks that no call writes: answers stay below, texts and their lengths too.
@@ -294,7 +294,7 @@ fn sizes(tally: &mut Tally) {
     for s in 1..=32 {
         for m in 1..=8 {
             for _ in 0..200 {
-                let scheme = made::scheme_of(&mut rng, s, m);
+                let scheme = made::scheme_of(&mut rng, Shape::of(s, m));
                 compare(tally, &mut rng, &made::record_of(&scheme));
             }
         }
@@ -350,11 +350,11 @@ fn bytes(tally: &mut Tally) {
         } as usize;
         let mut record = vec![0; length];
         record.fill_with(|| rng.draw() as u8);
-        if length > 6 && !rng.once_in(4) {
-            record[0] = 1;
-            record[1..3].copy_from_slice(&(length as u16).to_be_bytes());
-            record[3] = rng.between(0, 5) as u8;
-            record[4] = rng.between(0, 5) as u8;
+        if length >= VERSION_1.header && !rng.once_in(4) {
+            record[places::VERSION] = VERSION_1.version;
+            made::set_length(&mut record);
+            record[places::CLASSES] = rng.between(0, 5) as u8;
+            record[places::COLUMNS] = rng.between(0, 5) as u8;
         }
         compare(tally, &mut rng, &record);
     }

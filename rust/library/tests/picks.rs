@@ -1,10 +1,12 @@
 //! Demand 3 by exact arithmetic on the library's answers: no picks leave the
 //! bounds, and the extreme ones come within t of each.
 
-use plain::{Figures, Scheme, ONE};
+use plain::{Scheme, ONE};
 use trials::exact::Fraction;
-use trials::made;
-use trials::picks::{any_picks, exact_mean, exact_shares, exact_total, extreme_picks, Matrix};
+use trials::made::{self, Shape};
+use trials::picks::{
+    any_picks, exact_mean, exact_shares, exact_total, extreme_picks, premiums, Matrix,
+};
 use trials::rng::Rng;
 
 /// The longest horizon of the small schemes.
@@ -73,19 +75,9 @@ fn check_close(scheme: &Scheme, bounds: &Bounds, year: u64) {
     }
 }
 
-fn premiums(scheme: &Scheme) -> Figures {
-    let mut premiums = [0; 32];
-    let used = &scheme.premiums[..usize::from(scheme.classes)];
-    for (figure, &premium) in premiums.iter_mut().zip(used) {
-        *figure = u64::from(premium);
-    }
-    premiums
-}
-
 fn small_scheme(rng: &mut Rng) -> Scheme {
-    let s = rng.between(1, 4) as u8;
-    let m = rng.between(1, 8) as u8;
-    let mut scheme = made::scheme_of(rng, s, m);
+    let shape = Shape::up_to(rng, 4, 8);
+    let mut scheme = made::scheme_of(rng, shape);
     scheme.horizon = YEARS as u8;
     scheme
 }

@@ -6,8 +6,8 @@ mod lent;
 use lent::{check_one, near, of_length, Lent};
 use plain::{Figures, Scheme, ONE};
 use trials::exact::Fraction;
-use trials::made;
-use trials::picks::{exact_mean, exact_shares, exact_total, inside, picks_by, Row};
+use trials::made::{self, Shape};
+use trials::picks::{exact_mean, exact_shares, exact_total, inside, picks_by, premiums, Row};
 use trials::rng::Rng;
 
 /// Marks that no call writes.
@@ -144,7 +144,7 @@ fn accepted() {
     for s in 1..=32 {
         for m in 1..=8 {
             for _ in 0..60 {
-                let scheme = made::scheme_of(&mut rng, s, m);
+                let scheme = made::scheme_of(&mut rng, Shape::of(s, m));
                 compare(&mut rng, &made::record_of(&scheme));
             }
         }
@@ -166,9 +166,8 @@ fn damaged() {
 fn extreme_picks_come_close() {
     let mut rng = Rng::new(133);
     for _ in 0..500 {
-        let s = rng.between(1, 5) as u8;
-        let m = rng.between(1, 8) as u8;
-        let mut scheme = made::scheme_of(&mut rng, s, m);
+        let shape = Shape::up_to(&mut rng, 5, 8);
+        let mut scheme = made::scheme_of(&mut rng, shape);
         scheme.horizon = 4;
         for year in 0..=4 {
             check_close(&scheme, year);
@@ -180,10 +179,7 @@ fn extreme_picks_come_close() {
 fn check_close(scheme: &Scheme, year: u64) {
     let record = made::record_of(scheme);
     let s = scheme.classes;
-    let mut premiums = [0; 32];
-    for (figure, &premium) in premiums.iter_mut().zip(&scheme.premiums[..usize::from(s)]) {
-        *figure = u64::from(premium);
-    }
+    let premiums = premiums(scheme);
     for high in [false, true] {
         let step = if high {
             library::high_step

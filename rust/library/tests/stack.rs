@@ -1,14 +1,14 @@
 //! The deepest calls on a small stack. One that needs more ends the process
 //! with "has overflowed its stack".
 
-use trials::made;
+use trials::made::{self, Shape};
 use trials::rng::Rng;
 
 const SMALL: usize = 64 * 1024;
 
 /// The record of a scheme of 32 classes, 8 columns and 100 years.
 fn largest() -> Vec<u8> {
-    let mut scheme = made::scheme_of(&mut Rng::new(121), 32, 8);
+    let mut scheme = made::scheme_of(&mut Rng::new(121), Shape::of(32, 8));
     scheme.horizon = 100;
     made::record_of(&scheme)
 }

@@ -15,11 +15,14 @@ mod step;
 mod years;
 
 pub use ready::ready;
-pub use record::{bands, open, read, rule_row, write, Bands};
+pub use record::{
+    bands, layout_of, number_at, open, places, put_number, read, rule_row, write, Bands, Layout,
+    END_WIDTH, LAYOUTS, LENGTH_WIDTH, MAX_RECORD, VERSION_1,
+};
 pub use rows::row;
 pub use scheme::{
     cause, Figures, Scheme, MAX_BASE, MAX_CLASSES, MAX_COLUMNS, MAX_HORIZON, MAX_PAYOFF,
-    MAX_PREMIUM, MAX_RECORD, ONE,
+    MAX_PREMIUM, ONE,
 };
 pub use sheet::sheet;
 pub use step::{high_step, low_step};

@@ -14,8 +14,6 @@ pub const MAX_PREMIUM: u32 = 10_000_000;
 pub const MAX_PAYOFF: u64 = 1_000_000_000;
 /// The highest base premium of a ready scheme in cents.
 pub const MAX_BASE: u64 = 2_500_000;
-/// The length of the longest record.
-pub const MAX_RECORD: usize = 455;
 
 /// One number for each class; class i is at i - 1.
 pub type Figures = [u64; MAX_CLASSES];
@@ -27,7 +25,7 @@ pub struct Scheme {
     pub columns: u8,
     pub start: u8,
     pub horizon: u8,
-    /// The next class of class i after k claims is at (i - 1) * 8 + k.
+    /// The next class of class i after k claims is at (i - 1) * MAX_COLUMNS + k.
     pub rules: [u8; MAX_CLASSES * MAX_COLUMNS],
     pub lowers: [u32; MAX_COLUMNS],
     pub uppers: [u32; MAX_COLUMNS],

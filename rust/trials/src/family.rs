@@ -1,9 +1,9 @@
 //! The fixed family of records and the report of the answers on it. The line
 //! format is described in the binary `family`.
 
-use crate::made::{damage, record_of, scheme_of};
+use crate::made::{damage, record_in, record_of, scheme_of, Shape, DAMAGES};
 use crate::rng::Rng;
-use plain::{Figures, Scheme, MAX_RECORD, ONE};
+use plain::{Figures, Scheme, MAX_CLASSES, MAX_COLUMNS, MAX_HORIZON, MAX_RECORD, ONE};
 use std::fmt::Write;
 
 /// Example A of the scope.
@@ -45,71 +45,80 @@ const SIZES: [(u8, u8); 26] = [
 
 /// The records of the family.
 pub fn records() -> Vec<Vec<u8>> {
-    let mut records = vec![EXAMPLE_A.to_vec()];
-
-    // Both classes 0 to 1, 1+ to 2, in thirds.
-    let mut thirds = small(2, 2, 2);
-    thirds.rules[..2].copy_from_slice(&[1, 2]);
-    thirds.rules[8..10].copy_from_slice(&[1, 2]);
-    thirds.lowers[..2].copy_from_slice(&[333_333_333, 666_666_667]);
-    thirds.uppers = thirds.lowers;
-    thirds.premiums[..2].copy_from_slice(&[10, 11]);
-    records.push(record_of(&thirds));
-
-    // One row of three classes.
-    let mut three = small(3, 3, 3);
-    for i in 0..3 {
-        three.rules[i * 8..i * 8 + 3].copy_from_slice(&[1, 2, 3]);
-    }
-    three.lowers[..3].copy_from_slice(&[100_000_000, 200_000_000, 300_000_000]);
-    three.uppers[..3].copy_from_slice(&[500_000_000, 600_000_000, 400_000_000]);
-    three.premiums[..3].copy_from_slice(&[30, 10, 20]);
-    records.push(record_of(&three));
-
-    // The ready schemes as they are, and one with narrow bands.
-    for (number, base) in [(1, 100_000), (2, 2_500_000), (3, 77_777)] {
-        records.push(record_of(
-            &plain::ready(number, base).expect("a ready scheme"),
-        ));
-    }
-    let mut narrow = plain::ready(3, 120_000).expect("a ready scheme");
-    narrow.lowers[..5].copy_from_slice(&[880_000_000, 70_000_000, 3_000_000, 50_000, 0]);
-    narrow.uppers[..5].copy_from_slice(&[920_000_000, 110_000_000, 9_000_000, 900_000, 60_000]);
-    narrow.horizon = 100;
-    records.push(record_of(&narrow));
-
-    // Made-up schemes; those of the largest sizes at the longest horizon.
     let mut rng = Rng::new(2007);
-    for (s, m) in SIZES {
-        let mut scheme = scheme_of(&mut rng, s, m);
-        if s >= 31 {
-            scheme.horizon = 100;
-        }
-        records.push(record_of(&scheme));
-    }
-
-    // Damaged records: no byte, and the first two of each kind of damage that
-    // are declined.
+    let mut records = vec![EXAMPLE_A.to_vec()];
+    records.extend([thirds(), three()].iter().map(record_of));
+    records.extend(ready_schemes().iter().map(record_of));
+    records.extend(SIZES.map(|(s, m)| made_up(&mut rng, Shape::of(s, m))));
     records.push(Vec::new());
-    for kind in 0..crate::made::DAMAGES {
-        let mut found = 0;
-        for _ in 0..10_000 {
-            if found == 2 {
-                break;
-            }
-            let s = rng.between(1, 6) as u8;
-            let m = rng.between(1, 4) as u8;
-            let mut bytes = record_of(&scheme_of(&mut rng, s, m));
-            damage(&mut rng, &mut bytes, kind);
-            if plain::read(&bytes).is_err() {
-                records.push(bytes);
-                found += 1;
-            }
-        }
+    for kind in 0..DAMAGES {
+        records.extend(declined(&mut rng, kind));
     }
     records.extend(edges());
     records.extend(damaged_examples());
     records
+}
+
+/// Both classes 0 to 1, 1+ to 2, in thirds.
+fn thirds() -> Scheme {
+    let mut thirds = small(2, 2, 2);
+    for rules in thirds.rules.chunks_exact_mut(MAX_COLUMNS).take(2) {
+        rules[..2].copy_from_slice(&[1, 2]);
+    }
+    thirds.lowers[..2].copy_from_slice(&[333_333_333, 666_666_667]);
+    thirds.uppers = thirds.lowers;
+    thirds.premiums[..2].copy_from_slice(&[10, 11]);
+    thirds
+}
+
+/// One row of three classes.
+fn three() -> Scheme {
+    let mut three = small(3, 3, 3);
+    for rules in three.rules.chunks_exact_mut(MAX_COLUMNS).take(3) {
+        rules[..3].copy_from_slice(&[1, 2, 3]);
+    }
+    three.lowers[..3].copy_from_slice(&[100_000_000, 200_000_000, 300_000_000]);
+    three.uppers[..3].copy_from_slice(&[500_000_000, 600_000_000, 400_000_000]);
+    three.premiums[..3].copy_from_slice(&[30, 10, 20]);
+    three
+}
+
+/// The ready schemes as they are, and one with narrow bands.
+fn ready_schemes() -> [Scheme; 4] {
+    let ready = |number, base| plain::ready(number, base).expect("a ready scheme");
+    let mut narrow = ready(3, 120_000);
+    narrow.lowers[..5].copy_from_slice(&[880_000_000, 70_000_000, 3_000_000, 50_000, 0]);
+    narrow.uppers[..5].copy_from_slice(&[920_000_000, 110_000_000, 9_000_000, 900_000, 60_000]);
+    narrow.horizon = MAX_HORIZON;
+    [
+        ready(1, 100_000),
+        ready(2, 2_500_000),
+        ready(3, 77_777),
+        narrow,
+    ]
+}
+
+/// The record of a made-up scheme; of the largest at the longest horizon.
+fn made_up(rng: &mut Rng, shape: Shape) -> Vec<u8> {
+    let mut scheme = scheme_of(rng, shape);
+    if shape.classes >= 31 {
+        scheme.horizon = MAX_HORIZON;
+    }
+    record_in(&scheme, shape.version)
+}
+
+/// The first two records with damage of a kind that are declined.
+fn declined(rng: &mut Rng, kind: u64) -> Vec<Vec<u8>> {
+    let tried = (0..10_000).map(|_| {
+        let shape = Shape::up_to(rng, 6, 4);
+        let mut bytes = record_in(&scheme_of(rng, shape), shape.version);
+        damage(rng, &mut bytes, kind);
+        bytes
+    });
+    tried
+        .filter(|bytes| plain::read(bytes).is_err())
+        .take(2)
+        .collect()
 }
 
 /// One class and two columns at the edges of acceptance: the lowers sum to
@@ -204,7 +213,7 @@ pub fn report_record(out: &mut String, number: u64, record: &[u8]) {
 fn report_reader(out: &mut String, record: &[u8]) {
     let (number, mut reader) = plain::open(record);
     put!(out, "READER {number}");
-    for _ in 0..9 {
+    for _ in 0..=MAX_COLUMNS {
         report_band(out, reader.next());
     }
     put!(out, " FIRST");
@@ -322,7 +331,7 @@ fn report_ready(out: &mut String) {
 /// A payoff of the kinds that the format names.
 fn payoff(scheme: &Scheme, number: u64, kind: u64) -> Figures {
     let s = u64::from(scheme.classes);
-    let mut payoff = [4_000_000_000; 32];
+    let mut payoff = [4_000_000_000; MAX_CLASSES];
     for class in 1..=s {
         let index = class as usize - 1;
         let mixed = (618_033_989 * class + 271_828_183 * number) % (ONE + 1);

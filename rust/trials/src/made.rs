@@ -1,25 +1,100 @@
 //! Made-up schemes, records, damaged ones, and payoffs, with edge values often.
 
 use crate::rng::Rng;
-use plain::{Figures, Scheme, MAX_COLUMNS, MAX_PAYOFF, MAX_PREMIUM, MAX_RECORD, ONE};
+use plain::{
+    layout_of, number_at, places, put_number, Figures, Layout, Scheme, END_WIDTH, LAYOUTS,
+    LENGTH_WIDTH, MAX_CLASSES, MAX_COLUMNS, MAX_HORIZON, MAX_PAYOFF, MAX_PREMIUM, MAX_RECORD, ONE,
+    VERSION_1,
+};
 
-/// An accepted scheme of any size.
-pub fn scheme(rng: &mut Rng) -> Scheme {
-    let s = match rng.below(8) {
-        0 => rng.pick(&[1, 2, 31, 32]),
-        1..=3 => rng.between(1, 6),
-        _ => rng.between(1, 32),
-    };
-    let m = match rng.below(4) {
-        0 => rng.pick(&[1, 2, 8]),
-        _ => rng.between(1, 8),
-    };
-    scheme_of(rng, s as u8, m as u8)
+/// How the bands of a scheme are given.
+#[derive(Clone, Copy, Debug, PartialEq, Eq)]
+pub enum BandLists {
+    /// One list for all classes.
+    Shared,
+    /// One list for each class.
+    ByClass,
 }
 
-/// An accepted scheme with s classes and m columns, now and then with junk
-/// beyond them.
-pub fn scheme_of(rng: &mut Rng, s: u8, m: u8) -> Scheme {
+/// What is to be made. Today's schemes have shared bands and one size step, and
+/// their records version 1; asked for anything else, a maker fails.
+#[derive(Clone, Copy, Debug, PartialEq, Eq)]
+pub struct Shape {
+    /// The version of the record.
+    pub version: u8,
+    /// The number of classes, s.
+    pub classes: u8,
+    /// The number of claim columns, m.
+    pub columns: u8,
+    /// How the bands are given.
+    pub bands: BandLists,
+    /// The number of size steps, z.
+    pub sizes: u8,
+}
+
+impl Shape {
+    /// The usual shape of s classes and m columns.
+    pub const fn of(s: u8, m: u8) -> Shape {
+        Shape {
+            version: VERSION_1.version,
+            classes: s,
+            columns: m,
+            bands: BandLists::Shared,
+            sizes: 1,
+        }
+    }
+
+    /// The usual shape of 1 to s classes and 1 to m columns.
+    pub fn up_to(rng: &mut Rng, s: u8, m: u8) -> Shape {
+        let s = rng.between(1, u64::from(s)) as u8;
+        let m = rng.between(1, u64::from(m)) as u8;
+        Shape::of(s, m)
+    }
+
+    /// Any shape that can be made.
+    pub fn any(rng: &mut Rng) -> Shape {
+        let (most_s, most_m) = (MAX_CLASSES as u64, MAX_COLUMNS as u64);
+        let s = match rng.below(8) {
+            0 => rng.pick(&[1, 2, most_s - 1, most_s]),
+            1..=3 => rng.between(1, 6),
+            _ => rng.between(1, most_s),
+        };
+        let m = match rng.below(4) {
+            0 => rng.pick(&[1, 2, most_m]),
+            _ => rng.between(1, most_m),
+        };
+        Shape::of(s as u8, m as u8)
+    }
+
+    /// Fails where the shape cannot be made.
+    fn check(&self) {
+        check_version(self.version);
+        let (s, m) = (usize::from(self.classes), usize::from(self.columns));
+        assert!((1..=MAX_CLASSES).contains(&s), "no scheme has {s} classes");
+        assert!((1..=MAX_COLUMNS).contains(&m), "no scheme has {m} columns");
+        let (lists, z) = (self.bands, self.sizes);
+        assert_eq!(lists, BandLists::Shared, "no scheme has bands by class");
+        assert_eq!(z, 1, "no scheme has {z} size steps");
+    }
+}
+
+/// Fails where no record is written in a version.
+fn check_version(version: u8) {
+    let known = VERSION_1.version;
+    assert_eq!(version, known, "no record is written in this version");
+}
+
+/// An accepted scheme of any shape.
+pub fn scheme(rng: &mut Rng) -> Scheme {
+    let shape = Shape::any(rng);
+    scheme_of(rng, shape)
+}
+
+/// An accepted scheme of a shape, now and then with junk beyond its classes
+/// and columns.
+pub fn scheme_of(rng: &mut Rng, shape: Shape) -> Scheme {
+    shape.check();
+    let (s, m) = (shape.classes, shape.columns);
     let mut scheme = Scheme {
         classes: s,
         columns: m,
@@ -29,9 +104,9 @@ pub fn scheme_of(rng: &mut Rng, s: u8, m: u8) -> Scheme {
             _ => rng.between(1, u64::from(s)) as u8,
         },
         horizon: match rng.below(3) {
-            0 => rng.pick(&[0, 1, 2, 100]),
+            0 => rng.pick(&[0, 1, 2, MAX_HORIZON]),
             1 => rng.between(0, 12) as u8,
-            _ => rng.between(0, 100) as u8,
+            _ => rng.between(0, u64::from(MAX_HORIZON)) as u8,
         },
         ..Scheme::EMPTY
     };
@@ -104,10 +179,23 @@ fn split(rng: &mut Rng, total: u64, count: usize) -> Vec<u64> {
 
 fn set_bands(rng: &mut Rng, scheme: &mut Scheme) {
     let m = usize::from(scheme.columns);
+    put_bands(scheme, &band_list(rng, m));
+}
+
+/// Puts a list of bands into a scheme, from column 0.
+fn put_bands(scheme: &mut Scheme, bands: &[(u32, u32)]) {
+    for (k, &(lower, upper)) in bands.iter().enumerate() {
+        scheme.lowers[k] = lower;
+        scheme.uppers[k] = upper;
+    }
+}
+
+/// A list of m bands that a scheme may have.
+fn band_list(rng: &mut Rng, m: usize) -> Vec<(u32, u32)> {
     let centre = split(rng, ONE, m);
     let kind = rng.below(8);
     let width = rng.pick(&[1, 2, 1000, 50_000_000, ONE]);
-    for (k, &part) in centre.iter().enumerate() {
+    let band = |part: u64| {
         let less = part - rng.between(0, width.min(part));
         let more = part + rng.between(0, width.min(ONE - part));
         let (lower, upper) = match kind {
@@ -123,9 +211,9 @@ fn set_bands(rng: &mut Rng, scheme: &mut Scheme) {
             4 => (rng.pick(&[0, part]), rng.pick(&[part, ONE])),
             _ => (less, more),
         };
-        scheme.lowers[k] = lower as u32;
-        scheme.uppers[k] = upper as u32;
-    }
+        (lower as u32, upper as u32)
+    };
+    centre.into_iter().map(band).collect()
 }
 
 /// Numbers from the lower to the upper ends that sum to ONE.
@@ -147,26 +235,35 @@ fn between_ends(rng: &mut Rng, lowers: &[u32], uppers: &[u32]) -> Vec<u64> {
     parts
 }
 
+/// A list of bands, each inside the matching band, that a scheme may have.
+fn trimmed_list(rng: &mut Rng, lowers: &[u32], uppers: &[u32]) -> Vec<(u32, u32)> {
+    let parts = between_ends(rng, lowers, uppers);
+    let ends = lowers.iter().zip(uppers);
+    let band = |(part, (&lower, &upper)): (u64, (&u32, &u32))| {
+        let (lower, upper) = (u64::from(lower), u64::from(upper));
+        // Each end stays, goes to the part, or goes part of the way.
+        let raised = match rng.below(4) {
+            0 | 1 => lower,
+            2 => part,
+            _ => rng.between(lower, part),
+        };
+        let lowered = match rng.below(4) {
+            0 | 1 => upper,
+            2 => part,
+            _ => rng.between(part, upper),
+        };
+        (raised as u32, lowered as u32)
+    };
+    parts.into_iter().zip(ends).map(band).collect()
+}
+
 /// An accepted scheme that is equal but for its bands, each of them inside the
 /// matching band; other junk beyond s and m now and then.
 pub fn trimmed(rng: &mut Rng, scheme: &Scheme) -> Scheme {
     let m = usize::from(scheme.columns);
-    let parts = between_ends(rng, &scheme.lowers[..m], &scheme.uppers[..m]);
     let mut narrow = cleared(scheme);
-    for (k, &part) in parts.iter().enumerate() {
-        let (lower, upper) = (u64::from(scheme.lowers[k]), u64::from(scheme.uppers[k]));
-        // Each end stays, goes to the part, or goes part of the way.
-        narrow.lowers[k] = match rng.below(4) {
-            0 | 1 => lower,
-            2 => part,
-            _ => rng.between(lower, part),
-        } as u32;
-        narrow.uppers[k] = match rng.below(4) {
-            0 | 1 => upper,
-            2 => part,
-            _ => rng.between(part, upper),
-        } as u32;
-    }
+    let bands = trimmed_list(rng, &scheme.lowers[..m], &scheme.uppers[..m]);
+    put_bands(&mut narrow, &bands);
     if rng.once_in(3) {
         narrow.lowers[m..].fill_with(|| rng.draw() as u32);
         narrow.uppers[m..].fill_with(|| rng.draw() as u32);
@@ -204,8 +301,14 @@ pub fn cleared(scheme: &Scheme) -> Scheme {
     clear
 }
 
-/// The record of an accepted scheme.
+/// The record of an accepted scheme in the usual version.
 pub fn record_of(scheme: &Scheme) -> Vec<u8> {
+    record_in(scheme, VERSION_1.version)
+}
+
+/// The record of an accepted scheme in a version.
+pub fn record_in(scheme: &Scheme, version: u8) -> Vec<u8> {
+    check_version(version);
     let mut bytes = vec![0; MAX_RECORD];
     let length = plain::write(scheme, &mut bytes).expect("an accepted scheme");
     bytes.truncate(length);
@@ -214,7 +317,8 @@ pub fn record_of(scheme: &Scheme) -> Vec<u8> {
 
 /// The record of some accepted scheme.
 pub fn record(rng: &mut Rng) -> Vec<u8> {
-    record_of(&scheme(rng))
+    let shape = Shape::any(rng);
+    record_in(&scheme_of(rng, shape), shape.version)
 }
 
 /// How many kinds of damage `damage` knows.
@@ -232,128 +336,184 @@ pub fn damaged(rng: &mut Rng) -> Vec<u8> {
     bytes
 }
 
-/// Damages a record. Fields are sought where its own s and m put them, and
-/// nothing happens where that is past its end.
+/// Damages a record. Fields are sought where its own version, s and m put them,
+/// those of an unknown version as in version 1; nothing happens where that is
+/// past its end.
 pub fn damage(rng: &mut Rng, bytes: &mut Vec<u8>, kind: u64) {
-    if bytes.len() < 7 {
+    let layout = layout_of(bytes).unwrap_or(VERSION_1);
+    if bytes.len() < layout.header {
         bytes.push(rng.draw() as u8);
         return;
     }
-    let (s, m) = (usize::from(bytes[3]), usize::from(bytes[4]));
-    let bands = 7 + s * m;
-    let premiums = bands + 8 * m;
-    let column = rng.below(m.max(1) as u64) as usize;
-    let band = bands + 8 * column;
+    let fields = Fields {
+        layout,
+        s: usize::from(bytes[places::CLASSES]),
+        m: usize::from(bytes[places::COLUMNS]),
+    };
+    let column = rng.below(fields.m.max(1) as u64) as usize;
     match kind {
-        // Too short, with the length field as it was or set right.
-        0 | 1 => {
-            let length = match rng.below(3) {
-                0 => bytes.len() - 1,
-                1 => rng.below(8) as usize,
-                _ => rng.below(bytes.len() as u64) as usize,
-            };
-            bytes.truncate(length);
-            if kind == 1 {
-                set_length(bytes);
-            }
-        }
-        // Too long, likewise.
-        2 | 3 => {
-            for _ in 0..rng.between(1, 9) {
-                bytes.push(rng.draw() as u8);
-            }
-            if kind == 3 {
-                set_length(bytes);
-            }
-        }
+        // Too short or too long, with the length field as it was or set right.
+        0 | 1 => shorten(rng, bytes, layout.header),
+        2 | 3 => lengthen(rng, bytes),
         // Any byte.
         4 => {
             let at = rng.below(bytes.len() as u64) as usize;
             bytes[at] = rng.draw() as u8;
         }
+        5..=11 => damage_front(rng, bytes, kind),
+        12 => fields.damage_rule(rng, bytes),
+        13 => fields.damage_band(rng, bytes, column),
+        14 => fields.damage_lowers(rng, bytes, column),
+        15 => fields.damage_uppers(rng, bytes, column),
+        16 => fields.damage_premium(rng, bytes),
+        _ => panic!("there is no damage of kind {kind}"),
+    }
+    if matches!(kind, 1 | 3) {
+        set_length(bytes);
+    }
+}
+
+/// Cuts a record, often by one byte or to about the length of its header.
+fn shorten(rng: &mut Rng, bytes: &mut Vec<u8>, header: usize) {
+    let length = match rng.below(3) {
+        0 => bytes.len() - 1,
+        1 => rng.below(header as u64 + 1) as usize,
+        _ => rng.below(bytes.len() as u64) as usize,
+    };
+    bytes.truncate(length);
+}
+
+/// Puts a few bytes after a record.
+fn lengthen(rng: &mut Rng, bytes: &mut Vec<u8>) {
+    for _ in 0..rng.between(1, 9) {
+        bytes.push(rng.draw() as u8);
+    }
+}
+
+/// Sets the length field right, where there is room for one.
+pub fn set_length(bytes: &mut [u8]) {
+    put(bytes, places::LENGTH, LENGTH_WIDTH, bytes.len() as u32);
+}
+
+/// Damages a number at the front of a record.
+fn damage_front(rng: &mut Rng, bytes: &mut [u8], kind: u64) {
+    let (most_s, most_m) = (MAX_CLASSES as u8, MAX_COLUMNS as u8);
+    let s = bytes[places::CLASSES];
+    let (place, value) = match kind {
         // The length field.
-        5 => bytes[2] = bytes[2].wrapping_add(rng.pick(&[1, 255])),
-        6 => bytes[1] = rng.draw() as u8,
-        // The version.
-        7 => bytes[0] = rng.pick(&[0, 2, 255]),
+        5 => {
+            let last = places::LENGTH + LENGTH_WIDTH - 1;
+            (last, bytes[last].wrapping_add(rng.pick(&[1, 255])))
+        }
+        6 => (places::LENGTH, rng.draw() as u8),
+        // A version that there is not.
+        7 => (places::VERSION, rng.pick(&[0, NEXT_VERSION, 255])),
         // s and m, past their limits or only not those of this record.
-        8 => bytes[3] = rng.pick(&[0, 1, 32, 33, 255]),
-        9 => bytes[4] = rng.pick(&[0, 1, 8, 9, 255]),
+        8 => (places::CLASSES, rng.pick(&[0, 1, most_s, most_s + 1, 255])),
+        9 => (places::COLUMNS, rng.pick(&[0, 1, most_m, most_m + 1, 255])),
         // The start and the horizon.
-        10 => bytes[5] = rng.pick(&[0, bytes[3], bytes[3].wrapping_add(1), 255]),
-        11 => bytes[6] = rng.pick(&[0, 100, 101, 255]),
-        // A rule.
-        12 => {
-            let at = 7 + rng.below((s * m).max(1) as u64) as usize;
-            let value = rng.pick(&[0, bytes[3], bytes[3].wrapping_add(1), 255]);
-            if let Some(rule) = bytes.get_mut(at) {
-                *rule = value;
+        10 => (places::START, rng.pick(&[0, s, s.wrapping_add(1), 255])),
+        _ => (
+            places::HORIZON,
+            rng.pick(&[0, MAX_HORIZON, MAX_HORIZON + 1, 255]),
+        ),
+    };
+    bytes[place] = value;
+}
+
+/// The first version that there is not.
+const NEXT_VERSION: u8 = LAYOUTS[LAYOUTS.len() - 1].version + 1;
+
+/// Where the fields of a record are: its layout, s and m, whatever these are.
+struct Fields {
+    layout: Layout,
+    s: usize,
+    m: usize,
+}
+
+impl Fields {
+    fn lower(&self, k: usize) -> usize {
+        self.layout.band(self.s, self.m, k)
+    }
+
+    fn upper(&self, k: usize) -> usize {
+        self.lower(k) + END_WIDTH
+    }
+
+    /// The sum of the ends at these places, but for that of one column.
+    fn others(&self, bytes: &[u8], place: impl Fn(usize) -> usize, column: usize) -> u64 {
+        (0..self.m)
+            .filter(|&k| k != column)
+            .map(|k| u64::from(end(bytes, place(k))))
+            .sum()
+    }
+
+    fn damage_rule(&self, rng: &mut Rng, bytes: &mut [u8]) {
+        let count = (self.s * self.m).max(1);
+        let at = self.layout.rules() + rng.below(count as u64) as usize;
+        let s = self.s as u8;
+        let value = rng.pick(&[0, s, s.wrapping_add(1), 255]);
+        if let Some(rule) = bytes.get_mut(at) {
+            *rule = value;
+        }
+    }
+
+    /// The ends of a band, out of order or past ONE.
+    fn damage_band(&self, rng: &mut Rng, bytes: &mut [u8], column: usize) {
+        let (lower, upper) = (self.lower(column), self.upper(column));
+        match rng.below(3) {
+            0 => put_end(bytes, lower, end(bytes, upper).wrapping_add(1)),
+            1 => {
+                let value = rng.pick(&[ONE as u32, ONE as u32 + 1, u32::MAX]);
+                put_end(bytes, upper, value);
             }
+            _ => put_end(bytes, upper, end(bytes, lower).wrapping_sub(1)),
         }
-        // A band's ends.
-        13 => {
-            let (lower, upper) = (get(bytes, band), get(bytes, band + 4));
-            match rng.below(3) {
-                0 => put(bytes, band, upper.wrapping_add(1)),
-                1 => put(
-                    bytes,
-                    band + 4,
-                    rng.pick(&[ONE as u32, ONE as u32 + 1, u32::MAX]),
-                ),
-                _ => put(bytes, band + 4, lower.wrapping_sub(1)),
-            }
-        }
-        // The lowers to ONE or ONE and 1, where they were near.
-        14 => {
-            let rest: u64 = (0..m)
-                .filter(|&k| k != column)
-                .map(|k| u64::from(get(bytes, bands + 8 * k)))
-                .sum();
-            let lower = (ONE + rng.below(2)).saturating_sub(rest) as u32;
-            put(bytes, band, lower);
-            let upper = get(bytes, band + 4).max(lower);
-            put(bytes, band + 4, upper);
-        }
-        // The uppers to ONE or ONE less 1, likewise.
-        15 => {
-            let rest: u64 = (0..m)
-                .filter(|&k| k != column)
-                .map(|k| u64::from(get(bytes, bands + 8 * k + 4)))
-                .sum();
-            let upper = (ONE - rng.below(2)).saturating_sub(rest) as u32;
-            put(bytes, band + 4, upper);
-            let lower = get(bytes, band).min(upper);
-            put(bytes, band, lower);
-        }
-        // A premium.
-        _ => {
-            let at = premiums + 4 * rng.below(s.max(1) as u64) as usize;
-            put(
-                bytes,
-                at,
-                rng.pick(&[0, MAX_PREMIUM, MAX_PREMIUM + 1, u32::MAX]),
-            );
-        }
+    }
+
+    /// The lowers to ONE or ONE and 1, where they were near.
+    fn damage_lowers(&self, rng: &mut Rng, bytes: &mut [u8], column: usize) {
+        let rest = self.others(bytes, |k| self.lower(k), column);
+        let lower = (ONE + rng.below(2)).saturating_sub(rest) as u32;
+        put_end(bytes, self.lower(column), lower);
+        let upper = end(bytes, self.upper(column)).max(lower);
+        put_end(bytes, self.upper(column), upper);
+    }
+
+    /// The uppers to ONE or ONE less 1, likewise.
+    fn damage_uppers(&self, rng: &mut Rng, bytes: &mut [u8], column: usize) {
+        let rest = self.others(bytes, |k| self.upper(k), column);
+        let upper = (ONE - rng.below(2)).saturating_sub(rest) as u32;
+        put_end(bytes, self.upper(column), upper);
+        let lower = end(bytes, self.lower(column)).min(upper);
+        put_end(bytes, self.lower(column), lower);
+    }
+
+    fn damage_premium(&self, rng: &mut Rng, bytes: &mut [u8]) {
+        let i = rng.below(self.s.max(1) as u64) as usize;
+        let value = rng.pick(&[0, MAX_PREMIUM, MAX_PREMIUM + 1, u32::MAX]);
+        let at = self.layout.premium(self.s, self.m, i);
+        put(bytes, at, self.layout.premium_width, value);
     }
 }
 
-fn set_length(bytes: &mut [u8]) {
-    if bytes.len() >= 3 {
-        let length = bytes.len() as u16;
-        bytes[1..3].copy_from_slice(&length.to_be_bytes());
+/// An end of a band; 0 past the end of the bytes.
+fn end(bytes: &[u8], at: usize) -> u32 {
+    if at + END_WIDTH <= bytes.len() {
+        number_at(bytes, at, END_WIDTH)
+    } else {
+        0
     }
 }
 
-fn get(bytes: &[u8], at: usize) -> u32 {
-    match bytes.get(at..at + 4) {
-        Some(four) => u32::from_be_bytes(four.try_into().expect("four bytes")),
-        None => 0,
-    }
+fn put_end(bytes: &mut [u8], at: usize, number: u32) {
+    put(bytes, at, END_WIDTH, number);
 }
 
-fn put(bytes: &mut [u8], at: usize, number: u32) {
-    if let Some(four) = bytes.get_mut(at..at + 4) {
-        four.copy_from_slice(&number.to_be_bytes());
+/// Puts a number, where the bytes have room for it.
+fn put(bytes: &mut [u8], at: usize, width: usize, number: u32) {
+    if at + width <= bytes.len() {
+        put_number(bytes, at, width, number);
     }
 }
 
@@ -361,18 +521,18 @@ fn put(bytes: &mut [u8], at: usize, number: u32) {
 pub fn damaged_scheme(rng: &mut Rng) -> Scheme {
     let mut scheme = scheme(rng);
     for _ in 0..rng.between(1, 2) {
-        let s = usize::from(scheme.classes).clamp(1, 32);
-        let m = usize::from(scheme.columns).clamp(1, 8);
+        let s = usize::from(scheme.classes).clamp(1, MAX_CLASSES);
+        let m = usize::from(scheme.columns).clamp(1, MAX_COLUMNS);
         let class = rng.below(s as u64) as usize;
         let k = rng.below(m as u64) as usize;
         match rng.below(9) {
-            0 => scheme.classes = rng.pick(&[0, 33, 255]),
-            1 => scheme.columns = rng.pick(&[0, 9, 255]),
+            0 => scheme.classes = rng.pick(&[0, MAX_CLASSES as u8 + 1, 255]),
+            1 => scheme.columns = rng.pick(&[0, MAX_COLUMNS as u8 + 1, 255]),
             2 => {
                 scheme.start =
                     rng.pick(&[0, 1, scheme.classes, scheme.classes.wrapping_add(1), 255])
             }
-            3 => scheme.horizon = rng.pick(&[100, 101, 255]),
+            3 => scheme.horizon = rng.pick(&[MAX_HORIZON, MAX_HORIZON + 1, 255]),
             4 => {
                 scheme.rules[class * MAX_COLUMNS + k] =
                     rng.pick(&[0, 1, scheme.classes, scheme.classes.wrapping_add(1), 255]);
@@ -397,7 +557,7 @@ pub fn damaged_scheme(rng: &mut Rng) -> Scheme {
 
 /// A payoff for s classes, within the limit; junk beyond s.
 pub fn payoff(rng: &mut Rng, s: u8) -> Figures {
-    let mut payoff = [0; 32];
+    let mut payoff = [0; MAX_CLASSES];
     payoff.fill_with(|| rng.draw());
     let kind = rng.below(7);
     let equal = rng.between(0, MAX_PAYOFF);

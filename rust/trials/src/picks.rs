@@ -2,7 +2,7 @@
 
 use crate::exact::{Fraction, Nat};
 use crate::rng::Rng;
-use plain::{high_step, low_step, Figures, Scheme, ONE};
+use plain::{high_step, low_step, Figures, Scheme, MAX_CLASSES, ONE};
 
 /// A stochastic row: whole numbers, one for each class, that sum to `over`.
 #[derive(Clone, Debug)]
@@ -39,22 +39,27 @@ pub fn random_row(rng: &mut Rng, scheme: &Scheme, class: u64, over: u64) -> Opti
         .iter()
         .map(|&u| (scaled(u) / u128::from(ONE)) as u64)
         .collect();
-    if least.iter().zip(&most).any(|(l, u)| l > u) {
+    let parts = parts_between(rng, &least, &most, over)?;
+    let row = Row { parts, over };
+    assert!(inside(&lower, &upper, &row));
+    Some(row)
+}
+
+/// Random parts from `least` to `most` that sum to `over`, where there are any.
+fn parts_between(rng: &mut Rng, least: &[u64], most: &[u64], over: u64) -> Option<Vec<u64>> {
+    if least.iter().zip(most).any(|(l, u)| l > u) {
         return None;
     }
     let used: u128 = least.iter().map(|&l| u128::from(l)).sum();
     let mut rest = u128::from(over).checked_sub(used)?;
-    let mut room: u128 = least
-        .iter()
-        .zip(&most)
-        .map(|(l, u)| u128::from(u - l))
-        .sum();
+    let ends = least.iter().zip(most);
+    let mut room: u128 = ends.map(|(l, u)| u128::from(u - l)).sum();
     if rest > room {
         return None;
     }
 
-    let mut parts = least.clone();
-    let mut places: Vec<usize> = (0..s).collect();
+    let mut parts = least.to_vec();
+    let mut places: Vec<usize> = (0..parts.len()).collect();
     rng.shuffle(&mut places);
     for j in places {
         let here = u128::from(most[j] - least[j]);
@@ -70,9 +75,7 @@ pub fn random_row(rng: &mut Rng, scheme: &Scheme, class: u64, over: u64) -> Opti
         parts[j] += given;
         rest -= u128::from(given);
     }
-    let row = Row { parts, over };
-    assert!(inside(&lower, &upper, &row));
-    Some(row)
+    Some(parts)
 }
 
 /// A row for a class: over a small or large number, extreme, or a mixture of
@@ -165,7 +168,7 @@ pub fn picks_by(
     let mut figures = *payoff;
     let mut picks = Vec::new();
     for _ in 0..years {
-        let mut next = [0; 32];
+        let mut next = [0; MAX_CLASSES];
         let mut matrix = Vec::new();
         for i in 0..s {
             let (figure, row) = step(&figures, i as u64 + 1);
@@ -180,6 +183,16 @@ pub fn picks_by(
     }
     picks.reverse();
     picks
+}
+
+/// The premiums of a scheme as figures, 0 beyond s.
+pub fn premiums(scheme: &Scheme) -> Figures {
+    let mut figures = [0; MAX_CLASSES];
+    let used = &scheme.premiums[..usize::from(scheme.classes)];
+    for (figure, &premium) in figures.iter_mut().zip(used) {
+        *figure = u64::from(premium);
+    }
+    figures
 }
 
 /// The exact shares of all classes: the start class's row in the product of

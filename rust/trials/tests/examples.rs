@@ -322,6 +322,6 @@ fn limits() {
     let rules = [[32; 8]; 32];
     let rules: Vec<&[u8]> = rules.iter().map(|row| &row[..]).collect();
     let most = scheme(32, 100, &rules, &[(0, ONE as u32); 8], &[10_000_000; 32]);
-    assert_eq!(record_of(&most).len(), MAX_RECORD);
+    assert_eq!((record_of(&most).len(), MAX_RECORD), (455, 455));
     assert_eq!(total(&most, 100), Ok((ONE, ONE)));
 }

@@ -4,9 +4,10 @@
 use plain::{mean, share, share_sheet, total, Scheme, MAX_HORIZON, ONE};
 use std::cmp::Ordering;
 use trials::exact::{Fraction, Nat};
-use trials::made;
+use trials::made::{self, Shape};
 use trials::picks::{
-    any_picks, any_row, exact_mean, exact_shares, exact_total, extreme_picks, inside, Matrix,
+    any_picks, any_row, exact_mean, exact_shares, exact_total, extreme_picks, inside, premiums,
+    Matrix,
 };
 use trials::rng::Rng;
 
@@ -75,9 +76,8 @@ fn check_inside(scheme: &Scheme, year: u64, picks: &[Matrix]) {
 }
 
 fn small_scheme(rng: &mut Rng) -> Scheme {
-    let s = rng.between(1, 4) as u8;
-    let m = rng.between(1, 8) as u8;
-    let mut scheme = made::scheme_of(rng, s, m);
+    let shape = Shape::up_to(rng, 4, 8);
+    let mut scheme = made::scheme_of(rng, shape);
     scheme.horizon = 4;
     scheme
 }
@@ -112,11 +112,7 @@ fn no_picks_leave() {
 /// Checks that the extreme picks of each bound come within `year` of it, and
 /// leave no bound where `all` is set.
 fn check_close(scheme: &Scheme, year: u64, classes: &[usize], all: bool) {
-    let s = usize::from(scheme.classes);
-    let mut premiums = [0; 32];
-    for (figure, &premium) in premiums.iter_mut().zip(&scheme.premiums[..s]) {
-        *figure = u64::from(premium);
-    }
+    let premiums = premiums(scheme);
     for high in [false, true] {
         // The picks of a low bound lie from it to `year` above, those of a
         // high bound from `year` below to it.

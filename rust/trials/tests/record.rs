@@ -4,44 +4,58 @@ use plain::{
     bands, cause, high_step, low_step, mean, open, read, row, rule_row, share, share_sheet, sheet,
     total, write, Scheme, ONE,
 };
-use trials::made;
+use trials::made::{self, Shape};
 use trials::rng::Rng;
+
+/// The numbers of the record written out once more, as a second opinion beside
+/// those of the plain version.
+const VERSION: usize = 1;
+const HEADER: usize = 7;
+const END: usize = 4;
+const BAND: usize = 8;
+const PREMIUM: usize = 4;
+
+/// Where the bands and the premiums start, and where the record ends.
+fn places(s: usize, m: usize) -> [usize; 3] {
+    let bands = HEADER + s * m;
+    let premiums = bands + BAND * m;
+    [bands, premiums, premiums + PREMIUM * s]
+}
 
 /// The causes of the table that bytes can have, each on its own, in order.
 fn first_cause(bytes: &[u8]) -> u8 {
     let at = |place: usize| usize::from(bytes[place]);
-    let four = |place: usize| (0..4).fold(0, |sum, i| sum * 256 + at(place + i) as u64);
-    if bytes.is_empty() || at(0) != 1 {
+    let number = |place: usize, width: usize| {
+        (place..place + width).fold(0, |sum, place| sum * 256 + at(place) as u64)
+    };
+    if bytes.is_empty() || at(0) != VERSION {
         return 1;
     }
-    if bytes.len() < 7 || at(1) * 256 + at(2) != bytes.len() {
+    if bytes.len() < HEADER || number(1, 2) != bytes.len() as u64 {
         return 2;
     }
     let (s, m) = (at(3), at(4));
     if !(1..=32).contains(&s) || !(1..=8).contains(&m) {
         return 3;
     }
-    if bytes.len() != 7 + s * m + 8 * m + 4 * s {
+    let [bands, premiums, length] = places(s, m);
+    if bytes.len() != length {
         return 4;
     }
-    let lower = |k: usize| four(7 + s * m + 8 * k);
-    let upper = |k: usize| four(7 + s * m + 8 * k + 4);
+    let rule_fails = |place: usize| at(place) == 0 || at(place) > s;
+    let lower = |k: usize| number(bands + BAND * k, END);
+    let upper = |k: usize| number(bands + BAND * k + END, END);
+    let premium = |i: usize| number(premiums + PREMIUM * i, PREMIUM);
     let causes = [
         (5, at(5) == 0 || at(5) > s),
         (6, at(6) > 100),
-        (
-            7,
-            (7..7 + s * m).any(|place| at(place) == 0 || at(place) > s),
-        ),
+        (7, (HEADER..bands).any(rule_fails)),
         (8, (0..m).any(|k| lower(k) > upper(k) || upper(k) > ONE)),
         (
             9,
             (0..m).map(lower).sum::<u64>() > ONE || (0..m).map(upper).sum::<u64>() < ONE,
         ),
-        (
-            10,
-            (0..s).any(|i| four(7 + s * m + 8 * m + 4 * i) > 10_000_000),
-        ),
+        (10, (0..s).any(|i| premium(i) > 10_000_000)),
     ];
     causes
         .iter()
@@ -55,13 +69,10 @@ fn read_after_write() {
     for s in 1..=32 {
         for m in 1..=8 {
             for _ in 0..4 {
-                let scheme = made::scheme_of(&mut rng, s, m);
+                let scheme = made::scheme_of(&mut rng, Shape::of(s, m));
                 let mut out = [0x5A; 500];
                 let length = write(&scheme, &mut out).unwrap();
-                assert_eq!(
-                    length,
-                    7 + usize::from(s) * usize::from(m) + 8 * usize::from(m) + 4 * usize::from(s)
-                );
+                assert_eq!(length, places(s.into(), m.into())[2]);
                 assert!(out[length..].iter().all(|&byte| byte == 0x5A));
                 assert_eq!(read(&out[..length]), Ok(made::cleared(&scheme)));
 
@@ -138,7 +149,7 @@ fn check_parts(record: &[u8], scheme: &Scheme) {
     for class in 1..=s {
         let part = rule_row(record, class as u64);
         assert_eq!(part, &scheme.rules[(class - 1) * 8..(class - 1) * 8 + m]);
-        let place = 7 + (class - 1) * m;
+        let place = HEADER + (class - 1) * m;
         assert!(std::ptr::eq(part, &record[place..place + m]));
     }
     assert!(rule_row(record, 0).is_empty());
@@ -157,7 +168,7 @@ fn random_bytes() {
         let mut bytes = vec![0; length];
         bytes.fill_with(|| rng.draw() as u8);
         if length > 2 && !rng.once_in(4) {
-            bytes[0] = 1;
+            bytes[0] = VERSION as u8;
             bytes[1] = 0;
             bytes[2] = length as u8;
         }

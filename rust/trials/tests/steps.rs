@@ -4,8 +4,8 @@
 use plain::{
     high_step, low_step, mean, row, share, share_sheet, sheet, total, Figures, Scheme, ONE,
 };
-use trials::made;
-use trials::picks::{inside, Row};
+use trials::made::{self, Shape};
+use trials::picks::{inside, premiums, Row};
 use trials::rng::Rng;
 
 /// The interval row by its sums.
@@ -90,9 +90,9 @@ fn check_row(scheme: &Scheme, class: u64, handed: &Figures, payoff: &Figures, re
 fn steps_against_vertices() {
     let mut rng = Rng::new(12);
     for _ in 0..30_000 {
-        let s = rng.between(1, 6) as u8;
-        let m = rng.between(1, 8) as u8;
-        let scheme = made::scheme_of(&mut rng, s, m);
+        let shape = Shape::up_to(&mut rng, 6, 8);
+        let scheme = made::scheme_of(&mut rng, shape);
+        let s = shape.classes;
         let class = rng.between(1, u64::from(s));
         let payoff = made::payoff(&mut rng, s);
         let (lower, upper) = row(&scheme, class).unwrap();
@@ -154,14 +154,26 @@ fn a_year(step: Step, scheme: &Scheme, figures: &Figures) -> Figures {
     next
 }
 
+/// All low and high figures a year on; the last pair is the total's, to which
+/// a premium is added.
+fn all_a_year(scheme: &Scheme, pairs: &mut [(Figures, Figures)]) {
+    for (low, high) in pairs.iter_mut() {
+        *low = a_year(low_step, scheme, low);
+        *high = a_year(high_step, scheme, high);
+    }
+    let (low, high) = pairs.last_mut().expect("the total");
+    for figures in [low, high] {
+        for (figure, premium) in figures.iter_mut().zip(premiums(scheme)) {
+            *figure += premium;
+        }
+    }
+}
+
 /// The sheet of an accepted record from one-year steps.
 fn sheet_by_steps(scheme: &Scheme) -> String {
     let s = usize::from(scheme.classes);
     let start = usize::from(scheme.start) - 1;
-    let mut premiums = [0; 32];
-    for (figure, &premium) in premiums.iter_mut().zip(&scheme.premiums[..s]) {
-        *figure = u64::from(premium);
-    }
+    let premiums = premiums(scheme);
     let mut text = format!(
         "SCHEME {s} {} {} {}\n",
         scheme.columns, scheme.start, scheme.horizon
@@ -178,17 +190,7 @@ fn sheet_by_steps(scheme: &Scheme) -> String {
     pairs.push(([0; 32], [0; 32]));
     for year in 0..=u64::from(scheme.horizon) {
         if year > 0 {
-            for (low, high) in &mut pairs {
-                *low = a_year(low_step, scheme, low);
-                *high = a_year(high_step, scheme, high);
-            }
-            let (low, high) = &mut pairs[s + 1];
-            for (figure, premium) in low.iter_mut().zip(&premiums) {
-                *figure += premium;
-            }
-            for (figure, premium) in high.iter_mut().zip(&premiums) {
-                *figure += premium;
-            }
+            all_a_year(scheme, &mut pairs);
         }
         let at_start = |pair: usize| (pairs[pair].0[start], pairs[pair].1[start]);
         let (mut low, mut high) = (vec![0; s], vec![0; s]);

@@ -8,7 +8,7 @@
 
 use std::arch::asm;
 use std::ffi::c_void;
-use trials::made;
+use trials::made::{self, Shape};
 use trials::rng::Rng;
 
 /// The stack of a call.
@@ -58,7 +58,7 @@ fn used<F: FnMut()>(mut call: F) -> usize {
 
 /// The record of the largest scheme; several are tried.
 fn largest(seed: u64) -> Vec<u8> {
-    let mut scheme = made::scheme_of(&mut Rng::new(seed), 32, 8);
+    let mut scheme = made::scheme_of(&mut Rng::new(seed), Shape::of(32, 8));
     scheme.horizon = 100;
     made::record_of(&scheme)
 }
