@@ -6,7 +6,7 @@ use mathlib.Core.List.{List}
 use lib.ListN.{length}
 use Rattle.scheme.specs.declared.Scheme.{Scheme}
 use Rattle.scheme.specs.Cause.{causeOf, slicesCause}
-use Rattle.scheme.specs.Laws.Cause.{first-none, second-none}
+use Rattle.scheme.specs.Laws.FirstCause.{first-none, second-none}
 use Rattle.scheme.specs.Laws.Judged.{accepted-cause}
 use Rattle.bounds_spec.specs.Causes.{tableLengthsCause, tableSize}
 use Rattle.bounds_spec.specs.Table.{lowTable, highTable, tableCause}

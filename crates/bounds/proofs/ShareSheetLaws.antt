@@ -6,7 +6,7 @@ use mathlib.Core.List.{List}
 use lib.ListN.{length}
 use Rattle.scheme.specs.declared.Scheme.{Scheme}
 use Rattle.scheme.specs.Cause.{slicesCause}
-use Rattle.scheme.specs.Laws.Cause.{first-none, second-none}
+use Rattle.scheme.specs.Laws.FirstCause.{first-none, second-none}
 use Rattle.bounds_spec.specs.Causes.{sheetLengthsCause, moneyCause}
 use Rattle.bounds_spec.specs.Answers.{sheetCause, lowShares, highShares}
 use Rattle.bounds_spec.specs.Promises.{SheetPromise}

@@ -7,7 +7,8 @@ use lib.ListN.{length}
 use Rattle.scheme.specs.declared.Scheme.{Scheme}
 use Rattle.scheme.specs.Cause.{slicesCause}
 use Rattle.scheme.specs.Accepted.{Accepted}
-use Rattle.scheme.specs.Laws.Cause.{declined, slices-fit}
+use Rattle.scheme.specs.Laws.FirstCause.{declined}
+use Rattle.scheme.specs.Laws.Cause.{slices-fit}
 use Rattle.bounds_spec.specs.Answers.{sheetSlice}
 use Rattle.bounds.specs.Sheets.{WritePre}
 

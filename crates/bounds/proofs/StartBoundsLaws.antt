@@ -12,9 +12,11 @@ use borrow.Author.Tests.{ltb-false}
 use Rattle.setchain.specs.Years.{shareFigure}
 use Rattle.scheme.specs.declared.Scheme.{Scheme}
 use Rattle.scheme.specs.Accepted.{Accepted}
-use Rattle.scheme.specs.Cause.{outside, causeOf, orElse, classCause, yearCause}
+use Rattle.scheme.specs.FirstCause.{orElse}
+use Rattle.scheme.specs.Cause.{outside, causeOf, classCause, yearCause}
 use Rattle.scheme.specs.Rows.{chainOf}
-use Rattle.scheme.specs.Laws.Cause.{outside-false, first-none, second-none, test-none, by-cause}
+use Rattle.scheme.specs.Laws.FirstCause.{first-none, second-none, test-none, by-cause}
+use Rattle.scheme.specs.Laws.Cause.{outside-false}
 use Rattle.scheme.specs.Laws.Judged.{accepted-cause}
 use Rattle.bounds_spec.specs.declared.Bounds.{Bounds}
 use Rattle.bounds_spec.specs.declared.Bounds.the-variants.{Answered, Refused}

@@ -2,7 +2,7 @@
 use mathlib.Core.Path.{_≡_, refl}
 use Rattle.setchain.specs.Sums.{sumTo}
 use Rattle.scheme.specs.Tables.{anyBelow}
-use Rattle.scheme.specs.Cause.{sizeOut, startOut, horizonOut, ruleOut, bandOut, sumOut, premiumOut, causeWhere}
+use Rattle.scheme.specs.Cause.{sizeOut, startOut, horizonOut, ruleOut, bandOut, sumOut, premiumOut, causeOf}
 use Rattle.scheme.specs.Examples.{schemeA, single}
 use Rattle.bounds_spec.specs.declared.Bounds.the-variants.{Answered, Refused}
 use Rattle.bounds_spec.specs.Answers.{numberOf, lowOf, highOf}
@@ -30,11 +30,11 @@ pub record SliceCauses : Type 0 where
   pub tableNone : tableLengthsCause schemeA 10 10 ≡ 0
 
 pub share-causes : ShareCauses
-unfolding causeWhere sizeOut startOut horizonOut ruleOut bandOut sumOut premiumOut anyBelow sumTo
+unfolding causeOf sizeOut startOut horizonOut ruleOut bandOut sumOut premiumOut anyBelow sumTo
 share-causes = record { class = refl; noClass = refl; year = refl; both = refl; none = refl; scheme = refl }
 
 pub slice-causes : SliceCauses
-unfolding causeWhere sizeOut startOut horizonOut ruleOut bandOut sumOut premiumOut anyBelow sumTo
+unfolding causeOf sizeOut startOut horizonOut ruleOut bandOut sumOut premiumOut anyBelow sumTo
 slice-causes =
     record { money = refl; moneyNone = refl; moneyScheme = refl; sheet = refl; sheetYear = refl; sheetNone = refl; size = refl; table = refl; tableNone = refl }
 

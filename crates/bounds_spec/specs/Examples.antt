@@ -15,10 +15,12 @@ use Rattle.setchain.specs.Laws.Step.{extreme-parts}
 use Rattle.scheme.specs.declared.Scheme.{Scheme}
 use Rattle.scheme.specs.Tables.{anyBelow, tab}
 use Rattle.scheme.specs.Accepted.{Accepted}
-use Rattle.scheme.specs.Cause.{outside, sizeOut, startOut, horizonOut, ruleOut, bandOut, sumOut, premiumOut, causeWhere, causeOf, orElse, classCause, yearCause}
+use Rattle.scheme.specs.FirstCause.{orElse}
+use Rattle.scheme.specs.Cause.{outside, sizeOut, startOut, horizonOut, ruleOut, bandOut, sumOut, premiumOut, causeOf, classCause, yearCause}
 use Rattle.scheme.specs.Rows.{chainOf}
 use Rattle.scheme.specs.Examples.{padded, schemeA, RowsA, rows-a}
-use Rattle.scheme.specs.Laws.Cause.{answered, second-cause, cond-false, inside-outside}
+use Rattle.scheme.specs.Laws.FirstCause.{answered, second-cause, cond-false}
+use Rattle.scheme.specs.Laws.Cause.{inside-outside}
 use Rattle.scheme.specs.Laws.Judged.{cause-accepted}
 use Rattle.scheme.specs.Laws.Sound.{accepted-sound}
 use Rattle.bounds_spec.specs.declared.Bounds.the-variants.{Answered, Refused}
@@ -112,7 +114,7 @@ pub record DocumentExamples : Type 0 where
   pub thirds : meanAnswer schemeThirds 1 ≡ Answered 10 11
 
 pub document-examples : DocumentExamples
-unfolding shareAnswer meanAnswer totalAnswer causeWhere sizeOut startOut horizonOut ruleOut bandOut sumOut premiumOut anyBelow yearsFigure stepFigure fillRow capacityBefore sumTo onlyIf
+unfolding shareAnswer meanAnswer totalAnswer causeOf sizeOut startOut horizonOut ruleOut bandOut sumOut premiumOut anyBelow yearsFigure stepFigure fillRow capacityBefore sumTo onlyIf
 document-examples =
     record {
       rows = rows-a;

@@ -7,11 +7,10 @@ use lib.ListN.{length}
 use Rattle.setchain.specs.Years.{shareFigure, meanFigure, totalFigure}
 use Rattle.scheme.specs.declared.Scheme.{Scheme}
 use Rattle.scheme.specs.Access.{premiumAt}
-use Rattle.scheme.specs.Cause.{premiumOut}
 use Rattle.scheme.specs.Rows.{chainOf}
 use Rattle.scheme.specs.Stored.{cleared}
 use Rattle.scheme.specs.Values.{SameValues}
-use Rattle.scheme.specs.Laws.Cause.{by-cause}
+use Rattle.scheme.specs.Laws.FirstCause.{by-cause}
 use Rattle.scheme.specs.Laws.Values.{SameCause, Alike, same, alike-values, alike-same, cleared-alike}
 use Rattle.bounds_spec.specs.declared.Bounds.the-variants.{Answered, Refused}
 use Rattle.bounds_spec.specs.Causes.{shareCause, moneyCause, sheetLengthsCause, tableLengthsCause}
@@ -47,15 +46,15 @@ module _ {s s′ : Scheme} (w : Alike s s′) where
   -- One figure of each answer, low or high.
   share-figure : (high : Bool) (class year : ℕ) → shareCause s class year ≡ 0
       → shareFigure high (chainOf s) (class - 1) year (startOf s) ≡ shareFigure high (chainOf s′) (class - 1) year (startOf s′)
-  share-figure high class year z = let none = of-share s class year z in alike.share-same (alike-values w (premiumOut s) none) none high year (class - 1)
+  share-figure high class year z = let none = of-share s class year z in alike.share-same (alike-values w none) none high year (class - 1)
 
   mean-figure : (high : Bool) (year : ℕ) → moneyCause s year ≡ 0
       → meanFigure high (chainOf s) (premiumAt s) year (startOf s) ≡ meanFigure high (chainOf s′) (premiumAt s′) year (startOf s′)
-  mean-figure high year z = let none = of-money s year z in alike.mean-same (alike-values w (premiumOut s) none) none high year
+  mean-figure high year z = let none = of-money s year z in alike.mean-same (alike-values w none) none high year
 
   total-figure : (high : Bool) (year : ℕ) → moneyCause s year ≡ 0
       → totalFigure high (chainOf s) (premiumAt s) year (startOf s) ≡ totalFigure high (chainOf s′) (premiumAt s′) year (startOf s′)
-  total-figure high year z = let none = of-money s year z in alike.total-same (alike-values w (premiumOut s) none) none high year
+  total-figure high year z = let none = of-money s year z in alike.total-same (alike-values w none) none high year
 
   -- One slice of a share sheet, and of all figures.
   sheet-slice : (side : Bool) (year : ℕ) (low high before : List ℕ)
@@ -63,14 +62,14 @@ module _ {s s′ : Scheme} (w : Alike s s′) where
   unfolding sheetCause
   sheet-slice side year low high before =
       by-cause (sheet-cause cause year (length low) (length high))
-      (λ z. let none = of-sheet s year (length low) (length high) z in alike.shares-same (alike-values w (premiumOut s) none) none side year) refl
+      (λ z. let none = of-sheet s year (length low) (length high) z in alike.shares-same (alike-values w none) none side year) refl
 
   table-slice : (side : Bool) (low high before : List ℕ)
       → sheetSlice (tableCause s low high) (figureTable side s) before ≡ sheetSlice (tableCause s′ low high) (figureTable side s′) before
   unfolding tableCause
   table-slice side low high before =
       by-cause (table-cause cause (length low) (length high))
-      (λ z. let none = of-table s (length low) (length high) z in alike.table-same (alike-values w (premiumOut s) none) none side) refl
+      (λ z. let none = of-table s (length low) (length high) z in alike.table-same (alike-values w none) none side) refl
 
   alike-answers : SameAnswers s s′
   unfolding shareAnswer meanAnswer totalAnswer sheetCause tableCause

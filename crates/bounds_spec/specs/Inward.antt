@@ -18,7 +18,7 @@ use Rattle.scheme.specs.Access.{premiumAt}
 use Rattle.scheme.specs.Accepted.{Accepted}
 use Rattle.scheme.specs.Rows.{chainOf}
 use Rattle.scheme.specs.Values.{SameButBands, Trimmed}
-use Rattle.scheme.specs.Laws.Cause.{test-related, cause-related}
+use Rattle.scheme.specs.Laws.FirstCause.{test-related, cause-related}
 use Rattle.scheme.specs.Laws.Sound.{accepted-sound}
 use Rattle.scheme.specs.Laws.Tab.{tab-related}
 use Rattle.scheme.specs.Laws.Values.{SameCause}

@@ -8,7 +8,7 @@ use Rattle.setchain.specs.Sums.{at, sumTo, onlyIf}
 use Rattle.setchain.specs.Step.{capacityBefore, fillRow, stepFigure}
 use Rattle.setchain.specs.Years.{yearsFigure}
 use Rattle.scheme.specs.Tables.{anyBelow, tab}
-use Rattle.scheme.specs.Cause.{sizeOut, startOut, horizonOut, ruleOut, bandOut, sumOut, premiumOut, causeWhere}
+use Rattle.scheme.specs.Cause.{sizeOut, startOut, horizonOut, ruleOut, bandOut, sumOut, premiumOut, causeOf}
 use Rattle.scheme.specs.Examples.{schemeA, rows-a}
 use Rattle.scheme.specs.TrimmedExamples.{narrowA, unchangedA, trimmed-a}
 use Rattle.scheme.specs.Laws.Judged.{accepted-cause}
@@ -33,7 +33,7 @@ pub record NarrowA : Type 0 where
   pub total : totalAnswer narrowA 2 ≡ Answered 25550 26000
 
 pub narrow-a : NarrowA
-unfolding shareAnswer meanAnswer totalAnswer causeWhere sizeOut startOut horizonOut ruleOut bandOut sumOut premiumOut anyBelow yearsFigure stepFigure fillRow capacityBefore sumTo onlyIf
+unfolding shareAnswer meanAnswer totalAnswer causeOf sizeOut startOut horizonOut ruleOut bandOut sumOut premiumOut anyBelow yearsFigure stepFigure fillRow capacityBefore sumTo onlyIf
 narrow-a = record { share1 = refl; share2 = refl; mean = refl; total = refl }
 
 -- With the second column's band trimmed, whose upper end no row reaches, no figure moves.

@@ -10,7 +10,7 @@ use native.Mathlib.Omega.{arith}
 use borrow.Author.Tests.{ltb-false}
 use Rattle.scheme.specs.declared.Scheme.{Scheme}
 use Rattle.scheme.specs.Cause.{causeOf}
-use Rattle.scheme.specs.Laws.Cause.{first-none, second-none, test-none, answered}
+use Rattle.scheme.specs.Laws.FirstCause.{first-none, second-none, test-none, answered, cause-first, cause-second}
 use Rattle.record_spec.specs.declared.ReadAnswer.{ReadAnswer}
 use Rattle.record_spec.specs.Layout.{schemeIn}
 use Rattle.record_spec.specs.Read.{readAnswer}
@@ -23,7 +23,7 @@ use Rattle.ready_spec.specs.declared.ReadyAnswer.{ReadyAnswer}
 use Rattle.ready_spec.specs.Answer.{readyAnswer}
 use Rattle.joguyvi_spec.specs.Buffers.{bufferCause}
 use Rattle.joguyvi_spec.specs.Laws.Buffers.{unfilled}
-use Rattle.joguyvi_spec.specs.Laws.Causes.{cause-first, cause-second, stopped-number, passed-number}
+use Rattle.joguyvi_spec.specs.Laws.Causes.{stopped-number, passed-number}
 use Rattle.joguyvi_spec.specs.Records.{recordNumber, lengthAlone, RecordPost, RewriteCall, ReadyCall}
 
 -- A record written again.

@@ -8,7 +8,7 @@ use lib.ListN.{length, drop}
 use Prim.Native.Nat.{ℕ}
 use Rattle.scheme.specs.declared.Scheme.{Scheme}
 use Rattle.scheme.specs.Cause.{causeOf}
-use Rattle.scheme.specs.Laws.Cause.{second-cause, declined}
+use Rattle.scheme.specs.Laws.FirstCause.{second-cause, declined}
 use Rattle.record_spec.specs.Write.{writeNumber, recordOf, recordLength, writeCause, writeAnswer, writeLeaves}
 use Rattle.record_write.specs.Laws.Write.{answer-number}
 use Rattle.joguyvi_spec.specs.Laws.Causes.{cause-only}

@@ -12,7 +12,7 @@ use Rattle.scheme.specs.declared.RowAnswer.{RowAnswer}
 use Rattle.scheme.specs.Cause.{outside}
 use Rattle.scheme.specs.Stored.{schemeOf}
 use Rattle.scheme.specs.RowAnswer.{rowAnswer}
-use Rattle.scheme.specs.Laws.Cause.{second-cause, declined, answered}
+use Rattle.scheme.specs.Laws.FirstCause.{second-cause, declined, answered, cause-first, cause-second}
 use Rattle.record_spec.specs.declared.ReadAnswer.{ReadAnswer}
 use Rattle.record_spec.specs.Layout.{layoutIn, schemeIn, rowPlace, classesIn, columnsIn}
 use Rattle.record_spec.specs.Read.{readCause, readAnswer}
@@ -21,7 +21,7 @@ use Rattle.record_spec.specs.Laws.Read.{read-in}
 use Rattle.record_parts.specs.Laws.RuleRow.{row-read, row-framed, row-within}
 use Rattle.joguyvi_spec.specs.Buffers.{bufferCause}
 use Rattle.joguyvi_spec.specs.Laws.Buffers.{unfilled}
-use Rattle.joguyvi_spec.specs.Laws.Causes.{cause-only, cause-first, cause-second, stopped-number, passed-number}
+use Rattle.joguyvi_spec.specs.Laws.Causes.{cause-only, stopped-number, passed-number}
 use Rattle.joguyvi_spec.specs.Rows.{rowOfRecord, partNumber, ruleRowNumber, RowPost, PartPost, BandsPost, RowCall, RuleRowCall, BandsCall}
 use Rattle.joguyvi_rows.proofs.RowBuffersLaws.{eleven, part-empty, part-some}
 

@@ -8,13 +8,12 @@ use native.Mathlib.Omega.{arith}
 use lib.Dec.{eqb}
 use lib.ListN.{length, take, drop}
 use lib.Seq.{sets, take-length, drop-length}
-use Rattle.scheme.specs.Laws.Cause.{second-cause, declined, answered}
+use Rattle.scheme.specs.Laws.FirstCause.{second-cause, declined, answered, cause-first}
 use Rattle.big_endian_spec.specs.Numbers.{partPut}
 use Rattle.big_endian_spec.specs.Laws.{part-held}
 use Rattle.record.specs.Laws.Lists.{sets-front}
 use Rattle.joguyvi_spec.specs.Buffers.{bufferCause}
 use Rattle.joguyvi_spec.specs.Laws.Buffers.{buffer-out, buffer-fits, thirteen, unfilled}
-use Rattle.joguyvi_spec.specs.Laws.Causes.{cause-first}
 use Rattle.joguyvi_spec.specs.Rows.{partNumber, PartPost}
 
 pub eleven : _≡_ {A = ℕ} 11 0 → ⊥

@@ -9,7 +9,7 @@ use Rattle.setchain.specs.Sums.{sumTo, onlyIf}
 use Rattle.setchain.specs.Step.{capacityBefore, fillRow, stepFigure}
 use Rattle.scheme.specs.declared.Scheme.{Scheme}
 use Rattle.scheme.specs.Tables.{tab, anyBelow}
-use Rattle.scheme.specs.Cause.{sizeOut, startOut, horizonOut, ruleOut, bandOut, sumOut, premiumOut, causeWhere}
+use Rattle.scheme.specs.Cause.{sizeOut, startOut, horizonOut, ruleOut, bandOut, sumOut, premiumOut, causeOf}
 use Rattle.scheme.specs.Stored.{upTo, schemeOf}
 use Rattle.scheme.specs.Examples.{padded}
 use Rattle.scheme.specs.RowAnswer.{rowAt}
@@ -59,7 +59,7 @@ uppers = padded 30 (900000000 ∷ 250000000 ∷ [])
 pub row-calls :
     RowCall exampleA 2 long long 0 lowers uppers × ¬ RowCall exampleA 2 long long 0 uppers uppers × ¬ RowCall exampleA 2 long long 0 lowers lowers
     × RowCall [] 2 long long 1 long long × ¬ RowCall [] 2 long long 1 lowers long × ¬ RowCall [] 2 long long 0 lowers uppers
-unfolding layoutIn rowAt onlyIf frameCause beAt schemeOf upTo tab causeWhere sizeOut startOut horizonOut ruleOut bandOut sumOut premiumOut anyBelow sumTo
+unfolding layoutIn rowAt onlyIf frameCause beAt schemeOf upTo tab causeOf sizeOut startOut horizonOut ruleOut bandOut sumOut premiumOut anyBelow sumTo
 row-calls = (
   record { answer = sym (after-a _); lowers = refl; uppers = refl },
   λ w. let e : _≡_ {A = ℕ} 900000000 800000000 = ap (λ l. getD l 0 0) (w .lowers) in omega arith,
@@ -73,7 +73,7 @@ row-calls = (
 pub rule-row-calls :
     RuleRowCall exampleA 2 three 0 (1 ∷ 2 ∷ 2 ∷ []) × ¬ RuleRowCall exampleA 2 three 0 (1 ∷ 1 ∷ 2 ∷ []) × RuleRowCall exampleA 3 two 11 two
     × ¬ RuleRowCall exampleA 3 two 13 two
-unfolding layoutIn frameCause beAt schemeOf upTo tab causeWhere sizeOut startOut horizonOut ruleOut bandOut sumOut premiumOut anyBelow sumTo
+unfolding layoutIn frameCause beAt schemeOf upTo tab causeOf sizeOut startOut horizonOut ruleOut bandOut sumOut premiumOut anyBelow sumTo
 rule-row-calls = (
   record { answer = refl; rules = sym (rows-a .0) },
   λ w. let e : _≡_ {A = ℕ} 1 2 = ap (λ l. getD l 1 0) (w .rules ∙ rows-a .0) in omega arith,
@@ -109,7 +109,7 @@ pub rewrite-calls :
     × ¬ RewriteCall [] two one 1 three one
     × ¬ RewriteCall [] two one 1 two (0 ∷ [])
     × ¬ RewriteCall [] two one 2 two one
-unfolding layoutIn writeAnswer writeLeaves bytesOf headerBytes joined beBytes frameCause beAt schemeOf upTo tab causeWhere sizeOut startOut horizonOut ruleOut bandOut sumOut premiumOut anyBelow sumTo
+unfolding layoutIn writeAnswer writeLeaves bytesOf headerBytes joined beBytes frameCause beAt schemeOf upTo tab causeOf sizeOut startOut horizonOut ruleOut bandOut sumOut premiumOut anyBelow sumTo
 rewrite-calls = (
   record { answer = sym (after-a _); written = refl; lengths = refl; copied = λ z. refl; counted = λ z. refl },
   λ w. let e : _≡_ {A = ℕ} 8 9 = ap (λ l. getD l 46 0) (w .copied refl) in omega arith,
@@ -127,7 +127,7 @@ pub ready-calls :
     × ¬ ReadyCall 1 100 (replicate 211 9) one 0 (writeLeaves (readyScheme 1 100) (replicate 211 9)) (211 ∷ [])
     × ReadyCall 4 100 two one 14 two one
     × ¬ ReadyCall 4 100 two one 0 two one
-unfolding layoutIn readyAnswer readyScheme schemeOf upTo scale1 writeAnswer writeLeaves bytesOf headerBytes beBytes tab causeWhere sizeOut startOut horizonOut ruleOut bandOut sumOut premiumOut anyBelow sumTo
+unfolding readyAnswer readyScheme schemeOf upTo scale1 writeAnswer writeLeaves bytesOf headerBytes beBytes tab causeOf sizeOut startOut horizonOut ruleOut bandOut sumOut premiumOut anyBelow sumTo
 ready-calls = (
   record { answer = refl; written = refl; lengths = refl },
   λ w. let e : _≡_ {A = ℕ} 9 1 = ap (λ l. getD l 0 0) (w .written) in omega arith,
@@ -198,7 +198,7 @@ pub share-sheet-calls :
     × ¬ ShareSheetCall exampleA 2 two two 0 (10000000 ∷ 10000000 ∷ []) (80000000 ∷ 80000000 ∷ [])
     × ShareSheetCall [] 1 two two 1 two two
     × ¬ ShareSheetCall [] 1 two two 2 two two
-unfolding layoutIn sheetCause frameCause beAt schemeOf upTo tab causeWhere sizeOut startOut horizonOut ruleOut bandOut sumOut premiumOut anyBelow sumTo
+unfolding layoutIn sheetCause frameCause beAt schemeOf upTo tab causeOf sizeOut startOut horizonOut ruleOut bandOut sumOut premiumOut anyBelow sumTo
 share-sheet-calls = (
   record { answer = sym (after-a _); lows = refl; highs = refl; promise = sheet-kept inA 1 two two },
   λ w. let e : _≡_ {A = ℕ} 900000000 800000000 = ap (λ l. getD l 0 0) (sym highs-a ∙ w .lows ∙ lows-a) in omega arith,
@@ -226,7 +226,7 @@ pub step-calls :
     × StepCall false [] thirtyTen 2 one long 1 one long
     × ¬ StepCall false [] thirtyTen 2 one long 1 one fourFifths
     × ¬ StepCall false [] thirtyTen 2 one long 2 one long
-unfolding layoutIn payoffRead payoffOut stepFigure fillRow capacityBefore onlyIf frameCause beAt schemeOf upTo tab causeWhere sizeOut startOut horizonOut ruleOut bandOut sumOut premiumOut anyBelow sumTo
+unfolding layoutIn payoffRead payoffOut stepFigure fillRow capacityBefore onlyIf frameCause beAt schemeOf upTo tab causeOf sizeOut startOut horizonOut ruleOut bandOut sumOut premiumOut anyBelow sumTo
 step-calls =
     let reached = step-answers .answered .reaches refl in (
       record {

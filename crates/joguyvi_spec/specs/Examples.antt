@@ -8,10 +8,11 @@ use Rattle.setchain.specs.Sums.{at, sumTo, onlyIf}
 use Rattle.setchain.specs.Step.{capacityBefore, fillRow, stepFigure}
 use Rattle.scheme.specs.declared.Scheme.{Scheme}
 use Rattle.scheme.specs.Tables.{tab, anyBelow}
-use Rattle.scheme.specs.Cause.{sizeOut, startOut, horizonOut, ruleOut, bandOut, sumOut, premiumOut, causeWhere, orElse}
+use Rattle.scheme.specs.FirstCause.{orElse}
+use Rattle.scheme.specs.Cause.{sizeOut, startOut, horizonOut, ruleOut, bandOut, sumOut, premiumOut, causeOf}
 use Rattle.scheme.specs.Stored.{upTo, schemeOf}
 use Rattle.scheme.specs.Examples.{padded}
-use Rattle.scheme.specs.Laws.Cause.{second-cause}
+use Rattle.scheme.specs.Laws.FirstCause.{second-cause}
 use Rattle.big_endian_spec.specs.Numbers.{beAt}
 use Rattle.record_spec.specs.Layout.{layoutIn, schemeIn}
 use Rattle.record_spec.specs.Read.{frameCause, readCause}
@@ -63,7 +64,7 @@ startsInTwo = padded 13 (1 ∷ 0 ∷ 20 ∷ 1 ∷ 1 ∷ 2 ∷ 0 ∷ [])
 
 -- Example A's record is read, no bytes are cause 1, and a start that is no class is cause 5.
 pub checks : (checkNumber exampleA ≡ 0) × (checkNumber [] ≡ 1) × (checkNumber startsInTwo ≡ 5)
-unfolding layoutIn frameCause beAt schemeOf upTo tab causeWhere sizeOut startOut horizonOut ruleOut bandOut sumOut premiumOut anyBelow sumTo
+unfolding layoutIn frameCause beAt schemeOf upTo tab causeOf sizeOut startOut horizonOut ruleOut bandOut sumOut premiumOut anyBelow sumTo
 checks = (read-a, refl, refl)
 
 -- Class 1's share in year 2 of Example A.
@@ -86,7 +87,7 @@ low-and-high-a = (refl, after-a _)
 
 -- A share sheet takes two buffers of s numbers; a record is declined before the year.
 pub share-sheets : (sharesNumber [] 3 two three ≡ 1) × (sharesNumber exampleA 2 two two ≡ 0) × (sharesNumber exampleA 2 two three ≡ 13) × (sharesNumber exampleA 2 three two ≡ 13)
-unfolding layoutIn sheetCause frameCause beAt schemeOf upTo tab causeWhere sizeOut startOut horizonOut ruleOut bandOut sumOut premiumOut anyBelow sumTo
+unfolding layoutIn sheetCause frameCause beAt schemeOf upTo tab causeOf sizeOut startOut horizonOut ruleOut bandOut sumOut premiumOut anyBelow sumTo
 share-sheets = (refl, after-a _, after-a _, after-a _)
 
 -- The sheet of no bytes, "REFUSED 1", takes 11 bytes of space and a buffer of one number for its length, 10 with the end of the line.
@@ -109,12 +110,12 @@ row-buffers = (refl, refl, refl, refl)
 pub row-a :
     (rowNumber [] 3 long long ≡ 1) × (rowNumber exampleA 2 long longer ≡ 13) × (rowNumber exampleA 2 longer long ≡ 13)
     × (rowOfRecord exampleA 2 ≡ answerOf (800000000 ∷ 100000000 ∷ []) (900000000 ∷ 250000000 ∷ []))
-unfolding layoutIn rowAt onlyIf frameCause beAt schemeOf upTo tab causeWhere sizeOut startOut horizonOut ruleOut bandOut sumOut premiumOut anyBelow sumTo
+unfolding layoutIn rowAt onlyIf frameCause beAt schemeOf upTo tab causeOf sizeOut startOut horizonOut ruleOut bandOut sumOut premiumOut anyBelow sumTo
 row-a = (refl, after-a _, after-a _, refl)
 
 -- A rule row takes m bytes; a class that there is not is declined before the buffer.
 pub rule-row-a : (ruleRowNumber exampleA 2 three ≡ 0) × (ruleRowNumber exampleA 3 two ≡ 11)
-unfolding layoutIn frameCause beAt schemeOf upTo tab causeWhere sizeOut startOut horizonOut ruleOut bandOut sumOut premiumOut anyBelow sumTo
+unfolding layoutIn frameCause beAt schemeOf upTo tab causeOf sizeOut startOut horizonOut ruleOut bandOut sumOut premiumOut anyBelow sumTo
 rule-row-a = (refl, refl)
 
 -- An empty part is cause 11, a part of two bytes fills a buffer of two, and one of three is cause 13.
@@ -133,7 +134,7 @@ pub rewriting-a :
     (rewriteNumber [] (replicate 45 0) two ≡ 1) × (rewriteNumber exampleA (replicate 45 0) one ≡ 0) × (rewriteNumber exampleA (replicate 45 0) two ≡ 13)
     × (rewriteNumber exampleA (replicate 44 0) one ≡ 13)
     × (lengthAlone inA (replicate 45 0) ≡ 45 ∷ [])
-unfolding layoutIn writeAnswer frameCause beAt schemeOf upTo tab causeWhere sizeOut startOut horizonOut ruleOut bandOut sumOut premiumOut anyBelow sumTo
+unfolding layoutIn writeAnswer frameCause beAt schemeOf upTo tab causeOf sizeOut startOut horizonOut ruleOut bandOut sumOut premiumOut anyBelow sumTo
 rewriting-a = (refl, after-a _, after-a _, after-a _, refl)
 
 -- There is no ready scheme 4, and a base above 2,500,000 is declined; both before the buffers.
@@ -143,7 +144,7 @@ ready-schemes = (refl, refl, refl, refl)
 
 -- Ready scheme 1 takes 209 bytes.
 pub ready-space : (readyNumber 1 100 (replicate 209 0) one ≡ 0) × (readyNumber 1 100 (replicate 208 0) one ≡ 13)
-unfolding layoutIn readyAnswer readyScheme schemeOf upTo scale1 writeAnswer tab causeWhere sizeOut startOut horizonOut ruleOut bandOut sumOut premiumOut anyBelow sumTo
+unfolding layoutIn readyAnswer readyScheme schemeOf upTo scale1 writeAnswer tab causeOf sizeOut startOut horizonOut ruleOut bandOut sumOut premiumOut anyBelow sumTo
 ready-space = (refl, refl)
 
 -- A step takes a payoff of 32 numbers, a buffer of one for the figure and one of 32 for the row.
@@ -161,7 +162,7 @@ payoffs = (refl, refl, refl)
 
 -- A payoff not of 32 numbers is declined after the class, and a record before the class.
 pub step-a : (stepNumber [] thirtyTen 3 one long ≡ 1) × (stepNumber exampleA thirtyTen 3 one long ≡ 11) × (stepNumber exampleA thirtyTen 2 one long ≡ 13)
-unfolding layoutIn payoffRead payoffOut frameCause beAt schemeOf upTo tab causeWhere sizeOut startOut horizonOut ruleOut bandOut sumOut premiumOut anyBelow sumTo
+unfolding layoutIn payoffRead payoffOut frameCause beAt schemeOf upTo tab causeOf sizeOut startOut horizonOut ruleOut bandOut sumOut premiumOut anyBelow sumTo
 step-a = (refl, after-a _, after-a _)
 
 -- The low figure of Example A's class 2, and the high one.

@@ -5,7 +5,7 @@ use mathlib.Core.List.{List, [], _∷_}
 use lib.ListN.{getD}
 use Rattle.setchain.specs.Fractions.{Fraction}
 use Rattle.setchain.specs.Picks.{Matrix}
-use Rattle.scheme.specs.Cause.{orElse}
+use Rattle.scheme.specs.FirstCause.{firstOf}
 use Rattle.scheme.specs.declared.Scheme.{Scheme}
 use Rattle.record_spec.specs.Layout.{schemeIn}
 use Rattle.record_spec.specs.Read.{readCause}
@@ -16,7 +16,7 @@ use Rattle.joguyvi_spec.specs.Buffers.{bufferCause, filledWhere, BufferP
 
 -- Low and high into a buffer: their cause, then 13 where the buffer is not of 2 numbers.
 unfoldable pub putNumber : Bounds → List ℕ → ℕ
-putNumber b out = orElse (numberOf b) (bufferCause 2 out)
+putNumber b out = firstOf (numberOf b ∷ bufferCause 2 out ∷ [])
 
 -- Low, then high, as a buffer of 2 numbers.
 abbrev pub lowAndHigh : Bounds → List ℕ
@@ -28,7 +28,7 @@ BoundsPost b out = BufferPost (putNumber b out) (lowAndHigh b) out
 
 -- The number for a record's low and high: the cause of reading comes first.
 abbrev pub boundsNumber : List ℕ → Bounds → List ℕ → ℕ
-boundsNumber bytes b out = orElse (readCause bytes) (putNumber b out)
+boundsNumber bytes b out = firstOf (readCause bytes ∷ putNumber b out ∷ [])
 
 -- What a call for low and high answers and leaves, where `query` answers for a scheme and `exact` is the figure between low and high.
 pub record BoundsCall (query : Scheme → Bounds) (exact : Scheme → List Matrix → Fraction) (bytes : List ℕ) (year : ℕ) (out : List ℕ) (number : ℕ) (out′ : List ℕ) : Type 0 where

@@ -4,7 +4,7 @@ use mathlib.Core.Path.{_≡_}
 use mathlib.Core.List.{List, [], _∷_, _++_}
 use lib.ListN.{length, drop}
 use Rattle.scheme.specs.declared.Scheme.{Scheme}
-use Rattle.scheme.specs.Cause.{orElse}
+use Rattle.scheme.specs.FirstCause.{firstOf}
 use Rattle.record_spec.specs.Layout.{schemeIn}
 use Rattle.record_spec.specs.Read.{readCause}
 use Rattle.record_spec.specs.Write.{writeNumber, writtenLength, writeAnswer, writeLeaves}
@@ -21,7 +21,7 @@ pub record CheckCall (bytes : List ℕ) (number : ℕ) : Type 0 where
 
 -- The cause of writing, then 13 where the buffer for the length is not of 1 number.
 abbrev pub recordNumber : Scheme → (out size : List ℕ) → ℕ
-recordNumber s out size = orElse (writeNumber (writeAnswer s out)) (bufferCause 1 size)
+recordNumber s out size = firstOf (writeNumber (writeAnswer s out) ∷ bufferCause 1 size ∷ [])
 
 -- The record's length, as a buffer of 1 number.
 abbrev pub lengthAlone : Scheme → List ℕ → List ℕ
@@ -33,7 +33,7 @@ RecordPost s out size = BuffersPost (recordNumber s out size) (writeLeaves s out
 
 -- The number for a record written again: the cause of reading comes first.
 abbrev pub rewriteNumber : List ℕ → (out size : List ℕ) → ℕ
-rewriteNumber bytes out size = orElse (readCause bytes) (recordNumber (schemeIn bytes) out size)
+rewriteNumber bytes out size = firstOf (readCause bytes ∷ recordNumber (schemeIn bytes) out size ∷ [])
 
 -- joguyvi_rewrite: what it answers and leaves; `size` is the buffer for the length.
 pub record RewriteCall (bytes out size : List ℕ) (number : ℕ) (out′ size′ : List ℕ) : Type 0 where
@@ -47,7 +47,7 @@ pub record RewriteCall (bytes out size : List ℕ) (number : ℕ) (out′ size�
 
 -- The number for a ready scheme as a record: its own cause, 14 or 15, comes first.
 abbrev pub readyNumber : (ready base : ℕ) (out size : List ℕ) → ℕ
-readyNumber ready base out size = orElse (readyAnswer ready base .number) (recordNumber (readyAnswer ready base .scheme) out size)
+readyNumber ready base out size = firstOf (readyAnswer ready base .number ∷ recordNumber (readyAnswer ready base .scheme) out size ∷ [])
 
 -- joguyvi_ready: what it answers and leaves, for the ready scheme numbered `ready`.
 pub record ReadyCall (ready base : ℕ) (out size : List ℕ) (number : ℕ) (out′ size′ : List ℕ) : Type 0 where

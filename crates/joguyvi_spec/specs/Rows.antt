@@ -1,15 +1,14 @@
 -- The interval row of a class, the rule row of a class, and the bands of all columns.
 use Prim.Native.Nat.{ℕ}
 use mathlib.Core.Path.{_≡_}
-use mathlib.Core.Bool.{cond}
-use mathlib.Core.List.{List}
+use mathlib.Core.List.{List, [], _∷_}
 use lib.Dec.{eqb}
 use lib.ListN.{length}
 use Rattle.scheme.specs.declared.Scheme.{Scheme}
 use Rattle.scheme.specs.declared.RowAnswer.{RowAnswer}
 use Rattle.scheme.specs.Tables.{tab}
 use Rattle.scheme.specs.Access.{lowerAt, upperAt}
-use Rattle.scheme.specs.Cause.{orElse}
+use Rattle.scheme.specs.FirstCause.{_when_, firstOf}
 use Rattle.scheme.specs.RowAnswer.{rowAnswer}
 use Rattle.record_spec.specs.Layout.{schemeIn, columnsIn}
 use Rattle.record_spec.specs.Read.{readCause}
@@ -18,7 +17,7 @@ use Rattle.joguyvi_spec.specs.Buffers.{bufferCause, buffersCause, filled
 
 -- A row into two buffers: its cause, then 13 where one of them is not of 32 numbers.
 abbrev pub putRowNumber : RowAnswer → (lower upper : List ℕ) → ℕ
-putRowNumber answer lower upper = orElse (answer .number) (buffersCause 32 lower upper)
+putRowNumber answer lower upper = firstOf (answer .number ∷ buffersCause 32 lower upper ∷ [])
 
 -- What is answered and left for it.
 abbrev pub RowPost : RowAnswer → (lower upper : List ℕ) (number : ℕ) (lower′ upper′ : List ℕ) → Type 0
@@ -30,7 +29,7 @@ rowOfRecord bytes class = rowAnswer (schemeIn bytes) class
 
 -- The number for it: the cause of reading comes first.
 abbrev pub rowNumber : List ℕ → (class : ℕ) (lower upper : List ℕ) → ℕ
-rowNumber bytes class lower upper = orElse (readCause bytes) (putRowNumber (rowOfRecord bytes class) lower upper)
+rowNumber bytes class lower upper = firstOf (readCause bytes ∷ putRowNumber (rowOfRecord bytes class) lower upper ∷ [])
 
 -- joguyvi_row: what it answers and leaves.
 pub record RowCall (bytes : List ℕ) (class : ℕ) (lower upper : List ℕ) (number : ℕ) (lower′ upper′ : List ℕ) : Type 0 where
@@ -41,7 +40,7 @@ pub record RowCall (bytes : List ℕ) (class : ℕ) (lower upper : List ℕ) (nu
 
 -- A part of a record into a buffer: 11 where it is empty, then 13 where the buffer is of another length.
 abbrev pub partNumber : (part out : List ℕ) → ℕ
-partNumber part out = orElse (cond (eqb (length part) 0) 11 0) (bufferCause (length part) out)
+partNumber part out = firstOf (11 when eqb (length part) 0 ∷ bufferCause (length part) out ∷ [])
 
 -- What is answered and left for it.
 abbrev pub PartPost : (part out : List ℕ) (number : ℕ) (out′ : List ℕ) → Type 0
@@ -49,7 +48,7 @@ PartPost part out = BufferPost (partNumber part out) part out
 
 -- The number for a rule row of a record (document 01, "Record"): its cause, then 13 where the buffer is not of m bytes.
 abbrev pub ruleRowNumber : List ℕ → (class : ℕ) → List ℕ → ℕ
-ruleRowNumber bytes class out = orElse (ruleRowCause bytes class) (bufferCause (columnsIn bytes) out)
+ruleRowNumber bytes class out = firstOf (ruleRowCause bytes class ∷ bufferCause (columnsIn bytes) out ∷ [])
 
 -- joguyvi_rule_row: what it answers and leaves.
 pub record RuleRowCall (bytes : List ℕ) (class : ℕ) (out : List ℕ) (number : ℕ) (out′ : List ℕ) : Type 0 where
@@ -70,7 +69,7 @@ BandsPost s lower upper = BuffersPost (buffersCause (s .columns) lower upper) (l
 
 -- The number for a record's bands: the cause of reading, then 13 where a buffer is not of m numbers.
 abbrev pub bandsNumber : List ℕ → (lower upper : List ℕ) → ℕ
-bandsNumber bytes lower upper = orElse (readCause bytes) (buffersCause (columnsIn bytes) lower upper)
+bandsNumber bytes lower upper = firstOf (readCause bytes ∷ buffersCause (columnsIn bytes) lower upper ∷ [])
 
 -- joguyvi_bands: what it answers and leaves.
 pub record BandsCall (bytes lower upper : List ℕ) (number : ℕ) (lower′ upper′ : List ℕ) : Type 0 where

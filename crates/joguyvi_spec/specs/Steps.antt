@@ -7,7 +7,7 @@ use lib.ListN.{length, getD}
 use Rattle.setchain.specs.Step.{stepFigure, Reaches}
 use Rattle.scheme.specs.declared.Scheme.{Scheme}
 use Rattle.scheme.specs.Tables.{tab}
-use Rattle.scheme.specs.Cause.{orElse}
+use Rattle.scheme.specs.FirstCause.{firstOf}
 use Rattle.record_spec.specs.Layout.{schemeIn}
 use Rattle.record_spec.specs.Read.{readCause}
 use Rattle.setchain.specs.Sums.{at}
@@ -21,15 +21,15 @@ payoffRead numbers = tab 32 (at numbers)
 
 -- Cause 13: a payoff not of 32 numbers, a buffer for the figure not of 1, or one for the row not of 32.
 abbrev pub stepBuffers : (payoff figure row : List ℕ) → ℕ
-stepBuffers payoff figure row = orElse (bufferCause 32 payoff) (orElse (bufferCause 1 figure) (bufferCause 32 row))
+stepBuffers payoff figure row = firstOf (bufferCause 32 payoff ∷ bufferCause 1 figure ∷ bufferCause 32 row ∷ [])
 
 -- What is answered and left for a step's figure and row: its cause, then 13.
 abbrev pub StepBuffersPost : StepAnswer → (payoff figure row : List ℕ) (number : ℕ) (figure′ row′ : List ℕ) → Type 0
-StepBuffersPost answer payoff figure row = BuffersPost (orElse (answer .number) (stepBuffers payoff figure row)) (answer .figure ∷ []) (answer .row) figure row
+StepBuffersPost answer payoff figure row = BuffersPost (firstOf (answer .number ∷ stepBuffers payoff figure row ∷ [])) (answer .figure ∷ []) (answer .row) figure row
 
 -- The number for a record's step: the cause of reading, then that of the step, where 10 is for the payoff and 11 for the class, then 13.
 abbrev pub stepNumber : List ℕ → (payoff : List ℕ) (class : ℕ) (figure row : List ℕ) → ℕ
-stepNumber bytes payoff class figure row = orElse (readCause bytes) (orElse (stepCause (schemeIn bytes) (payoffRead payoff) class) (stepBuffers payoff figure row))
+stepNumber bytes payoff class figure row = firstOf (readCause bytes ∷ stepCause (schemeIn bytes) (payoffRead payoff) class ∷ stepBuffers payoff figure row ∷ [])
 
 -- The figure of a class, low or high, as a buffer of 1 number.
 abbrev pub figureOf : (high : Bool) → Scheme → (payoff : List ℕ) (class : ℕ) → List ℕ

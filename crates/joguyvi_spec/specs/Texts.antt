@@ -2,14 +2,14 @@
 use Prim.Native.Nat.{ℕ}
 use mathlib.Core.Path.{_≡_}
 use mathlib.Core.List.{List, [], _∷_}
-use Rattle.scheme.specs.Cause.{orElse}
+use Rattle.scheme.specs.FirstCause.{firstOf}
 use Rattle.record_spec.specs.Write.{writeNumber, writtenLength}
 use Rattle.sheet_spec.specs.Answer.{sheetAnswer, sheetLeaves}
 use Rattle.joguyvi_spec.specs.Buffers.{bufferCause, filledWhere}
 
 -- 13 where the text has no space, or the buffer for its length is not of 1 number.
 abbrev pub sheetNumber : List ℕ → (out size : List ℕ) → ℕ
-sheetNumber bytes out size = orElse (writeNumber (sheetAnswer bytes out)) (bufferCause 1 size)
+sheetNumber bytes out size = firstOf (writeNumber (sheetAnswer bytes out) ∷ bufferCause 1 size ∷ [])
 
 -- The text's length, as a buffer of 1 number.
 abbrev pub sheetLength : List ℕ → List ℕ → List ℕ

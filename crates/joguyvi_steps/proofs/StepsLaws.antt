@@ -5,8 +5,8 @@ use mathlib.Core.Path.{_≡_, refl, ap, _∙_, subst₂}
 use mathlib.Core.Bool.{Bool}
 use mathlib.Core.List.{List}
 use lib.ListN.{length}
-use Rattle.scheme.specs.Cause.{orElse}
-use Rattle.scheme.specs.Laws.Cause.{first-none, second-none}
+use Rattle.scheme.specs.FirstCause.{orElse}
+use Rattle.scheme.specs.Laws.FirstCause.{first-none, second-none}
 use Rattle.record_spec.specs.declared.ReadAnswer.{ReadAnswer}
 use Rattle.record_spec.specs.Layout.{schemeIn}
 use Rattle.record_spec.specs.Read.{readAnswer}

@@ -10,7 +10,7 @@ use Rattle.bounds_spec.specs.Answers.{numberOf, lowOf, highOf}
 use Rattle.joguyvi_spec.specs.Buffers.{bufferCause}
 use Rattle.joguyvi_spec.specs.Figures.{putNumber, lowAndHigh, BoundsPost}
 use Rattle.joguyvi_spec.specs.Laws.Buffers.{buffer-out, buffer-fits, thirteen, unfilled}
-use Rattle.joguyvi_spec.specs.Laws.Causes.{cause-first, cause-second}
+use Rattle.scheme.specs.Laws.FirstCause.{cause-first, cause-second}
 
 -- Two numbers written into a buffer of 2.
 two : (out : List ℕ) (a b : ℕ) → length out ≡ 2 → set (set out 0 a) 1 b ≡ a ∷ b ∷ []

@@ -1,8 +1,10 @@
 -- The answer of the ready schemes' operation (document 01, "Ready schemes" and "When a call is declined").
 use Prim.Native.Nat.{ℕ, _≤_}
+use mathlib.Core.List.{[], _∷_}
 use mathlib.Core.Bool.{cond}
 use lib.Dec.{eqb, ltb}
-use Rattle.scheme.specs.Cause.{outside, orElse}
+use Rattle.scheme.specs.FirstCause.{firstOf}
+use Rattle.scheme.specs.Cause.{outside}
 use Rattle.scheme.specs.Stored.{noScheme}
 use Rattle.ready_spec.specs.declared.ReadyAnswer.{ReadyAnswer}
 use Rattle.ready_spec.specs.Ready.{readyScheme}
@@ -23,7 +25,7 @@ baseCause base = cond (ltb 2500000 base) 15 0
 
 -- "When a call is declined": "Tests run in number order; the first that applies is returned".
 abbrev pub readyCause : ℕ → ℕ → ℕ
-readyCause number base = orElse (numberCause number) (baseCause base)
+readyCause number base = firstOf (numberCause number ∷ baseCause base ∷ [])
 
 -- "Ready schemes": the cause's number, and the ready scheme where it is 0.
 unfoldable pub readyAnswer : ℕ → ℕ → ReadyAnswer

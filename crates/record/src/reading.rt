@@ -5,8 +5,9 @@ ghost use lib.ListN.{length, getD, replicate};
 ghost use Rattle.scheme.specs.Tables.{tab};
 ghost use Rattle.big_endian_spec.specs.Numbers.{beAt};
 ghost use Rattle.scheme.specs.Stored.{upTo, rulesUpTo};
+ghost use Rattle.scheme.specs.FirstCause.{_when_};
 ghost use Rattle.record_spec.specs.Layout.{HEADER, schemeIn};
-ghost use Rattle.record_spec.specs.Read.{versionCause, fieldCause, lengthCause, frameCause};
+ghost use Rattle.record_spec.specs.Read.{versionOut, fieldOut, lengthOut, frameCause};
 ghost use Rattle.record_spec.specs.Frame.{Framed};
 use super::FIELD_OUT;
 use super::LENGTH_OUT;
@@ -21,7 +22,7 @@ use scheme::or_else;
 
 // Cause 1, or 0.
 fn version_cause(bytes: &[u8]) -> u8
-    ensures { λ r. ⌜ r ≡ versionCause (now (bytes .entry)) ⌝ }
+    ensures { λ r. ⌜ r ≡ 1 when versionOut (now (bytes .entry)) ⌝ }
 {
     if bytes.len() == 0 {
         return VERSION_OUT;
@@ -34,7 +35,7 @@ fn version_cause(bytes: &[u8]) -> u8
 
 // Cause 2, or 0.
 fn field_cause(bytes: &[u8]) -> u8
-    ensures { λ r. ⌜ r ≡ fieldCause (now (bytes .entry)) ⌝ }
+    ensures { λ r. ⌜ r ≡ 2 when fieldOut (now (bytes .entry)) ⌝ }
 {
     if bytes.len() < HEADER {
         return FIELD_OUT;
@@ -48,7 +49,7 @@ fn field_cause(bytes: &[u8]) -> u8
 // Cause 4, or 0.
 fn length_cause(bytes: &[u8]) -> u8
     requires { ⌜ HEADER ≤ length (now bytes) ⌝ }
-    ensures { λ r. ⌜ r ≡ lengthCause (now (bytes .entry)) ⌝ }
+    ensures { λ r. ⌜ r ≡ 4 when lengthOut (now (bytes .entry)) ⌝ }
 {
     if bytes.len() != length_of(bytes[3], bytes[4]) {
         return LENGTH_OUT;

@@ -6,7 +6,7 @@ use native.Mathlib.Omega.{arith}
 use lib.ListN.{take, drop, replicate}
 use Rattle.setchain.specs.Sums.{sumTo}
 use Rattle.scheme.specs.Tables.{tab, anyBelow}
-use Rattle.scheme.specs.Cause.{sizeOut, startOut, horizonOut, ruleOut, bandOut, sumOut, premiumOut, causeWhere}
+use Rattle.scheme.specs.Cause.{sizeOut, startOut, horizonOut, ruleOut, bandOut, sumOut, premiumOut, causeOf}
 use Rattle.scheme.specs.Stored.{upTo, schemeOf, noScheme}
 use Rattle.scheme.specs.Examples.{schemeA, single}
 use Rattle.scheme.specs.Laws.Values.{same-values}
@@ -37,7 +37,7 @@ pub lengths : (lengthOf version1 2 3 ≡ 45) × (lengthOf version1 32 8 ≡ 455)
 lengths = (refl, refl)
 
 pub read-a : readCause exampleA ≡ 0
-unfolding layoutIn frameCause beAt schemeOf upTo tab causeWhere sizeOut startOut horizonOut ruleOut bandOut sumOut premiumOut anyBelow sumTo
+unfolding layoutIn frameCause beAt schemeOf upTo tab causeOf sizeOut startOut horizonOut ruleOut bandOut sumOut premiumOut anyBelow sumTo
 read-a = refl
 
 -- The scheme in it is the scheme of example A, and the record of that scheme is the record itself.
@@ -87,23 +87,23 @@ pub record CausesInOrder : Type 0 where
   pub none : readCause (small 1 20 1 1 100) ≡ 0
 
 pub causes-in-order : CausesInOrder
-unfolding layoutIn frameCause beAt schemeOf upTo tab causeWhere sizeOut startOut horizonOut ruleOut bandOut sumOut premiumOut anyBelow sumTo
+unfolding layoutIn frameCause beAt schemeOf upTo tab causeOf sizeOut startOut horizonOut ruleOut bandOut sumOut premiumOut anyBelow sumTo
 causes-in-order =
     record { noByte = refl; version = refl; field = refl; sizes = refl; length = refl; start = refl; horizon = refl; none = refl }
 
 -- What reading answers: example A's scheme, and a cause beside a scheme of 0.
 pub answers-read : (readAnswer exampleA ≡ record { number = 0; scheme = schemeA }) × (readAnswer (small 1 20 1 1 101) ≡ record { number = 6; scheme = noScheme })
-unfolding layoutIn readAnswer noScheme frameCause beAt schemeOf upTo tab causeWhere sizeOut startOut horizonOut ruleOut bandOut sumOut premiumOut anyBelow sumTo
+unfolding layoutIn readAnswer noScheme frameCause beAt schemeOf upTo tab causeOf sizeOut startOut horizonOut ruleOut bandOut sumOut premiumOut anyBelow sumTo
 answers-read = (refl, refl)
 
 -- The rule row of class 2, and an empty part for class 3 and for a declined record.
 pub rows-a : (ruleRow exampleA 2 ≡ 1 ∷ 2 ∷ 2 ∷ []) × (ruleRow exampleA 3 ≡ []) × (ruleRow (small 1 20 1 1 101) 1 ≡ [])
-unfolding layoutIn ruleRow frameCause beAt schemeOf upTo tab causeWhere sizeOut startOut horizonOut ruleOut bandOut sumOut premiumOut anyBelow sumTo
+unfolding layoutIn ruleRow frameCause beAt schemeOf upTo tab causeOf sizeOut startOut horizonOut ruleOut bandOut sumOut premiumOut anyBelow sumTo
 rows-a = (refl, refl, refl)
 
 -- The cause behind an empty part: "where it is accepted the cause was 11".
 pub row-causes : (ruleRowCause exampleA 2 ≡ 0) × (ruleRowCause exampleA 3 ≡ 11) × (ruleRowCause (small 1 20 1 1 101) 3 ≡ 6)
-unfolding layoutIn frameCause beAt schemeOf upTo tab causeWhere sizeOut startOut horizonOut ruleOut bandOut sumOut premiumOut anyBelow sumTo
+unfolding layoutIn frameCause beAt schemeOf upTo tab causeOf sizeOut startOut horizonOut ruleOut bandOut sumOut premiumOut anyBelow sumTo
 row-causes = (refl, refl, refl)
 
 -- Its bands in order.
@@ -113,7 +113,7 @@ stored-a = refl
 
 -- The first 5 answers of a reader over it.
 pub bands-a : answers (openPart exampleA) 5 0 ≡ Ends 800000000 900000000 ∷ Ends 100000000 200000000 ∷ Ends 0 50000000 ∷ NoMore ∷ NoMore ∷ []
-unfolding layoutIn answers bandAt openPart frameCause beAt schemeOf upTo tab causeWhere sizeOut startOut horizonOut ruleOut bandOut sumOut premiumOut anyBelow sumTo
+unfolding layoutIn answers bandAt openPart frameCause beAt schemeOf upTo tab causeOf sizeOut startOut horizonOut ruleOut bandOut sumOut premiumOut anyBelow sumTo
 bands-a = refl
 
 -- The number and the values of its first answer, and past its last band.
@@ -121,12 +121,12 @@ pub first-a :
     (handedOut (bandAt exampleA 0) ≡ 1) × (endsOf (bandAt exampleA 0) ≡ 800000000 ∷ 900000000 ∷ [])
     × (handedOut (bandAt exampleA 3) ≡ 0) × (endsOf (bandAt exampleA 3) ≡ [])
     × (bandNumber exampleA 0 ≡ 1) × (bandEnds exampleA 0 ≡ 800000000 ∷ 900000000 ∷ []) × (bandNumber exampleA 3 ≡ 0) × (bandEnds exampleA 3 ≡ [])
-unfolding layoutIn bandAt frameCause beAt schemeOf upTo tab causeWhere sizeOut startOut horizonOut ruleOut bandOut sumOut premiumOut anyBelow sumTo
+unfolding layoutIn bandAt frameCause beAt schemeOf upTo tab causeOf sizeOut startOut horizonOut ruleOut bandOut sumOut premiumOut anyBelow sumTo
 first-a = (refl, refl, refl, refl, refl, refl, refl, refl)
 
 -- A reader over a declined record: an empty part, and no more.
 pub none-declined : (openPart (small 1 20 1 1 101) ≡ []) × (bandAt (small 1 20 1 1 101) 0 ≡ NoMore)
-unfolding layoutIn openPart bandAt frameCause beAt schemeOf upTo tab causeWhere sizeOut startOut horizonOut ruleOut bandOut sumOut premiumOut anyBelow sumTo
+unfolding layoutIn openPart bandAt frameCause beAt schemeOf upTo tab causeOf sizeOut startOut horizonOut ruleOut bandOut sumOut premiumOut anyBelow sumTo
 none-declined = (refl, refl)
 
 -- Example A's scheme written into 50 bytes and into 44, and a scheme with cause 7: the length or the cause, and what the slice holds.
@@ -138,7 +138,7 @@ pub record Writings : Type 0 where
   pub cause : writeAnswer (single 2 0 1000000000 10) (replicate 19 9) ≡ Declined 7
 
 pub writings : Writings
-unfolding writeAnswer writeLeaves bytesOf headerBytes joined beBytes tab causeWhere sizeOut startOut horizonOut ruleOut bandOut sumOut premiumOut anyBelow sumTo
+unfolding writeAnswer writeLeaves bytesOf headerBytes joined beBytes tab causeOf sizeOut startOut horizonOut ruleOut bandOut sumOut premiumOut anyBelow sumTo
 writings = record { length = refl; written = refl; short = refl; left = refl; cause = refl }
 
 -- The number and the value of each answer: 45 bytes written, and cause 13.

@@ -6,10 +6,10 @@ use mathlib.Core.List.{List, _++_}
 use lib.Dec.{eqb, ltb}
 use lib.ListN.{length, drop}
 use Rattle.scheme.specs.declared.Scheme.{Scheme}
-use Rattle.scheme.specs.Cause.{premiumOut, causeOf}
+use Rattle.scheme.specs.Cause.{causeOf}
 use Rattle.scheme.specs.Stored.{cleared}
 use Rattle.scheme.specs.Values.{SameButBands, SameValues}
-use Rattle.scheme.specs.Laws.Cause.{first-none, by-cause}
+use Rattle.scheme.specs.Laws.FirstCause.{first-none, by-cause}
 use Rattle.scheme.specs.Laws.Judged.{accepted-cause}
 use Rattle.scheme.specs.Laws.Stored.{made-cleared, none-cleared}
 use Rattle.scheme.specs.Laws.Values.{Alike, same, alike-values, alike-same, next-same, cleared-alike}
@@ -58,7 +58,7 @@ alike-writing {s} {s′} w =
     none out z = first-none (causeOf s) (cond (ltb (length out) (recordLength s)) 13 0) z
 
     values : (out : List ℕ) → writeCause s out ≡ 0 → SameValues s s′
-    values out z = alike-values w (premiumOut s) (none out z)
+    values out z = alike-values w (none out z)
 
 -- Schemes with the same values are written the same, or declined the same.
 pub same-writing : {s s′ : Scheme} → SameValues s s′ → SameWriting s s′

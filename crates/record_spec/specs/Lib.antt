@@ -2,8 +2,8 @@
 -- Laws has the causes of a record's bytes and the answer of a reading, by cases; Ignored has what becomes of values beyond s and m.
 pub mod Joined
 pub mod Layout
-pub mod Read
 pub mod Frame
+pub mod Read
 pub mod RuleRow
 pub mod Reader
 pub mod Bytes

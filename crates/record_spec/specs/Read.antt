@@ -1,36 +1,45 @@
 -- What reading a record answers (document 01, "Record" and "When a call is declined").
 use Prim.Native.Nat.{ℕ}
-use mathlib.Core.Bool.{cond, not, _||_}
-use mathlib.Core.List.{List}
+use mathlib.Core.Bool.{Bool, cond, not, _||_}
+use mathlib.Core.List.{List, [], _∷_}
 use lib.Dec.{eqb, ltb}
 use lib.ListN.{length, getD}
-use Rattle.scheme.specs.Cause.{sizesCause, causeOf, orElse}
+use Rattle.scheme.specs.FirstCause.{firstOf, Line, tests}
+use Rattle.scheme.specs.Cause.{sizesOut, causeOf}
 use Rattle.record_spec.specs.declared.ReadAnswer.{ReadAnswer}
 use Rattle.big_endian_spec.specs.Numbers.{beAt}
 use Rattle.scheme.specs.Stored.{noScheme}
 use Rattle.record_spec.specs.Layout.{HEADER, layoutIn, lengthOf, classesIn, columnsIn, schemeIn}
+use Rattle.record_spec.specs.Frame.{VersionFits, FieldFits, SizesFit, LengthFits}
 
 -- Cause 1: "no byte, or byte 0 is not 1", the version of the layout that was found.
-abbrev pub versionCause : List ℕ → ℕ
-versionCause bytes = cond (eqb (length bytes) 0 || not (eqb (getD bytes 0 0) (layoutIn bytes .version))) 1 0
+abbrev pub versionOut : List ℕ → Bool
+versionOut bytes = eqb (length bytes) 0 || not (eqb (getD bytes 0 0) (layoutIn bytes .version))
 
 -- Cause 2: "under 7 bytes, or length field differs from bytes given".
-abbrev pub fieldCause : List ℕ → ℕ
-fieldCause bytes = cond (ltb (length bytes) HEADER || not (eqb (beAt 2 bytes 1) (length bytes))) 2 0
+abbrev pub fieldOut : List ℕ → Bool
+fieldOut bytes = ltb (length bytes) HEADER || not (eqb (beAt 2 bytes 1) (length bytes))
 
 -- Cause 4: "length differs from the formula".
-abbrev pub lengthCause : List ℕ → ℕ
-lengthCause bytes = cond (not (eqb (length bytes) (lengthOf (layoutIn bytes) (classesIn bytes) (columnsIn bytes)))) 4 0
+abbrev pub lengthOut : List ℕ → Bool
+lengthOut bytes = not (eqb (length bytes) (lengthOf (layoutIn bytes) (classesIn bytes) (columnsIn bytes)))
 
--- The first of the causes 1 to 4, or 0; cause 3 is that of s and m.
+-- The table's lines for a record's bytes, in the order of their tests; cause 3 is that of s and m.
+abbrev pub frameLines : List ℕ → List Line
+frameLines bytes =
+    record { number = 1; applies = versionOut bytes; Fits = VersionFits bytes }
+    ∷ record { number = 2; applies = fieldOut bytes; Fits = FieldFits bytes }
+    ∷ record { number = 3; applies = sizesOut (classesIn bytes) (columnsIn bytes); Fits = SizesFit bytes }
+    ∷ record { number = 4; applies = lengthOut bytes; Fits = LengthFits bytes }
+    ∷ []
+
+-- The first of them, or 0.
 unfoldable pub frameCause : List ℕ → ℕ
-frameCause bytes =
-    orElse (orElse (versionCause bytes) (fieldCause bytes))
-    (orElse (sizesCause (classesIn bytes) (columnsIn bytes)) (lengthCause bytes))
+frameCause bytes = firstOf (tests (frameLines bytes))
 
--- Causes 1 to 4 by the bytes, then 5 to 10 by the scheme in them: "Tests run in number order; the first that applies is returned."
+-- Causes 1 to 4 by the bytes, then 5 to 10 by the scheme in them: "the first that applies is returned".
 abbrev pub readCause : List ℕ → ℕ
-readCause bytes = orElse (frameCause bytes) (causeOf (schemeIn bytes))
+readCause bytes = firstOf (frameCause bytes ∷ causeOf (schemeIn bytes) ∷ [])
 
 -- A declined reading: the cause and a scheme of 0.
 abbrev pub declinedWith : ℕ → ReadAnswer

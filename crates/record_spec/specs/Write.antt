@@ -2,11 +2,12 @@
 use Prim.Native.Nat.{ℕ}
 use mathlib.Core.Path.{_≡_}
 use mathlib.Core.Bool.{cond}
-use mathlib.Core.List.{List, _++_}
+use mathlib.Core.List.{List, [], _∷_, _++_}
 use lib.Dec.{eqb, ltb}
 use lib.ListN.{length, take, drop}
 use Rattle.scheme.specs.declared.Scheme.{Scheme}
-use Rattle.scheme.specs.Cause.{causeOf, orElse}
+use Rattle.scheme.specs.FirstCause.{_when_, firstOf}
+use Rattle.scheme.specs.Cause.{causeOf}
 use Rattle.scheme.specs.Values.{SameValues}
 use Rattle.record_spec.specs.declared.ReadAnswer.{ReadAnswer}
 use Rattle.record_spec.specs.declared.WriteAnswer.{WriteAnswer}
@@ -35,7 +36,7 @@ recordLength s = lengthOf version1 (s .classes) (s .columns)
 
 -- Causes 3 and 5 to 10 by the scheme, then cause 13: "writer's slice under the length".
 abbrev pub writeCause : Scheme → List ℕ → ℕ
-writeCause s out = orElse (causeOf s) (cond (ltb (length out) (recordLength s)) 13 0)
+writeCause s out = firstOf (causeOf s ∷ 13 when ltb (length out) (recordLength s) ∷ [])
 
 -- "The writer returns the length".
 unfoldable pub writeAnswer : Scheme → List ℕ → WriteAnswer

@@ -49,13 +49,3 @@ pub record Accepted (s : Scheme) : Type 0 where
   pub bands : BandsFit s
   pub sums : SumsFit s
   pub premiums : PremiumsFit s
-
--- A scheme with a cause from document 01's table: that cause holds, and none of a smaller number.
-pub data Refused (s : Scheme) : ℕ → Type 0 where
-  size : ¬ SizeFits s → Refused s 3
-  start : SizeFits s → ¬ StartFits s → Refused s 5
-  horizon : SizeFits s → StartFits s → ¬ HorizonFits s → Refused s 6
-  rules : SizeFits s → StartFits s → HorizonFits s → ¬ RulesFit s → Refused s 7
-  bands : SizeFits s → StartFits s → HorizonFits s → RulesFit s → ¬ BandsFit s → Refused s 8
-  sums : SizeFits s → StartFits s → HorizonFits s → RulesFit s → BandsFit s → ¬ SumsFit s → Refused s 9
-  premiums : SizeFits s → StartFits s → HorizonFits s → RulesFit s → BandsFit s → SumsFit s → ¬ PremiumsFit s → Refused s 10

@@ -9,7 +9,7 @@ use Rattle.setchain.specs.Laws.Sums.{below-two}
 use Rattle.scheme.specs.declared.Scheme.{Scheme}
 use Rattle.scheme.specs.Tables.{anyBelow, tab}
 use Rattle.scheme.specs.Access.{ruleAt, lowerAt, upperAt, premiumAt}
-use Rattle.scheme.specs.Cause.{sizeOut, startOut, horizonOut, ruleOut, bandOut, sumOut, premiumOut, causeWhere, causeOf}
+use Rattle.scheme.specs.Cause.{sizeOut, startOut, horizonOut, ruleOut, bandOut, sumOut, premiumOut, causeOf}
 use Rattle.scheme.specs.Stored.{upTo, schemeOf, cleared}
 use Rattle.scheme.specs.Values.{SameValues}
 use Rattle.scheme.specs.Examples.{padded, schemeA}
@@ -70,7 +70,7 @@ strayA =
 
 -- They are ignored.
 pub accepted-a : causeOf strayA ≡ 0
-unfolding causeWhere sizeOut startOut horizonOut ruleOut bandOut sumOut premiumOut anyBelow sumTo
+unfolding causeOf sizeOut startOut horizonOut ruleOut bandOut sumOut premiumOut anyBelow sumTo
 accepted-a = refl
 
 -- With 0 for them it is Example A.

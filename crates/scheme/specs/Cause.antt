@@ -1,12 +1,15 @@
--- The first cause that applies to a scheme, tests in number order (document 01, "When a call is declined").
+-- The causes of a scheme, a class, a year and a lent slice (document 01, "When a call is declined"): their tests, and the first that applies to a scheme.
 use Prim.Native.Nat.{ℕ}
-use mathlib.Core.Bool.{Bool, cond, not, _||_}
+use mathlib.Core.Bool.{Bool, not, _||_}
+use mathlib.Core.List.{List, [], _∷_}
 use lib.Dec.{eqb, ltb}
 use Rattle.setchain.specs.Sums.{sumTo}
 use Rattle.setchain.specs.Rows.{ONE}
 use Rattle.scheme.specs.declared.Scheme.{Scheme}
 use Rattle.scheme.specs.Tables.{anyBelow}
 use Rattle.scheme.specs.Access.{cellCount, ruleAt, lowerAt, upperAt, premiumAt}
+use Rattle.scheme.specs.Accepted.{SizeFits, StartFits, HorizonFits, RulesFit, BandsFit, SumsFit, PremiumsFit}
+use Rattle.scheme.specs.FirstCause.{_when_, firstOf, Line, tests, FirstFails}
 
 -- x is not one of 1 to max.
 abbrev pub outside : ℕ → ℕ → Bool
@@ -18,7 +21,7 @@ sizesOut s m = outside 32 s || outside 8 m
 
 -- Cause 3 of s classes and m columns.
 abbrev pub sizesCause : (s m : ℕ) → ℕ
-sizesCause s m = cond (sizesOut s m) 3 0
+sizesCause s m = 3 when sizesOut s m
 
 -- Cause 3: those of the scheme.
 unfoldable pub sizeOut : Scheme → Bool
@@ -53,36 +56,38 @@ sumOut s =
 unfoldable pub premiumOut : Scheme → Bool
 premiumOut s = anyBelow (s .classes) (λ i. ltb 10000000 (premiumAt s i))
 
--- The first of the causes 3 and 5 to 10 that applies, or 0; `moneyOut` is the test of cause 10.
-unfoldable pub causeWhere : Scheme → Bool → ℕ
-causeWhere s moneyOut =
-    cond (sizeOut s) 3
-    (cond (startOut s) 5
-    (cond (horizonOut s) 6
-    (cond (ruleOut s) 7
-    (cond (bandOut s) 8 (cond (sumOut s) 9
-    (cond moneyOut 10 0))))))
+-- The table's lines for a scheme by itself, in the order of their tests.
+abbrev pub schemeLines : Scheme → List Line
+schemeLines s =
+    record { number = 3; applies = sizeOut s; Fits = SizeFits s }
+    ∷ record { number = 5; applies = startOut s; Fits = StartFits s }
+    ∷ record { number = 6; applies = horizonOut s; Fits = HorizonFits s }
+    ∷ record { number = 7; applies = ruleOut s; Fits = RulesFit s }
+    ∷ record { number = 8; applies = bandOut s; Fits = BandsFit s }
+    ∷ record { number = 9; applies = sumOut s; Fits = SumsFit s }
+    ∷ record { number = 10; applies = premiumOut s; Fits = PremiumsFit s }
+    ∷ []
 
 -- The first cause that applies to the scheme by itself, or 0.
-abbrev pub causeOf : Scheme → ℕ
-causeOf s = causeWhere s (premiumOut s)
+unfoldable pub causeOf : Scheme → ℕ
+causeOf s = firstOf (tests (schemeLines s))
 
--- The first of two causes, tests in number order: 0 is none.
-abbrev pub orElse : ℕ → ℕ → ℕ
-orElse first second = cond (eqb first 0) second first
+-- A scheme with this cause: it is the first that applies.
+abbrev pub Refused : Scheme → ℕ → Type 1
+Refused s number = FirstFails (schemeLines s) number
 
 -- Cause 11: queried class 0 or above s.
 abbrev pub classCause : Scheme → ℕ → ℕ
-classCause s class = cond (outside (s .classes) class) 11 0
+classCause s class = 11 when outside (s .classes) class
 
 -- Cause 12: queried year above the horizon.
 abbrev pub yearCause : Scheme → ℕ → ℕ
-yearCause s year = cond (ltb (s .horizon) year) 12 0
+yearCause s year = 12 when ltb (s .horizon) year
 
 -- Cause 13: a lent slice that is not of the size asked for.
 abbrev pub sliceCause : (size given : ℕ) → ℕ
-sliceCause size given = cond (not (eqb given size)) 13 0
+sliceCause size given = 13 when not (eqb given size)
 
 -- Cause 13 of two slices that are to have one size.
 abbrev pub slicesCause : (size one other : ℕ) → ℕ
-slicesCause size one other = orElse (sliceCause size one) (sliceCause size other)
+slicesCause size one other = firstOf (sliceCause size one ∷ sliceCause size other ∷ [])

@@ -6,7 +6,7 @@ use lib.ListN.{replicate}
 use Rattle.setchain.specs.Sums.{sumTo, onlyIf}
 use Rattle.scheme.specs.declared.Scheme.{Scheme}
 use Rattle.scheme.specs.Tables.{anyBelow}
-use Rattle.scheme.specs.Cause.{sizeOut, startOut, horizonOut, ruleOut, bandOut, sumOut, premiumOut, causeWhere, causeOf, sliceCause, slicesCause}
+use Rattle.scheme.specs.Cause.{sizeOut, startOut, horizonOut, ruleOut, bandOut, sumOut, premiumOut, causeOf, sliceCause, slicesCause}
 use Rattle.scheme.specs.Rows.{chainOf}
 use Rattle.scheme.specs.Stored.{noScheme}
 
@@ -37,7 +37,7 @@ pub record RowsA : Type 0 where
   pub upper2 : (chainOf schemeA .row 1 .upper 0 ≡ 900000000) × (chainOf schemeA .row 1 .upper 1 ≡ 250000000)
 
 pub rows-a : RowsA
-unfolding causeWhere sizeOut startOut horizonOut ruleOut bandOut sumOut premiumOut anyBelow sumTo onlyIf
+unfolding causeOf sizeOut startOut horizonOut ruleOut bandOut sumOut premiumOut anyBelow sumTo onlyIf
 rows-a =
     record { accepted = refl; lower1 = (refl, refl); upper1 = (refl, refl); lower2 = (refl, refl); upper2 = (refl, refl) }
 
@@ -64,7 +64,7 @@ pub record CausesInOrder : Type 0 where
   pub none : causeOf (single 1 1000000000 1000000000 10000000) ≡ 0
 
 pub causes-in-order : CausesInOrder
-unfolding causeWhere sizeOut startOut horizonOut ruleOut bandOut sumOut premiumOut anyBelow sumTo
+unfolding causeOf sizeOut startOut horizonOut ruleOut bandOut sumOut premiumOut anyBelow sumTo
 causes-in-order = record { rule = refl; band = refl; sums = refl; premium = refl; none = refl }
 
 -- "number only": what stands beside it is 0 in every place.

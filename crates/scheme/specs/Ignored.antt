@@ -7,11 +7,12 @@ use Rattle.setchain.specs.Sums.{onlyIf}
 use Rattle.scheme.specs.declared.Scheme.{Scheme}
 use Rattle.scheme.specs.declared.RowAnswer.{RowAnswer}
 use Rattle.scheme.specs.Tables.{tab}
-use Rattle.scheme.specs.Cause.{premiumOut, causeOf, classCause}
+use Rattle.scheme.specs.Cause.{causeOf, classCause}
 use Rattle.scheme.specs.Stored.{cleared}
 use Rattle.scheme.specs.Values.{SameValues}
 use Rattle.scheme.specs.RowAnswer.{rowCause, rowRefused, rowAt, rowAnswer}
-use Rattle.scheme.specs.Laws.Cause.{first-none, second-none, class-fits, by-cause}
+use Rattle.scheme.specs.Laws.FirstCause.{first-none, second-none, by-cause}
+use Rattle.scheme.specs.Laws.Cause.{class-fits}
 use Rattle.scheme.specs.Laws.Values.{Alike, same, alike-cause, alike-values, alike-same, next-same, cleared-alike, class-same, row-same}
 
 -- "Values stored beyond s or m are ignored": every scheme, accepted or not, has the same first cause as with 0 for them.
@@ -30,7 +31,7 @@ alike-row {s} {s′} w class =
     by-cause cause
     (λ z.
     let fits = class-fits (s .classes) class (second-none (causeOf s) (classCause s class) z) in
-    row-at-same (alike-values w (premiumOut s) (first-none (causeOf s) (classCause s class) z)) (class - 1) (omega arith))
+    row-at-same (alike-values w (first-none (causeOf s) (classCause s class) z)) (class - 1) (omega arith))
     (ap rowRefused cause)
   where
     cause : rowCause s class ≡ rowCause s′ class

@@ -1,10 +1,11 @@
--- Read in this order: tables, the scheme's parts, what acceptance asks, the first cause, the code's stages, interval rows,
+-- Read in this order: tables, the scheme's parts, what acceptance asks, the first cause of a list, the causes, the code's stages, interval rows,
 -- the row operation's answer, what the cells of one class come to, what a made scheme holds, when two schemes have the same values or one is trimmed,
 -- worked cases.
 -- Ignored proves that values beyond s and m are ignored.
 pub mod Tables
 pub mod Access
 pub mod Accepted
+pub mod FirstCause
 pub mod Cause
 pub mod Stages
 pub mod Rows
@@ -12,6 +13,7 @@ pub mod RowAnswer
 pub mod SumByTarget
 pub mod Stored
 pub mod Values
+pub mod FirstCauseExamples
 pub mod Examples
 pub mod RowExamples
 pub mod SumByTargetExamples

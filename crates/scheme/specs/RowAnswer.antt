@@ -1,18 +1,20 @@
 -- The answer of the row operation (document 01, "Interval rows").
 use Prim.Native.Nat.{ℕ, _-_}
 use mathlib.Core.Bool.{cond}
+use mathlib.Core.List.{[], _∷_}
 use lib.Dec.{eqb, ltb}
 use lib.ListN.{replicate}
 use Rattle.setchain.specs.Sums.{onlyIf}
 use Rattle.scheme.specs.declared.Scheme.{Scheme}
 use Rattle.scheme.specs.declared.RowAnswer.{RowAnswer}
 use Rattle.scheme.specs.Tables.{tab}
-use Rattle.scheme.specs.Cause.{causeOf, orElse, classCause}
+use Rattle.scheme.specs.FirstCause.{firstOf}
+use Rattle.scheme.specs.Cause.{causeOf, classCause}
 use Rattle.scheme.specs.Rows.{chainOf}
 
 -- The cause of the row operation: 3, 5 to 10, then 11.
 abbrev pub rowCause : Scheme → ℕ → ℕ
-rowCause s class = orElse (causeOf s) (classCause s class)
+rowCause s class = firstOf (causeOf s ∷ classCause s class ∷ [])
 
 -- A refusal: the number, and 0 everywhere else.
 abbrev pub rowRefused : ℕ → RowAnswer

@@ -4,7 +4,7 @@ use mathlib.Core.Path.{_≡_, refl}
 use mathlib.Core.List.{List, [], _∷_}
 use Rattle.setchain.specs.Sums.{sumTo, onlyIf}
 use Rattle.scheme.specs.Tables.{anyBelow, tab}
-use Rattle.scheme.specs.Cause.{sizeOut, startOut, horizonOut, ruleOut, bandOut, sumOut, premiumOut, causeWhere}
+use Rattle.scheme.specs.Cause.{sizeOut, startOut, horizonOut, ruleOut, bandOut, sumOut, premiumOut, causeOf}
 use Rattle.scheme.specs.Examples.{padded, schemeA, single}
 use Rattle.scheme.specs.declared.RowAnswer.{RowAnswer}
 use Rattle.scheme.specs.RowAnswer.{rowRefused, rowAt, rowAnswer}
@@ -22,5 +22,5 @@ pub record RowAnswersA : Type 0 where
   pub declined : rowAnswer (single 2 0 1000000000 0) 2 ≡ rowRefused 7
 
 pub row-answers-a : RowAnswersA
-unfolding causeWhere sizeOut startOut horizonOut ruleOut bandOut sumOut premiumOut anyBelow sumTo onlyIf rowAt tab
+unfolding causeOf sizeOut startOut horizonOut ruleOut bandOut sumOut premiumOut anyBelow sumTo onlyIf rowAt tab
 row-answers-a = record { row1 = refl; row2 = refl; noClass = refl; beyond = refl; declined = refl }

@@ -8,7 +8,7 @@ use Rattle.setchain.specs.Sums.{sumTo}
 use Rattle.scheme.specs.declared.Scheme.{Scheme}
 use Rattle.scheme.specs.Tables.{anyBelow}
 use Rattle.scheme.specs.Access.{lowerAt, upperAt}
-use Rattle.scheme.specs.Cause.{sizeOut, startOut, horizonOut, ruleOut, bandOut, sumOut, premiumOut, causeWhere, causeOf}
+use Rattle.scheme.specs.Cause.{sizeOut, startOut, horizonOut, ruleOut, bandOut, sumOut, premiumOut, causeOf}
 use Rattle.scheme.specs.Values.{SameButBands, Trimmed}
 use Rattle.scheme.specs.Examples.{schemeA}
 use Rattle.scheme.specs.BeyondExamples.{otherA, strayA, three, beyond-a}
@@ -59,7 +59,7 @@ pub record TrimmedA : Type 0 where
   pub premium : ¬ Trimmed schemeA (otherA 2 3 2 2 2 0 50000000 15001)
 
 pub trimmed-a : TrimmedA
-unfolding causeWhere sizeOut startOut horizonOut ruleOut bandOut sumOut premiumOut anyBelow sumTo
+unfolding causeOf sizeOut startOut horizonOut ruleOut bandOut sumOut premiumOut anyBelow sumTo
 trimmed-a =
     record {
       narrowAccepted = refl;

@@ -1,7 +1,8 @@
 // The scheme of document 01, its limits and its refusal numbers.
 ghost use mathlib.Core.Path.{_≡_};
 ghost use Prim.Native.Nat.{_≤_};
-ghost use Rattle.scheme.specs.Cause.{outside, sizesCause, orElse, sliceCause, slicesCause};
+ghost use Rattle.scheme.specs.FirstCause.{orElse};
+ghost use Rattle.scheme.specs.Cause.{outside, sizesCause, sliceCause, slicesCause};
 ghost use Rattle.scheme.specs.Stored.{noScheme};
 
 // The limits of document 01, "Units and the scheme"; ONE is setchain's.

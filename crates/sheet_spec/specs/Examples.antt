@@ -10,7 +10,7 @@ use Rattle.setchain.specs.Step.{capacityBefore, fillRow, stepFigure}
 use Rattle.setchain.specs.Years.{yearsFigure}
 use Rattle.scheme.specs.Examples.{schemeA}
 use Rattle.scheme.specs.Tables.{tab, anyBelow}
-use Rattle.scheme.specs.Cause.{sizeOut, startOut, horizonOut, ruleOut, bandOut, sumOut, premiumOut, causeWhere}
+use Rattle.scheme.specs.Cause.{sizeOut, startOut, horizonOut, ruleOut, bandOut, sumOut, premiumOut, causeOf}
 use Rattle.record_spec.specs.Layout.{layoutIn}
 use Rattle.record_spec.specs.Joined.{joined}
 use Rattle.big_endian_spec.specs.Numbers.{beAt}
@@ -83,7 +83,7 @@ pub sheet-A : sheetText exampleA
     ∷ 89 ∷ 69 ∷ 65 ∷ 82 ∷ 32 ∷ 50 ∷ 32 ∷ 80 ∷ 82 ∷ 69 ∷ 77 ∷ 73 ∷ 85 ∷ 77 ∷ 32 ∷ 49 ∷ 48 ∷ 48 ∷ 53 ∷ 48 ∷ 32 ∷ 49 ∷ 48 ∷ 52 ∷ 48 ∷ 48 ∷ 10
     ∷ 84 ∷ 79 ∷ 84 ∷ 65 ∷ 76 ∷ 32 ∷ 50 ∷ 53 ∷ 53 ∷ 48 ∷ 48 ∷ 32 ∷ 50 ∷ 54 ∷ 48 ∷ 48 ∷ 48 ∷ 10
     ∷ []
-unfolding layoutIn sheetText frameCause beAt schemeOf upTo tab causeWhere sizeOut startOut horizonOut ruleOut bandOut sumOut premiumOut
+unfolding layoutIn sheetText frameCause beAt schemeOf upTo tab causeOf sizeOut startOut horizonOut ruleOut bandOut sumOut premiumOut
     anyBelow digitsWithin schemeLine classLine premiumLine yearLines totalLine sheetOf joined yearsFigure stepFigure fillRow capacityBefore sumTo onlyIf
 sheet-A = refl
 

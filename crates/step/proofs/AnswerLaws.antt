@@ -2,7 +2,7 @@
 -- Assumes nothing.
 use Prim.Native.Nat.{ℕ, _-_, _≤_, _<_}
 use mathlib.Core.Path.{_≡_, refl, ap, sym, _∙_, subst}
-use mathlib.Core.Bool.{Bool, true, false, cond, _||_}
+use mathlib.Core.Bool.{Bool, true, false, cond}
 use mathlib.Core.List.{List, _++_}
 use native.Mathlib.Decide.{ℕ-discrete}
 use native.Mathlib.Omega.{arith}
@@ -19,12 +19,14 @@ use Rattle.setchain.specs.Laws.Step.{reached-figure}
 use Rattle.scheme.specs.declared.Scheme.{Scheme}
 use Rattle.scheme.specs.declared.RowAnswer.{RowAnswer}
 use Rattle.scheme.specs.Accepted.{Accepted}
-use Rattle.scheme.specs.Cause.{outside, sizeOut, startOut, horizonOut, ruleOut, bandOut, sumOut, premiumOut, causeWhere, causeOf, orElse, classCause}
+use Rattle.scheme.specs.FirstCause.{_when_, orElse}
+use Rattle.scheme.specs.Cause.{outside, causeOf, classCause}
 use Rattle.scheme.specs.Tables.{tab}
 use Rattle.scheme.specs.Stages.{limitCause}
 use Rattle.scheme.specs.RowAnswer.{rowCause, rowRefused, rowAt, rowAnswer}
-use Rattle.scheme.specs.Laws.Cause.{first-cause, second-cause, declined, answered, first-none, second-none, test-none, class-fits}
-use Rattle.scheme.specs.Laws.Judged.{accepted-cause}
+use Rattle.scheme.specs.Laws.FirstCause.{first-cause, second-cause, declined, answered, first-none, second-none, test-none, cause-first}
+use Rattle.scheme.specs.Laws.Cause.{class-fits}
+use Rattle.scheme.specs.Laws.Judged.{accepted-cause, cause-most}
 use Rattle.scheme.specs.Laws.Sound.{accepted-sound}
 use Rattle.scheme.specs.Laws.Tables.{any-false}
 use Rattle.scheme.specs.Laws.Tab.{length-tab, getD-tab}
@@ -36,36 +38,7 @@ use Rattle.step.specs.Lists.{listsRow}
 use Rattle.step.specs.Answer.{schemeCause, stepRefused}
 use Rattle.step.specs.Step.{StepPre, StepPost}
 
--- A second test of cause 10 comes after all that the first has.
-joined : (a b c d e f g h : Bool)
-    → cond a 3 (cond b 5 (cond c 6 (cond d 7 (cond e 8 (cond f 9 (cond (g || h) 10 0))))))
-    ≡ orElse (cond a 3 (cond b 5 (cond c 6 (cond d 7 (cond e 8 (cond f 9 (cond g 10 0))))))) (cond h 10 0)
-joined true b c d e f g h = refl
-joined false true c d e f g h = refl
-joined false false true d e f g h = refl
-joined false false false true e f g h = refl
-joined false false false false true f g h = refl
-joined false false false false false true g h = refl
-joined false false false false false false true h = refl
-joined false false false false false false false h = refl
-
--- The causes of acceptance are 10 at most.
-most : (b : Bool) (x y : ℕ) → x ≤ 10 → y ≤ 10 → cond b x y ≤ 10
-most true x y h k = h
-most false x y h k = k
-
-cause-most : (s : Scheme) (moneyOut : Bool) → causeWhere s moneyOut ≤ 10
-unfolding causeWhere
-cause-most s moneyOut =
-    most (sizeOut s) 3 _ (omega arith)
-    (most (startOut s) 5 _ (omega arith)
-    (most (horizonOut s) 6 _ (omega arith)
-    (most (ruleOut s) 7 _ (omega arith)
-    (most (bandOut s) 8 _ (omega arith)
-    (most (sumOut s) 9 _ (omega arith)
-    (most moneyOut 10 0 (omega arith) (omega arith)))))))
-
--- So a number of 11 is the class's cause, and any other is theirs.
+-- The causes of a scheme are 10 at most: a number of 11 is the class's cause, and any other is the scheme's.
 apart : (a : ℕ) (out : Bool) → a ≤ 10 → schemeCause (orElse a (cond out 11 0)) ≡ a
 apart a out few = by (ℕ-discrete a 0)
   where
@@ -80,14 +53,7 @@ apart a out few = by (ℕ-discrete a 0)
 module _ (s : Scheme) (payoff : List ℕ) (class : ℕ) where
   -- Cause 10 of the payoffs.
   payoffCause : ℕ
-  payoffCause = limitCause 1000000000 payoff (s .classes)
-
-  -- The causes in the order of the code's tests.
-  in-turn : stepCause s payoff class ≡ orElse (orElse (causeOf s) payoffCause) (classCause s class)
-  unfolding causeWhere payoffOut payoffCause
-  in-turn =
-      ap (λ x. orElse x (classCause s class))
-      (joined (sizeOut s) (startOut s) (horizonOut s) (ruleOut s) (bandOut s) (sumOut s) (premiumOut s) (payoffOut s payoff))
+  payoffCause = 10 when payoffOut s payoff
 
   -- A call that is declined: the number, and 0 everywhere else.
   pub step-declined : {high : Bool} {r : StepAnswer} (n : ℕ) → r ≡ stepRefused n → n ≡ stepCause s payoff class → (n ≡ 0 → ⊥) → StepAnswered high s payoff class r
@@ -115,14 +81,11 @@ module _ (s : Scheme) (payoff : List ℕ) (class : ℕ) where
     module _ {own : ℕ} (owns : own ≡ schemeCause (interval .number)) where
       -- The scheme's own cause.
       own-is : own ≡ causeOf s
-      own-is = owns ∙ ap schemeCause number-is ∙ apart (causeOf s) (outside (s .classes) class) (cause-most s (premiumOut s))
+      own-is = owns ∙ ap schemeCause number-is ∙ apart (causeOf s) (outside (s .classes) class) (cause-most s)
 
       -- Comes first.
       pub cause-scheme : (own ≡ 0 → ⊥) → own ≡ stepCause s payoff class
-      cause-scheme h =
-          let some : causeOf s ≡ 0 → ⊥ = λ z. h (own-is ∙ z) in
-          let first : orElse (causeOf s) payoffCause ≡ causeOf s = first-cause (causeOf s) payoffCause some in
-          own-is ∙ sym (in-turn ∙ ap (λ n. orElse n (classCause s class)) first ∙ first-cause (causeOf s) (classCause s class) some)
+      cause-scheme h = cause-first _ own-is h
 
       module _ (none : own ≡ 0) where
         -- Without one there are 32 classes at most.
@@ -131,37 +94,39 @@ module _ (s : Scheme) (payoff : List ℕ) (class : ℕ) where
 
         -- And the payoffs' cause comes before the class's.
         pub cause-later : orElse (limitCause 1000000000 payoff (s .classes)) (interval .number) ≡ stepCause s payoff class
-        unfolding payoffCause
+        unfolding payoffOut
         cause-later =
             let accepted : causeOf s ≡ 0 = sym own-is ∙ none in
-            ap (orElse payoffCause) (number-is ∙ second-cause (causeOf s) (classCause s class) accepted)
-            ∙ ap (λ n. orElse n (classCause s class)) (sym (second-cause (causeOf s) payoffCause accepted))
-            ∙ sym in-turn
+            ap (orElse (10 when payoffOut s payoff)) (number-is ∙ second-cause (causeOf s) (classCause s class) accepted) ∙ sym (second-cause (causeOf s) _ accepted)
 
     -- A call that is not declined.
     module _ {number : ℕ} (counts : number ≡ stepCause s payoff class) (none : number ≡ 0) where
-      -- Its causes in turn are all 0.
-      turn-none : orElse (orElse (causeOf s) payoffCause) (classCause s class) ≡ 0
-      turn-none = sym in-turn ∙ sym counts ∙ none
+      -- The causes in turn are all 0: the scheme's,
+      scheme-none : causeOf s ≡ 0
+      scheme-none = first-none (causeOf s) _ (sym counts ∙ none)
 
-      -- Those before the class's too.
-      before-none : orElse (causeOf s) payoffCause ≡ 0
-      before-none = first-none (orElse (causeOf s) payoffCause) (classCause s class) turn-none
+      later-none : orElse payoffCause (classCause s class) ≡ 0
+      unfolding payoffCause
+      later-none = second-none (causeOf s) _ (sym counts ∙ none)
+
+      -- and the class's.
+      class-none : classCause s class ≡ 0
+      class-none = second-none payoffCause (classCause s class) later-none
 
       -- So the scheme is accepted.
       ok : Accepted s
-      ok = accepted-cause s (first-none (causeOf s) payoffCause before-none)
+      ok = accepted-cause s scheme-none
 
       -- The class is one of 1 to s.
       range : (1 ≤ class) × (class ≤ s .classes)
-      range = class-fits (s .classes) class (second-none (orElse (causeOf s) payoffCause) (classCause s class) turn-none)
+      range = class-fits (s .classes) class class-none
 
       -- And no payoff is above its limit.
       payoff-fits : (j : ℕ) → j < s .classes → at payoff j ≤ 1000000000
-      unfolding payoffCause
+      unfolding payoffCause payoffOut
       payoff-fits j l =
           ltb-false 1000000000 (at payoff j)
-          (any-false (s .classes) (λ i. ltb 1000000000 (at payoff i)) (test-none _ 10 (omega arith) (second-none (causeOf s) payoffCause before-none)) j l)
+          (any-false (s .classes) (λ i. ltb 1000000000 (at payoff i)) (test-none _ 10 (omega arith) (first-none payoffCause (classCause s class) later-none)) j l)
 
       -- Its row is sound.
       sound : SoundRow (s .classes) (classRow s class)
@@ -172,8 +137,7 @@ module _ (s : Scheme) (payoff : List ℕ) (class : ℕ) where
       entries-are =
           is
           ∙ answered (rowCause s class) (rowAt s (class - 1)) (rowRefused (rowCause s class))
-          (second-cause (causeOf s) (classCause s class) (first-none (causeOf s) payoffCause before-none)
-          ∙ second-none (orElse (causeOf s) payoffCause) (classCause s class) turn-none)
+          (second-cause (causeOf s) (classCause s class) scheme-none ∙ class-none)
 
       -- With a lower and an upper entry for each class.
       pub entries-fit : (s .classes ≤ length (interval .lower)) × (s .classes ≤ length (interval .upper))

@@ -11,7 +11,7 @@ use Rattle.setchain.specs.Rows.{ONE}
 use Rattle.setchain.specs.Laws.Sums.{below-two}
 use Rattle.setchain.specs.Step.{capacityBefore, fillRow, stepFigure, Reaches}
 use Rattle.scheme.specs.Tables.{tab, anyBelow}
-use Rattle.scheme.specs.Cause.{sizeOut, startOut, horizonOut, ruleOut, bandOut, sumOut, premiumOut, causeWhere}
+use Rattle.scheme.specs.Cause.{sizeOut, startOut, horizonOut, ruleOut, bandOut, sumOut, premiumOut, causeOf}
 use Rattle.scheme.specs.Examples.{schemeA}
 use Rattle.step_spec.specs.declared.StepAnswer.{StepAnswer}
 use Rattle.step_spec.specs.StepAnswer.{payoffOut, stepCause, classRow, StepAnswered}
@@ -27,12 +27,12 @@ figures-a = (refl, refl)
 
 -- No cause; a class that there is not; and, before that, a payoff above its limit.
 pub causes-a : (stepCause schemeA thirtyTen 2 ≡ 0) × (stepCause schemeA thirtyTen 3 ≡ 11) × (stepCause schemeA (30 ∷ 1000000001 ∷ []) 3 ≡ 10)
-unfolding payoffOut causeWhere sizeOut startOut horizonOut ruleOut bandOut sumOut premiumOut anyBelow sumTo tab
+unfolding payoffOut causeOf sizeOut startOut horizonOut ruleOut bandOut sumOut premiumOut anyBelow sumTo tab
 causes-a = (refl, refl, refl)
 
 -- A payoff at its limit, and one above it that is stored beyond s.
 pub limits-a : (stepCause schemeA (30 ∷ 1000000000 ∷ []) 2 ≡ 0) × (stepCause schemeA (30 ∷ 10 ∷ 1000000001 ∷ []) 2 ≡ 0)
-unfolding payoffOut causeWhere sizeOut startOut horizonOut ruleOut bandOut sumOut premiumOut anyBelow sumTo tab
+unfolding payoffOut causeOf sizeOut startOut horizonOut ruleOut bandOut sumOut premiumOut anyBelow sumTo tab
 limits-a = (refl, refl)
 
 -- The row that reaches the low figure: four fifths and one fifth, and 0 for the other 30.
@@ -81,7 +81,7 @@ pub record StepAnswers : Type 0 where
   pub declinedRow : StepAnswered false schemeA thirtyTen 3 (answerA 11 0 (1 ∷ replicate 31 0)) → ⊥
 
 pub step-answers : StepAnswers
-unfolding payoffOut causeWhere sizeOut startOut horizonOut ruleOut bandOut sumOut premiumOut anyBelow tab stepFigure fillRow capacityBefore sumTo onlyIf
+unfolding payoffOut causeOf sizeOut startOut horizonOut ruleOut bandOut sumOut premiumOut anyBelow tab stepFigure fillRow capacityBefore sumTo onlyIf
 step-answers =
     record {
       answered = record { number = refl; figure = refl; size = refl; declinedRow = λ some. absurd (some refl); beyond = λ none. beyond-a; reaches = λ none. reaches-a };

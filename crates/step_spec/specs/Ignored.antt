@@ -1,19 +1,21 @@
 -- The one-year step looks at no value beyond s and m, and at no payoff beyond s (document 01, "Units and the scheme" and "One year").
 use Prim.Native.Nat.{ℕ, _-_, _<_}
 use mathlib.Core.Path.{_≡_, refl, ap, ap₂, sym, _∙_, subst₂}
-use mathlib.Core.Bool.{Bool, _||_}
+use mathlib.Core.Bool.{Bool}
 use mathlib.Core.List.{List}
 use lib.Dec.{ltb}
 use native.Mathlib.Omega.{arith}
 use Rattle.setchain.specs.Step.{stepFigure, Reaches}
 use Rattle.setchain.specs.Laws.Agreeing.{agree-refl, step-agrees, reaches-agree}
 use Rattle.scheme.specs.declared.Scheme.{Scheme}
-use Rattle.scheme.specs.Cause.{premiumOut, causeWhere, classCause}
+use Rattle.scheme.specs.FirstCause.{_when_, orElse}
+use Rattle.scheme.specs.Cause.{causeOf, classCause}
 use Rattle.scheme.specs.Stored.{schemeOf, cleared}
 use Rattle.scheme.specs.Values.{SameValues}
 use Rattle.scheme.specs.Laws.Tables.{any-eq}
-use Rattle.scheme.specs.Laws.Cause.{first-none, second-none, class-fits, by-cause}
-use Rattle.scheme.specs.Laws.Values.{Alike, same, alike-where, alike-values, alike-back, cleared-alike, premiums-same, class-same, row-same}
+use Rattle.scheme.specs.Laws.FirstCause.{first-none, second-none, by-cause}
+use Rattle.scheme.specs.Laws.Cause.{class-fits}
+use Rattle.scheme.specs.Laws.Values.{Alike, same, next-same, alike-values, alike-same, alike-back, cleared-alike, class-same, row-same}
 use Rattle.setchain.specs.Sums.{at}
 use Rattle.step_spec.specs.declared.StepAnswer.{StepAnswer}
 use Rattle.step_spec.specs.StepAnswer.{payoffOut, stepCause, classRow, StepAnswered}
@@ -23,18 +25,16 @@ module _ {s s′ : Scheme} (w : Alike s s′) (payoff payoff′ : List ℕ) (pay
   cause-same : stepCause s payoff class ≡ stepCause s′ payoff′ class
   unfolding payoffOut
   cause-same =
-      by-cause cause (λ z. class-same (alike-values w _ z .others) class) cause
-    where
-      cause : causeWhere s (premiumOut s || payoffOut s payoff) ≡ causeWhere s′ (premiumOut s′ || payoffOut s′ payoff′)
-      cause = alike-where w (λ v. ap₂ _||_ (premiums-same (v .others)) (any-eq (v .others .classes) _ _ (λ i l. ap (ltb 1000000000) (payoffs i l))))
+      next-same (alike-same w)
+      (λ v. ap₂ (λ b n. orElse (10 when b) n) (any-eq (v .classes) _ _ (λ i l. ap (ltb 1000000000) (payoffs i l))) (class-same v class))
 
   module _ (z : stepCause s payoff class ≡ 0) where
     values : SameValues s s′
-    values = alike-values w _ (first-none (causeWhere s (premiumOut s || payoffOut s payoff)) (classCause s class) z)
+    values = alike-values w (first-none (causeOf s) _ z)
 
     row : classRow s class ≡ classRow s′ class
     row =
-        let fits = class-fits (s .classes) class (second-none (causeWhere s (premiumOut s || payoffOut s payoff)) (classCause s class) z) in
+        let fits = class-fits (s .classes) class (second-none (10 when payoffOut s payoff) (classCause s class) (second-none (causeOf s) _ z)) in
         row-same values (class - 1) (omega arith)
 
   alike-step : (high : Bool) (r : StepAnswer) → StepAnswered high s payoff class r → StepAnswered high s′ payoff′ class r

@@ -1,15 +1,16 @@
 -- The answer of the public one-year step (document 01, "One year").
 use Prim.Native.Nat.{ℕ, _-_, _≤_}
 use mathlib.Core.Path.{_≡_}
-use mathlib.Core.Bool.{Bool, cond, _||_}
-use mathlib.Core.List.{List}
+use mathlib.Core.Bool.{Bool, cond}
+use mathlib.Core.List.{List, [], _∷_}
 use lib.Dec.{eqb, ltb}
 use lib.ListN.{length, replicate}
 use Rattle.setchain.specs.Rows.{IntervalRow}
 use Rattle.setchain.specs.Step.{stepFigure, Reaches}
 use Rattle.scheme.specs.declared.Scheme.{Scheme}
 use Rattle.scheme.specs.Tables.{anyBelow}
-use Rattle.scheme.specs.Cause.{premiumOut, causeWhere, orElse, classCause}
+use Rattle.scheme.specs.FirstCause.{_when_, firstOf}
+use Rattle.scheme.specs.Cause.{causeOf, classCause}
 use Rattle.scheme.specs.Rows.{chainOf}
 use Rattle.step_spec.specs.declared.StepAnswer.{StepAnswer}
 use Rattle.setchain.specs.Sums.{at}
@@ -18,9 +19,9 @@ use Rattle.setchain.specs.Sums.{at}
 unfoldable pub payoffOut : Scheme → List ℕ → Bool
 payoffOut s payoff = anyBelow (s .classes) (λ i. ltb 1000000000 (at payoff i))
 
--- Causes 3, 5 to 9, then 10, "a premium above 10,000,000, or in the one-year step a payoff above its limit", then 11.
+-- Causes 3, 5 to 10, then 10, "or in the one-year step a payoff above its limit", then 11.
 abbrev pub stepCause : Scheme → List ℕ → ℕ → ℕ
-stepCause s payoff class = orElse (causeWhere s (premiumOut s || payoffOut s payoff)) (classCause s class)
+stepCause s payoff class = firstOf (causeOf s ∷ 10 when payoffOut s payoff ∷ classCause s class ∷ [])
 
 -- The interval row of a class, numbered from 1.
 abbrev pub classRow : Scheme → ℕ → IntervalRow

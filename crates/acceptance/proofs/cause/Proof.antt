@@ -1,6 +1,7 @@
 -- `cause` meets its contract: the stages of `Laws.Cause`, in their order.
 use mathlib.Core.Path.{ap₂, _∙_}
-use Rattle.scheme.specs.Cause.{ruleOut, premiumOut, orElse}
+use Rattle.scheme.specs.FirstCause.{orElse}
+use Rattle.scheme.specs.Cause.{ruleOut, premiumOut}
 use Rattle.scheme.specs.Accepted.{SizeFits}
 use Rattle.scheme.specs.Laws.Cause.{size-fits, cause-form, cause-later}
 use Rattle.acceptance.proofs.cause.Statement.{statement}
@@ -10,11 +11,11 @@ form-cause-requires : tie.Need-form-cause-requires
 form-cause-requires c κs = tt
 
 returns : tie.Need-returns
-returns c = cause-form _ _ _ (c .before .form-cause .ensures) (c .if1 .taken)
+returns c = cause-form _ (c .before .form-cause .ensures) (c .if1 .taken)
 
 -- A form without a cause fits.
 fits : (c : tie.Else1) → SizeFits (c .before .before .args .scheme)
-fits c = size-fits _ _ (c .before .form-cause .ensures) (c .if1 .left)
+fits c = size-fits _ (c .before .form-cause .ensures) (c .if1 .left)
 
 rule-cause-requires : tie.Need-rule-cause-requires
 rule-cause-requires c κs =
@@ -51,7 +52,7 @@ returns-2 c =
     c .or-else2 .ensures
     ∙ ap₂ (λ a b. orElse a b) (at-rule-cause .rule-cause .ensures)
     (c .before .or-else .ensures ∙ ap₂ (λ a b. orElse a b) (at-band-cause .band-cause .ensures) (at-premium-cause .premium-cause .ensures))
-    ∙ cause-later (at-form .before .before .args .scheme) _ _ (at-form .before .form-cause .ensures) (at-form .if1 .left)
+    ∙ cause-later (at-form .before .before .args .scheme) (at-form .before .form-cause .ensures) (at-form .if1 .left)
 
 pub cause-spec : {M : Type 1} → statement M
 cause-spec =

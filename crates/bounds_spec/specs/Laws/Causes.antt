@@ -2,8 +2,9 @@
 use Prim.Native.Nat.{ℕ, suc, _+_, _*_}
 use mathlib.Core.Path.{_≡_, ap, ap₂}
 use Rattle.scheme.specs.declared.Scheme.{Scheme}
-use Rattle.scheme.specs.Cause.{causeOf, orElse, classCause, yearCause, slicesCause}
-use Rattle.scheme.specs.Laws.Cause.{first-none, by-cause}
+use Rattle.scheme.specs.FirstCause.{orElse}
+use Rattle.scheme.specs.Cause.{causeOf, classCause, yearCause, slicesCause}
+use Rattle.scheme.specs.Laws.FirstCause.{first-none, by-cause}
 use Rattle.scheme.specs.Laws.Values.{SameCause, next-same, class-same, year-same}
 use Rattle.bounds_spec.specs.Causes.{shareCause, moneyCause, sheetLengthsCause, tableSize, tableLengthsCause}
 

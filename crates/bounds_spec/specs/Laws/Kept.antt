@@ -15,7 +15,7 @@ use Rattle.scheme.specs.declared.Scheme.{Scheme}
 use Rattle.scheme.specs.Access.{premiumAt}
 use Rattle.scheme.specs.Accepted.{Accepted}
 use Rattle.scheme.specs.Rows.{chainOf}
-use Rattle.scheme.specs.Laws.Cause.{declined, answered}
+use Rattle.scheme.specs.Laws.FirstCause.{declined, answered}
 use Rattle.scheme.specs.Laws.Judged.{accepted-cause}
 use Rattle.scheme.specs.Laws.Sound.{accepted-sound}
 use Rattle.scheme.specs.Laws.Tab.{getD-tab}

@@ -7,7 +7,7 @@ use native.Mathlib.Omega.{arith}
 use native.Mathlib.Decide.{ℕ-discrete}
 use lib.ListN.{length, set}
 use borrow.Author.Tests.{eq-eqb, ne-eqb}
-use Rattle.scheme.specs.Laws.Cause.{declined, first-none, second-none}
+use Rattle.scheme.specs.Laws.FirstCause.{declined, first-none, second-none}
 use Rattle.joguyvi_spec.specs.Buffers.{bufferCause, buffersCause, filledWhere}
 
 -- A buffer of another length, and one that fits.

@@ -1,11 +1,12 @@
 -- The number answered: one cause before another, and the cause of reading a record before the rest.
 -- Assumes nothing.
 use Prim.Native.Nat.{ℕ}
-use mathlib.Core.Path.{_≡_, ap, sym, _∙_}
+use mathlib.Core.Path.{_≡_, ap, _∙_}
 use mathlib.Core.Bool.{Bool, true, false, cond}
 use mathlib.Core.List.{List}
-use Rattle.scheme.specs.Cause.{causeOf, orElse}
-use Rattle.scheme.specs.Laws.Cause.{first-cause, second-cause, second-none}
+use Rattle.scheme.specs.FirstCause.{orElse}
+use Rattle.scheme.specs.Cause.{causeOf}
+use Rattle.scheme.specs.Laws.FirstCause.{second-none, cause-first, cause-second}
 use Rattle.record_spec.specs.declared.ReadAnswer.{ReadAnswer}
 use Rattle.record_spec.specs.Layout.{schemeIn}
 use Rattle.record_spec.specs.Read.{frameCause, readCause, readAnswer}
@@ -15,13 +16,6 @@ use Rattle.record_spec.specs.Laws.Read.{read-cause, read-passed, read-in}
 pub cause-only : (b : Bool) (k : ℕ) {n : ℕ} → n ≡ cond b k 0 → (n ≡ 0 → ⊥) → n ≡ k
 cause-only true k e some = e
 cause-only false k e some = absurd (some e)
-
--- The first cause, and the second where there is no first.
-pub cause-first : {n first : ℕ} (second : ℕ) → n ≡ first → (n ≡ 0 → ⊥) → n ≡ orElse first second
-cause-first {n} {first} second e some = e ∙ sym (first-cause first second (λ z. some (e ∙ z)))
-
-pub cause-second : {n first second : ℕ} → first ≡ 0 → n ≡ second → n ≡ orElse first second
-cause-second {n} {first} {second} none e = e ∙ sym (second-cause first second none)
 
 -- A record with a cause of reading, and without.
 module _ (bytes : List ℕ) {a : ReadAnswer} (is : a ≡ readAnswer bytes) where

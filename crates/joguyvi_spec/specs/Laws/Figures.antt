@@ -6,7 +6,7 @@ use mathlib.Core.List.{List}
 use Rattle.setchain.specs.Fractions.{Fraction}
 use Rattle.setchain.specs.Picks.{Matrix}
 use Rattle.scheme.specs.declared.Scheme.{Scheme}
-use Rattle.scheme.specs.Laws.Cause.{answered, first-none, second-none}
+use Rattle.scheme.specs.Laws.FirstCause.{answered, first-none, second-none}
 use Rattle.record_spec.specs.Layout.{schemeIn}
 use Rattle.record_spec.specs.Read.{readCause}
 use Rattle.bounds_spec.specs.declared.Bounds.{Bounds}

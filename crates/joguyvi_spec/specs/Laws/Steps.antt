@@ -7,8 +7,8 @@ use mathlib.Core.List.{List, [], _∷_}
 use lib.ListN.{length, getD}
 use Rattle.setchain.specs.Step.{Reaches}
 use Rattle.scheme.specs.declared.Scheme.{Scheme}
-use Rattle.scheme.specs.Cause.{orElse}
-use Rattle.scheme.specs.Laws.Cause.{declined, answered, by-cause, first-none, second-none}
+use Rattle.scheme.specs.FirstCause.{orElse}
+use Rattle.scheme.specs.Laws.FirstCause.{declined, answered, by-cause, first-none, second-none}
 use Rattle.record_spec.specs.Layout.{schemeIn}
 use Rattle.record_spec.specs.Read.{readCause}
 use Rattle.step_spec.specs.declared.StepAnswer.{StepAnswer}

@@ -5,10 +5,10 @@ use mathlib.Core.Path.{_≡_, ap, sym, _∙_}
 use mathlib.Core.List.{List, [], _∷_}
 use native.Mathlib.Decide.{ℕ-discrete}
 use lib.ListN.{length, set}
-use Rattle.scheme.specs.Cause.{orElse}
+use Rattle.scheme.specs.FirstCause.{orElse}
 use Rattle.joguyvi_spec.specs.Buffers.{bufferCause, BuffersPost}
 use Rattle.joguyvi_spec.specs.Laws.Buffers.{buffer-out, buffer-fits, thirteen, unfilled, one}
-use Rattle.joguyvi_spec.specs.Laws.Causes.{cause-first, cause-second}
+use Rattle.scheme.specs.Laws.FirstCause.{cause-first, cause-second}
 
 -- What is answered and left for a text of length v with the cause n, where `out` is then to hold `full`.
 abbrev pub TextPost : (n v : ℕ) (full out size : List ℕ) (number : ℕ) (out′ size′ : List ℕ) → Type 0

@@ -8,7 +8,8 @@ use native.Mathlib.Nat.{mul-le-mul-right}
 use lib.ListN.{length, take, drop}
 use borrow.Author.Tests.{eq-eqb, ne-eqb}
 use Rattle.scheme.specs.Cause.{outside}
-use Rattle.scheme.specs.Laws.Cause.{class-fits, first-cause, second-cause, first-none, second-none}
+use Rattle.scheme.specs.Laws.FirstCause.{first-cause, second-cause, first-none, second-none}
+use Rattle.scheme.specs.Laws.Cause.{class-fits}
 use Rattle.record_spec.specs.Layout.{layoutIn, rowPlace, classesIn, columnsIn}
 use Rattle.record_spec.specs.Frame.{Framed}
 use Rattle.record_spec.specs.Read.{readCause}

@@ -1,26 +1,22 @@
 -- The causes 1 to 4 of a record's bytes, by cases.
 use Prim.Native.Nat.{ℕ, _+_, _*_, _≤_, _<_}
 use mathlib.Core.Path.{_≡_, refl, sym, _∙_}
-use mathlib.Core.Bool.{not, _||_}
+use mathlib.Core.Bool.{not}
 use mathlib.Core.List.{List}
 use native.Mathlib.Omega.{arith}
 use native.Mathlib.Nat.{mul-le-mul}
 use lib.Dec.{eqb, ltb}
 use lib.ListN.{length, getD}
-use borrow.Author.Tests.{ltb-false, eqb-true, not-false, eq-eqb, ne-eqb, le-ltb}
-use Rattle.scheme.specs.Cause.{sizesCause, orElse}
-use Rattle.scheme.specs.Laws.Cause.{inside-outside, sizes-clear, first-cause, second-cause, first-none, second-none, test-none}
+use borrow.Author.Tests.{ltb-false, eqb-true, eqb-false, not-false, eq-eqb, ne-eqb, le-ltb}
+use Rattle.scheme.specs.FirstCause.{_when_, orElse}
+use Rattle.scheme.specs.Cause.{sizesOut, sizesCause}
 use Rattle.scheme.specs.Laws.Tables.{or-false-left, or-false-right}
+use Rattle.scheme.specs.Laws.FirstCause.{first-cause, second-cause, second-none, test-none, or-assoc, Tells, Told, all-fit, none-applies, first-most}
+use Rattle.scheme.specs.Laws.Cause.{inside-outside, sizes-inside}
 use Rattle.big_endian_spec.specs.Numbers.{beAt}
 use Rattle.record_spec.specs.Layout.{HEADER, layoutIn, lengthOf, classesIn, columnsIn}
-use Rattle.record_spec.specs.Read.{versionCause, fieldCause, lengthCause, frameCause}
-use Rattle.record_spec.specs.Frame.{Framed}
-
--- The header of bytes without the causes 1 and 2.
-pub head-long : (bytes : List ℕ) → orElse (versionCause bytes) (fieldCause bytes) ≡ 0 → HEADER ≤ length bytes
-head-long bytes e =
-    let test = test-none (ltb (length bytes) HEADER || not (eqb (beAt 2 bytes 1) (length bytes))) 2 (omega arith) (second-none (versionCause bytes) (fieldCause bytes) e) in
-    ltb-false (length bytes) HEADER (or-false-left (ltb (length bytes) HEADER) _ test)
+use Rattle.record_spec.specs.Frame.{VersionFits, FieldFits, SizesFit, LengthFits, Framed}
+use Rattle.record_spec.specs.Read.{versionOut, fieldOut, lengthOut, frameLines, frameCause}
 
 -- The first byte alone tells the layout.
 pub layout-same : (a b : List ℕ) → getD a 0 0 ≡ getD b 0 0 → layoutIn a ≡ layoutIn b
@@ -32,27 +28,87 @@ none-further : (bytes : List ℕ) (k : ℕ) → k < layoutIn bytes .further → 
 unfolding layoutIn
 none-further bytes k l = absurd (omega arith)
 
--- Bytes without the causes 1 to 4 are framed.
-pub frame-clear : (bytes : List ℕ) → frameCause bytes ≡ 0 → Framed bytes
-unfolding frameCause
-frame-clear bytes e =
-    let head = first-none (orElse (versionCause bytes) (fieldCause bytes)) _ e in
-    let shape = second-none (orElse (versionCause bytes) (fieldCause bytes)) _ e in
-    let version = test-none (eqb (length bytes) 0 || not (eqb (getD bytes 0 0) (layoutIn bytes .version))) 1 (omega arith) (first-none (versionCause bytes) (fieldCause bytes) head) in
-    let field = test-none (ltb (length bytes) HEADER || not (eqb (beAt 2 bytes 1) (length bytes))) 2 (omega arith) (second-none (versionCause bytes) (fieldCause bytes) head) in
-    let sizes = sizes-clear (classesIn bytes) (columnsIn bytes) (first-none (sizesCause (classesIn bytes) (columnsIn bytes)) _ shape) in
-    let whole = test-none (not (eqb (length bytes) (lengthOf (layoutIn bytes) (classesIn bytes) (columnsIn bytes)))) 4 (omega arith) (second-none (sizesCause (classesIn bytes) (columnsIn bytes)) _ shape) in
-    record {
-      version = eqb-true (getD bytes 0 0) (layoutIn bytes .version) (not-false _ (or-false-right (eqb (length bytes) 0) _ version));
-      header = head-long bytes head;
-      field = eqb-true (beAt 2 bytes 1) (length bytes) (not-false _ (or-false-right (ltb (length bytes) HEADER) _ field));
-      someClass = sizes .0 .0;
-      classes = sizes .0 .1;
-      someColumn = sizes .1 .0;
-      columns = sizes .1 .1;
-      whole = eqb-true (length bytes) _ (not-false _ whole);
-      further = none-further bytes;
-    }
+-- Each test of the table tells what its line asks for.
+module _ (bytes : List ℕ) where
+  version-tells : Tells (versionOut bytes) (VersionFits bytes)
+  version-tells =
+      record {
+        fits = λ e.
+            let some : (length bytes ≡ 0 → ⊥) = eqb-false (length bytes) 0 (or-false-left (eqb (length bytes) 0) (not (eqb (getD bytes 0 0) (layoutIn bytes .version))) e) in
+            record { some = omega arith; version = eqb-true (getD bytes 0 0) (layoutIn bytes .version) (not-false _ (or-false-right (eqb (length bytes) 0) _ e)) };
+        passes = λ h. simp (ne-eqb (length bytes) 0 (λ e. omega (arith, h .some)), eq-eqb (getD bytes 0 0) (layoutIn bytes .version) (h .version));
+      }
+
+  field-tells : Tells (fieldOut bytes) (FieldFits bytes)
+  field-tells =
+      record {
+        fits = λ e.
+            record {
+              header = ltb-false (length bytes) HEADER (or-false-left (ltb (length bytes) HEADER) (not (eqb (beAt 2 bytes 1) (length bytes))) e);
+              field = eqb-true (beAt 2 bytes 1) (length bytes) (not-false _ (or-false-right (ltb (length bytes) HEADER) _ e));
+            };
+        passes = λ h. simp (le-ltb (length bytes) HEADER (h .header), eq-eqb (beAt 2 bytes 1) (length bytes) (h .field));
+      }
+
+  sizes-tell : Tells (sizesOut (classesIn bytes) (columnsIn bytes)) (SizesFit bytes)
+  sizes-tell =
+      record {
+        fits = λ e.
+            let sizes = sizes-inside (classesIn bytes) (columnsIn bytes) e in
+            record { someClass = sizes .0 .0; classes = sizes .0 .1; someColumn = sizes .1 .0; columns = sizes .1 .1 };
+        passes = λ h. simp (inside-outside 32 (classesIn bytes) (h .someClass) (h .classes), inside-outside 8 (columnsIn bytes) (h .someColumn) (h .columns));
+      }
+
+  length-tells : Tells (lengthOut bytes) (LengthFits bytes)
+  length-tells =
+      record {
+        fits = λ e. record { whole = eqb-true (length bytes) _ (not-false _ e) };
+        passes = λ h. simp (eq-eqb (length bytes) (lengthOf (layoutIn bytes) (classesIn bytes) (columnsIn bytes)) (h .whole));
+      }
+
+  told : Told (frameLines bytes)
+  told = ((omega arith, version-tells), ((omega arith, field-tells), ((omega arith, sizes-tell), ((omega arith, length-tells), tt))))
+
+  -- Bytes without the causes 1 to 4 are framed.
+  pub frame-clear : frameCause bytes ≡ 0 → Framed bytes
+  unfolding frameCause
+  frame-clear e =
+      let (version, (field, (sizes, (length, last)))) = all-fit (frameLines bytes) told e in
+      record {
+        version = version .version;
+        header = field .header;
+        field = field .field;
+        someClass = sizes .someClass;
+        classes = sizes .classes;
+        someColumn = sizes .someColumn;
+        columns = sizes .columns;
+        whole = length .whole;
+        further = none-further bytes;
+      }
+
+  -- Framed bytes have none of the causes 1 to 4.
+  pub framed : Framed bytes → frameCause bytes ≡ 0
+  unfolding frameCause
+  framed h =
+      none-applies (frameLines bytes) told (
+        record { some = omega (arith, h .header); version = h .version },
+        (
+          record { header = h .header; field = h .field },
+          (
+            record { someClass = h .someClass; classes = h .classes; someColumn = h .someColumn; columns = h .columns },
+            (record { whole = h .whole }, tt),
+          ),
+        ),
+      )
+
+  -- They are 4 at most.
+  pub frame-most : frameCause bytes ≤ 4
+  unfolding frameCause
+  frame-most = first-most 4 (frameLines bytes) (omega arith, (omega arith, (omega arith, (omega arith, tt))))
+
+-- The header of bytes without the causes 1 and 2.
+pub head-long : (bytes : List ℕ) → orElse (1 when versionOut bytes) (2 when fieldOut bytes) ≡ 0 → HEADER ≤ length bytes
+head-long bytes e = field-tells bytes .fits (test-none (fieldOut bytes) 2 (omega arith) (second-none (1 when versionOut bytes) (2 when fieldOut bytes) e)) .header
 
 -- "at most 455".
 pub framed-short : {bytes : List ℕ} → Framed bytes → length bytes ≤ 455
@@ -62,25 +118,22 @@ framed-short {bytes} f =
     omega (arith, f .whole, f .classes, f .columns)
 
 -- The causes 1 to 4 in two steps.
-pub frame-head : (bytes : List ℕ) {n : ℕ} → n ≡ orElse (versionCause bytes) (fieldCause bytes) → (n ≡ 0 → ⊥) → n ≡ frameCause bytes
-unfolding frameCause
-frame-head bytes e some = rw e (sym (first-cause (orElse (versionCause bytes) (fieldCause bytes)) _ (λ z. some (e ∙ z))))
+module _ (bytes : List ℕ) where
+  head : ℕ
+  head = orElse (1 when versionOut bytes) (2 when fieldOut bytes)
 
-pub frame-shape : (bytes : List ℕ) {n : ℕ} → orElse (versionCause bytes) (fieldCause bytes) ≡ 0
-    → n ≡ orElse (sizesCause (classesIn bytes) (columnsIn bytes)) (lengthCause bytes) → n ≡ frameCause bytes
-unfolding frameCause
-frame-shape bytes none e = e ∙ sym (second-cause (orElse (versionCause bytes) (fieldCause bytes)) _ none)
+  shape : ℕ
+  shape = orElse (sizesCause (classesIn bytes) (columnsIn bytes)) (4 when lengthOut bytes)
 
--- Framed bytes have none of the causes 1 to 4.
-pub framed : (bytes : List ℕ) → Framed bytes → frameCause bytes ≡ 0
-unfolding frameCause
-framed bytes h =
-    simp (
-      ne-eqb (length bytes) 0 (λ e. omega arith),
-      eq-eqb (getD bytes 0 0) (layoutIn bytes .version) (h .version),
-      le-ltb (length bytes) HEADER (h .header),
-      eq-eqb (beAt 2 bytes 1) (length bytes) (h .field),
-      inside-outside 32 (classesIn bytes) (h .someClass) (h .classes),
-      inside-outside 8 (columnsIn bytes) (h .someColumn) (h .columns),
-      eq-eqb (length bytes) (lengthOf (layoutIn bytes) (classesIn bytes) (columnsIn bytes)) (h .whole),
-    )
+  in-turn : frameCause bytes ≡ orElse head shape
+  unfolding frameCause head shape
+  in-turn = sym (or-assoc (1 when versionOut bytes) (2 when fieldOut bytes) shape)
+
+  pub frame-head : {number : ℕ} → number ≡ orElse (1 when versionOut bytes) (2 when fieldOut bytes) → (number ≡ 0 → ⊥) → number ≡ frameCause bytes
+  unfolding head
+  frame-head e some = e ∙ sym (in-turn ∙ first-cause head shape (λ z. some (e ∙ z)))
+
+  pub frame-shape : {number : ℕ} → orElse (1 when versionOut bytes) (2 when fieldOut bytes) ≡ 0
+      → number ≡ orElse (sizesCause (classesIn bytes) (columnsIn bytes)) (4 when lengthOut bytes) → number ≡ frameCause bytes
+  unfolding head shape
+  frame-shape none e = e ∙ sym (in-turn ∙ second-cause head shape none)

@@ -5,7 +5,7 @@ use mathlib.Core.List.{List}
 use native.Mathlib.Decide.{ℕ-discrete}
 use borrow.Author.Tests.{eq-eqb, ne-eqb}
 use Rattle.scheme.specs.Cause.{causeOf}
-use Rattle.scheme.specs.Laws.Cause.{first-cause, second-cause, first-none}
+use Rattle.scheme.specs.Laws.FirstCause.{first-cause, second-cause, first-none}
 use Rattle.record_spec.specs.declared.ReadAnswer.{ReadAnswer}
 use Rattle.record_spec.specs.Layout.{schemeIn}
 use Rattle.record_spec.specs.Frame.{Framed}

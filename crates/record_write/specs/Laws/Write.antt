@@ -7,7 +7,7 @@ use lib.ListN.{length, drop}
 use borrow.Author.Tests.{eq-eqb, ne-eqb, lt-ltb, le-ltb}
 use Rattle.scheme.specs.declared.Scheme.{Scheme}
 use Rattle.scheme.specs.Cause.{causeOf}
-use Rattle.scheme.specs.Laws.Cause.{first-cause, second-cause}
+use Rattle.scheme.specs.Laws.FirstCause.{first-cause, second-cause}
 use Rattle.record_spec.specs.declared.WriteAnswer.the-variants.{Written, Declined}
 use Rattle.record_spec.specs.Write.{recordOf, recordLength, writeCause, writeAnswer, writeLeaves, writeNumber, writtenLength}
 

@@ -14,8 +14,10 @@ use Rattle.scheme.specs.declared.Scheme.{Scheme}
 use Rattle.scheme.specs.declared.RowAnswer.{RowAnswer}
 use Rattle.scheme.specs.Tables.{tab}
 use Rattle.scheme.specs.Accepted.{Accepted}
-use Rattle.scheme.specs.Cause.{outside, causeOf, orElse, classCause}
-use Rattle.scheme.specs.Laws.Cause.{outside-false, first-cause, second-cause, declined, answered, cond-true, cond-false}
+use Rattle.scheme.specs.FirstCause.{orElse}
+use Rattle.scheme.specs.Cause.{outside, causeOf, classCause}
+use Rattle.scheme.specs.Laws.FirstCause.{first-cause, second-cause, declined, answered, cond-true, cond-false}
+use Rattle.scheme.specs.Laws.Cause.{outside-false}
 use Rattle.scheme.specs.Laws.Judged.{accepted-cause}
 use Rattle.scheme.specs.SumByTarget.{sumByTarget}
 use Rattle.rows.specs.Laws.SumByTarget.{lower-is, upper-is}

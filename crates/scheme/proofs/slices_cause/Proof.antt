@@ -1,7 +1,7 @@
 -- `slices_cause` meets its contract: two causes joined.
 -- Assumes nothing.
 use mathlib.Core.Path.{ap₂, _∙_}
-use Rattle.scheme.specs.Cause.{orElse}
+use Rattle.scheme.specs.FirstCause.{orElse}
 use borrow.Author.Needs.{needs}
 use Rattle.scheme.proofs.slices_cause.Statement.{statement}
 use Rattle.scheme.proofs.slices_cause.Tie as tie

@@ -1,7 +1,7 @@
 -- The first cause is 0 exactly when the scheme is accepted; any other number is a cause that holds, with none before it.
 use Prim.Native.Nat.{ℕ, _≤_, _<_}
-use mathlib.Core.Path.{_≡_, refl, ap, sym, _∙_}
-use mathlib.Core.Bool.{Bool, true, false, cond, _||_, true≢false}
+use mathlib.Core.Path.{_≡_}
+use mathlib.Core.Bool.{Bool, false, _||_}
 use lib.Dec.{ltb}
 use native.Mathlib.Omega.{arith}
 use borrow.Author.Tests.{ltb-false, le-ltb}
@@ -10,9 +10,10 @@ use Rattle.setchain.specs.Rows.{ONE}
 use Rattle.scheme.specs.declared.Scheme.{Scheme}
 use Rattle.scheme.specs.Tables.{anyBelow}
 use Rattle.scheme.specs.Access.{cellCount, ruleAt, lowerAt, upperAt, premiumAt}
-use Rattle.scheme.specs.Accepted.{SizeFits, StartFits, HorizonFits, RulesFit, BandsFit, SumsFit, PremiumsFit, Accepted, Refused}
-use Rattle.scheme.specs.Cause.{outside, bandTest, sizeOut, startOut, horizonOut, ruleOut, bandOut, sumOut, premiumOut, causeWhere, causeOf}
+use Rattle.scheme.specs.Accepted.{SizeFits, StartFits, HorizonFits, RulesFit, BandsFit, SumsFit, PremiumsFit, Accepted}
+use Rattle.scheme.specs.Cause.{outside, bandTest, sizeOut, startOut, horizonOut, ruleOut, bandOut, sumOut, premiumOut, schemeLines, causeOf}
 use Rattle.scheme.specs.Laws.Tables.{or-false-left, or-false-right, or-false, any-clear, any-false}
+use Rattle.scheme.specs.Laws.FirstCause.{Tells, Told, Judged, judged, all-fit, none-applies, first-most}
 use Rattle.scheme.specs.Laws.Cause.{outside-false, inside-outside}
 
 -- A test over all classes and cells, read at each.
@@ -21,11 +22,6 @@ all-false n m test e i k l g = any-false m (test i) (any-false n (λ i. anyBelow
 
 all-clear : (n m : ℕ) (test : ℕ → ℕ → Bool) → ((i k : ℕ) → i < n → k < m → test i k ≡ false) → anyBelow n (λ i. anyBelow m (test i)) ≡ false
 all-clear n m test h = any-clear n (λ i. anyBelow m (test i)) (λ i l. any-clear m (test i) (λ k g. h i k l g))
-
--- A test that fails exactly where a fact holds.
-pub record Tells (test : Bool) (Fact : Type 0) : Type 0 where
-  pub fits : test ≡ false → Fact
-  pub passes : Fact → test ≡ false
 
 module _ (s : Scheme) where
   pub size-tells : Tells (sizeOut s) (SizeFits s)
@@ -115,74 +111,45 @@ module _ (s : Scheme) where
         passes = λ h. any-clear (s .classes) (λ i. ltb 10000000 (premiumAt s i)) (λ i l. le-ltb 10000000 (premiumAt s i) (h .within i l));
       }
 
-  -- What the scheme's cause says of it.
-  pub data Judged : ℕ → Type 0 where
-    accepted : Accepted s → Judged 0
-    refused : {n : ℕ} → Refused s n → Judged n
+  -- Each test of the table tells what its line asks for.
+  told : Told (schemeLines s)
+  told = (
+    (omega arith, size-tells),
+    (
+      (omega arith, start-tells),
+      (
+        (omega arith, horizon-tells),
+        (
+          (omega arith, rules-tell),
+          (
+            (omega arith, bands-tell),
+            (
+              (omega arith, sums-tell),
+              ((omega arith, premiums-tell), tt),
+            ),
+          ),
+        ),
+      ),
+    ),
+  )
 
-  contrary : {test : Bool} {Fact : Type 0} → Tells test Fact → test ≡ true → ¬ Fact
-  contrary w e h = true≢false (sym e ∙ w .passes h)
-
-  -- By the outcomes of the tests in their order.
-  by-tests : (a b c d e f g : Bool) → sizeOut s ≡ a → startOut s ≡ b → horizonOut s ≡ c → ruleOut s ≡ d → bandOut s ≡ e → sumOut s ≡ f → premiumOut s ≡ g
-      → Judged (cond a 3 (cond b 5 (cond c 6 (cond d 7 (cond e 8 (cond f 9 (cond g 10 0)))))))
-  by-tests true b c d e f g e1 e2 e3 e4 e5 e6 e7 = refused (Refused.size (contrary size-tells e1))
-  by-tests false true c d e f g e1 e2 e3 e4 e5 e6 e7 = refused (Refused.start (size-tells .fits e1) (contrary start-tells e2))
-  by-tests false false true d e f g e1 e2 e3 e4 e5 e6 e7 = refused (Refused.horizon (size-tells .fits e1) (start-tells .fits e2) (contrary horizon-tells e3))
-  by-tests false false false true e f g e1 e2 e3 e4 e5 e6 e7 = refused (Refused.rules (size-tells .fits e1) (start-tells .fits e2) (horizon-tells .fits e3) (contrary rules-tell e4))
-  by-tests false false false false true f g e1 e2 e3 e4 e5 e6 e7 =
-      refused (Refused.bands (size-tells .fits e1) (start-tells .fits e2) (horizon-tells .fits e3) (rules-tell .fits e4) (contrary bands-tell e5))
-  by-tests false false false false false true g e1 e2 e3 e4 e5 e6 e7 =
-      refused (Refused.sums (size-tells .fits e1) (start-tells .fits e2) (horizon-tells .fits e3) (rules-tell .fits e4) (bands-tell .fits e5) (contrary sums-tell e6))
-  by-tests false false false false false false true e1 e2 e3 e4 e5 e6 e7 =
-      refused (Refused.premiums (size-tells .fits e1) (start-tells .fits e2) (horizon-tells .fits e3) (rules-tell .fits e4) (bands-tell .fits e5)
-      (sums-tell .fits e6) (contrary premiums-tell e7))
-  by-tests false false false false false false false e1 e2 e3 e4 e5 e6 e7 =
-      accepted
-      (record {
-        size = size-tells .fits e1;
-        start = start-tells .fits e2;
-        horizon = horizon-tells .fits e3;
-        rules = rules-tell .fits e4;
-        bands = bands-tell .fits e5;
-        sums = sums-tell .fits e6;
-        premiums = premiums-tell .fits e7;
-      })
-
-  pub judged : Judged (causeOf s)
-  unfolding causeWhere
-  judged =
-      by-tests (sizeOut s) (startOut s) (horizonOut s) (ruleOut s) (bandOut s) (sumOut s) (premiumOut s) refl refl refl refl refl refl refl
-
-  -- An accepted scheme leaves cause 10, by whatever test.
-  pub where-accepted : Accepted s → (moneyOut : Bool) → causeWhere s moneyOut ≡ cond moneyOut 10 0
-  unfolding causeWhere
-  where-accepted h moneyOut =
-      simp (
-        size-tells .passes (h .size),
-        start-tells .passes (h .start),
-        horizon-tells .passes (h .horizon),
-        rules-tell .passes (h .rules),
-        bands-tell .passes (h .bands),
-        sums-tell .passes (h .sums),
-      )
+  -- What the scheme's cause says of it: accepted, or the number of the first cause that applies.
+  pub scheme-judged : Judged (schemeLines s) (causeOf s)
+  unfolding causeOf
+  scheme-judged = judged (schemeLines s) told
 
   -- "A scheme is accepted exactly when this list holds".
   pub cause-accepted : Accepted s → causeOf s ≡ 0
-  cause-accepted h = where-accepted h (premiumOut s) ∙ ap (λ b. cond b 10 0) (premiums-tell .passes (h .premiums))
-
-  no-refusal : (n : ℕ) → n ≡ 0 → Judged n → Accepted s
-  no-refusal n e (accepted h) = h
-  no-refusal n e (refused r) = absurd (not-zero n r e)
-    where
-      not-zero : (n : ℕ) → Refused s n → n ≡ 0 → ⊥
-      not-zero n (Refused.size a) e = omega arith
-      not-zero n (Refused.start a b) e = omega arith
-      not-zero n (Refused.horizon a b c) e = omega arith
-      not-zero n (Refused.rules a b c d) e = omega arith
-      not-zero n (Refused.bands a b c d f) e = omega arith
-      not-zero n (Refused.sums a b c d f g) e = omega arith
-      not-zero n (Refused.premiums a b c d f g h) e = omega arith
+  unfolding causeOf
+  cause-accepted h = none-applies (schemeLines s) told (h .size, (h .start, (h .horizon, (h .rules, (h .bands, (h .sums, (h .premiums, tt)))))))
 
   pub accepted-cause : causeOf s ≡ 0 → Accepted s
-  accepted-cause e = no-refusal (causeOf s) e judged
+  unfolding causeOf
+  accepted-cause e =
+      let (size, (start, (horizon, (rules, (bands, (sums, (premiums, last))))))) = all-fit (schemeLines s) told e in
+      record { size = size; start = start; horizon = horizon; rules = rules; bands = bands; sums = sums; premiums = premiums }
+
+  -- The causes of a scheme are 10 at most.
+  pub cause-most : causeOf s ≤ 10
+  unfolding causeOf
+  cause-most = first-most 10 (schemeLines s) (omega arith, (omega arith, (omega arith, (omega arith, (omega arith, (omega arith, (omega arith, tt)))))))

@@ -10,7 +10,7 @@ use borrow.Author.Tests.{lt-ltb, le-ltb}
 use Rattle.scheme.specs.Tables.{anyBelow}
 use Rattle.scheme.specs.Stages.{limitCause}
 use Rattle.scheme.specs.Laws.Tables.{any-none, any-more, any-hit, any-end}
-use Rattle.scheme.specs.Laws.Cause.{cond-true, cond-false}
+use Rattle.scheme.specs.Laws.FirstCause.{cond-true, cond-false}
 
 -- Of n numbers none before place i is above the limit.
 pub record NoneAbove (limit : ℕ) (numbers : List ℕ) (n i : ℕ) : Type 0 where

@@ -1,7 +1,7 @@
 -- Schemes with the same values have the same causes and interval rows, and a scheme has the same values as itself with 0 beyond s and m.
 use Prim.Native.Nat.{ℕ, min, _-_, _<_}
 use mathlib.Core.Path.{_≡_, refl, ap, ap₂, sym, _∙_}
-use mathlib.Core.Bool.{Bool, true, false, cond, _||_}
+use mathlib.Core.Bool.{Bool, true, false, _||_}
 use lib.Dec.{eqb, ltb}
 use native.Mathlib.Omega.{arith}
 use Rattle.setchain.specs.Sums.{sumTo, onlyIf}
@@ -10,12 +10,13 @@ use Rattle.setchain.specs.Laws.Sums.{sumTo-eq}
 use Rattle.scheme.specs.declared.Scheme.{Scheme}
 use Rattle.scheme.specs.Access.{cellCount, ruleAt, lowerAt, upperAt, premiumAt}
 use Rattle.scheme.specs.Accepted.{SizeFits}
-use Rattle.scheme.specs.Cause.{outside, bandTest, sizeOut, startOut, horizonOut, ruleOut, bandOut, sumOut, premiumOut, causeWhere, causeOf, orElse, classCause, yearCause}
+use Rattle.scheme.specs.Cause.{outside, bandTest, sizeOut, startOut, horizonOut, ruleOut, bandOut, sumOut, premiumOut, causeOf, classCause, yearCause}
+use Rattle.scheme.specs.FirstCause.{_when_, orElse}
 use Rattle.scheme.specs.Rows.{chainOf}
 use Rattle.scheme.specs.Stored.{schemeOf, cleared}
 use Rattle.scheme.specs.Values.{SameButBands, SameValues}
 use Rattle.scheme.specs.Laws.Tables.{any-eq}
-use Rattle.scheme.specs.Laws.Cause.{cond-true, by-cause}
+use Rattle.scheme.specs.Laws.FirstCause.{by-cause}
 use Rattle.scheme.specs.Laws.Judged.{size-tells}
 use Rattle.scheme.specs.Laws.Stored.{stored-at, rule-stored}
 
@@ -67,10 +68,10 @@ module _ {s s′ : Scheme} (v : SameButBands s s′) where
   premiums-same = any-eq (v .classes) _ _ (λ i l. ap (ltb 10000000) (v .premiums i l))
 
   pub class-same : (class : ℕ) → classCause s class ≡ classCause s′ class
-  class-same class = ap (λ n. cond (outside n class) 11 0) (v .classes)
+  class-same class = ap (λ n. 11 when outside n class) (v .classes)
 
   pub year-same : (year : ℕ) → yearCause s year ≡ yearCause s′ year
-  year-same year = ap (λ h. cond (ltb h year) 12 0) (v .horizon)
+  year-same year = ap (λ h. 12 when ltb h year) (v .horizon)
 
 -- The same first cause, and the same values but for the bands where there is none: all that a cause looks at which is tested after the scheme's own.
 pub record SameCause (s s′ : Scheme) : Type 0 where
@@ -107,12 +108,9 @@ module _ {s s′ : Scheme} (v : SameValues s s′) where
       (cells-eq (others .columns) (lowerAt s i) (lowerAt s′ i) (λ k g. v .lowers i k l g))
       (cells-eq (others .columns) (upperAt s i) (upperAt s′ i) (λ k g. v .uppers i k l g)))
 
-  pub where-same : {a a′ : Bool} → a ≡ a′ → causeWhere s a ≡ causeWhere s′ a′
-  unfolding causeWhere
-  where-same e = rw (size-same others, start-same others, horizon-same others, rules-same others, bands-same, sums-same, e)
-
   pub cause-same : causeOf s ≡ causeOf s′
-  cause-same = where-same (premiums-same others)
+  unfolding causeOf
+  cause-same = rw (size-same others, start-same others, horizon-same others, rules-same others, bands-same, sums-same, premiums-same others)
 
   -- The interval row of each class, at every class.
   module _ (i : ℕ) (l : i < s .classes) where
@@ -149,9 +147,9 @@ cleared-values s h =
     }
 
 -- A size out of range is cause 3, whatever else holds.
-size-first : (s : Scheme) (moneyOut : Bool) → sizeOut s ≡ true → causeWhere s moneyOut ≡ 3
-unfolding causeWhere
-size-first s moneyOut e = cond-true (sizeOut s) 3 _ e
+size-first : (s : Scheme) → sizeOut s ≡ true → causeOf s ≡ 3
+unfolding causeOf
+size-first s e = rw e
 
 size-cleared : (s : Scheme) → sizeOut s ≡ true → sizeOut (cleared s) ≡ true
 unfolding sizeOut schemeOf
@@ -163,19 +161,16 @@ pub data Alike (s s′ : Scheme) : Type 0 where
   sizesOut : sizeOut s ≡ true → sizeOut s′ ≡ true → Alike s s′
 
 module _ {s s′ : Scheme} where
-  pub alike-where : Alike s s′ → {a a′ : Bool} → (SameValues s s′ → a ≡ a′) → causeWhere s a ≡ causeWhere s′ a′
-  alike-where (same v) e = where-same v (e v)
-  alike-where (sizesOut o o′) e = size-first s _ o ∙ sym (size-first s′ _ o′)
-
-  pub alike-values : Alike s s′ → (moneyOut : Bool) → causeWhere s moneyOut ≡ 0 → SameValues s s′
-  alike-values (same v) moneyOut z = v
-  alike-values (sizesOut o o′) moneyOut z = let e = size-first s moneyOut o in absurd (omega arith)
-
   pub alike-cause : Alike s s′ → causeOf s ≡ causeOf s′
-  alike-cause w = alike-where w (λ v. premiums-same (v .others))
+  alike-cause (same v) = cause-same v
+  alike-cause (sizesOut o o′) = size-first s o ∙ sym (size-first s′ o′)
+
+  pub alike-values : Alike s s′ → causeOf s ≡ 0 → SameValues s s′
+  alike-values (same v) z = v
+  alike-values (sizesOut o o′) z = let e = size-first s o in absurd (omega arith)
 
   pub alike-same : Alike s s′ → SameCause s s′
-  alike-same w = record { cause = alike-cause w; others = λ z. alike-values w (premiumOut s) z .others }
+  alike-same w = record { cause = alike-cause w; others = λ z. alike-values w z .others }
 
   pub alike-back : Alike s s′ → Alike s′ s
   alike-back (same v) = same (same-back v)

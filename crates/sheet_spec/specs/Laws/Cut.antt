@@ -9,7 +9,7 @@ use lib.Dec.{eqb, ltb}
 use lib.ListN.{length, getD, take}
 use lib.Seq.{length-take-le, take-all, getD-take}
 use borrow.Author.Tests.{ne-eqb, le-ltb}
-use Rattle.scheme.specs.Cause.{orElse}
+use Rattle.scheme.specs.FirstCause.{_when_, orElse}
 use Rattle.big_endian_spec.specs.Numbers.{Bytes, beAt}
 use Rattle.big_endian_spec.specs.Laws.{bytes-take, beAt-fits}
 use Rattle.record_spec.specs.Layout.{HEADER, layoutIn}
@@ -23,7 +23,7 @@ abbrev otherVersion : List ℕ → Bool
 otherVersion bytes = not (eqb (getD bytes 0 0) (layoutIn bytes .version))
 
 -- The causes 1 and 2, of which the second applies.
-first-two : (a b : Bool) (rest after : ℕ) → b ≡ true → orElse (orElse (orElse (cond a 1 0) (cond b 2 0)) rest) after ≡ cond a 1 2
+first-two : (a b : Bool) (rest after : ℕ) → b ≡ true → orElse (orElse (1 when a) (orElse (2 when b) rest)) after ≡ cond a 1 2
 first-two true true rest after e = refl
 first-two true false rest after e = refl
 first-two false true rest after e = refl

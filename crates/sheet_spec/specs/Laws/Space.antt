@@ -1,23 +1,23 @@
 -- The sheet of any bytes has space where the answer says so.
 use Prim.Native.Nat.{ℕ, suc, _+_, _*_, _≤_}
 use mathlib.Core.Path.{_≡_, refl}
-use mathlib.Core.Bool.{Bool, true, false, cond, not, _||_}
+use mathlib.Core.Bool.{Bool, true, false, cond}
 use mathlib.Core.List.{List, _++_}
 use native.Mathlib.Omega.{arith}
 use native.Mathlib.Nat.{mul-le-mul}
 use native.Mathlib.Decide.{ℕ-discrete}
 use borrow.Author.Tests.{eq-eqb, ne-eqb}
-use lib.Dec.{eqb, ltb}
-use lib.ListN.{length, getD, take, drop, replicate, length-replicate}
+use lib.Dec.{ltb}
+use lib.ListN.{length, take, drop, replicate, length-replicate}
 use lib.Seq.{length-take-le, take-at}
-use Rattle.scheme.specs.Laws.Cause.{second-none}
+use Rattle.scheme.specs.Laws.FirstCause.{second-none, or-most}
 use Rattle.scheme.specs.declared.Scheme.{Scheme}
 use Rattle.scheme.specs.Accepted.{Accepted}
-use Rattle.scheme.specs.Cause.{sizesOut, sizesCause, sizeOut, startOut, horizonOut, ruleOut, bandOut, sumOut, premiumOut, causeWhere, causeOf, orElse}
-use Rattle.scheme.specs.Laws.Judged.{accepted-cause}
-use Rattle.big_endian_spec.specs.Numbers.{beAt}
-use Rattle.record_spec.specs.Layout.{HEADER, layoutIn, lengthOf, classesIn, columnsIn, schemeIn}
-use Rattle.record_spec.specs.Read.{versionCause, fieldCause, lengthCause, frameCause, readCause}
+use Rattle.scheme.specs.Cause.{causeOf}
+use Rattle.scheme.specs.Laws.Judged.{accepted-cause, cause-most}
+use Rattle.record_spec.specs.Layout.{schemeIn}
+use Rattle.record_spec.specs.Read.{frameCause, readCause}
+use Rattle.record_spec.specs.Laws.Frame.{frame-most}
 use Rattle.record_spec.specs.declared.WriteAnswer.the-variants.{Written, Declined}
 use Rattle.sheet_spec.specs.Sheet.{classLines, yearPremium, yearLines, sheetOf, refusedLine, sheetText}
 use Rattle.sheet_spec.specs.Answer.{spaceOf, spaceFor, sheetAnswer, sheetLeaves, TextPromise}
@@ -64,38 +64,9 @@ module _ (s : Scheme) (ok : Accepted s) where
 pub zeros-part : (m n : ℕ) → n ≤ m → length {A = ℕ} (take n (replicate m 0)) ≡ n
 zeros-part m n h = length-take-le n (replicate m 0) (omega (arith, length-replicate {A = ℕ} m 0))
 
--- No refusal number of a record is above 10.
-cond-most : (b : Bool) (x y n : ℕ) → x ≤ n → y ≤ n → cond b x y ≤ n
-cond-most true x y n h k = h
-cond-most false x y n h k = k
-
-or-most : (a b n : ℕ) → a ≤ n → b ≤ n → orElse a b ≤ n
-or-most a b n h k = cond-most (eqb a 0) b a n k h
-
-scheme-cause-most : (s : Scheme) → causeOf s ≤ 10
-unfolding causeWhere
-scheme-cause-most s =
-    cond-most (sizeOut s) 3 _ 10 (omega arith)
-    (cond-most (startOut s) 5 _ 10 (omega arith)
-    (cond-most (horizonOut s) 6 _ 10 (omega arith)
-    (cond-most (ruleOut s) 7 _ 10 (omega arith)
-    (cond-most (bandOut s) 8 _ 10 (omega arith) (cond-most (sumOut s) 9 _ 10 (omega arith) (cond-most (premiumOut s) 10 0 10 (omega arith) (omega arith)))))))
-
-frame-cause-most : (bytes : List ℕ) → frameCause bytes ≤ 10
-unfolding frameCause
-frame-cause-most bytes =
-    let s = classesIn bytes in
-    let m = columnsIn bytes in
-    or-most (orElse (versionCause bytes) (fieldCause bytes)) (orElse (sizesCause s m) (lengthCause bytes)) 10
-    (or-most (versionCause bytes) (fieldCause bytes) 10
-    (cond-most (eqb (length bytes) 0 || not (eqb (getD bytes 0 0) (layoutIn bytes .version))) 1 0 10 (omega arith) (omega arith))
-    (cond-most (ltb (length bytes) HEADER || not (eqb (beAt 2 bytes 1) (length bytes))) 2 0 10 (omega arith) (omega arith)))
-    (or-most (sizesCause s m) (lengthCause bytes) 10
-    (cond-most (sizesOut s m) 3 0 10 (omega arith) (omega arith))
-    (cond-most (not (eqb (length bytes) (lengthOf (layoutIn bytes) s m))) 4 0 10 (omega arith) (omega arith)))
-
+-- The causes of a record are 10 at most.
 pub read-cause-most : (bytes : List ℕ) → readCause bytes ≤ 10
-read-cause-most bytes = or-most (frameCause bytes) (causeOf (schemeIn bytes)) 10 (frame-cause-most bytes) (scheme-cause-most (schemeIn bytes))
+read-cause-most bytes = or-most (frameCause bytes) (causeOf (schemeIn bytes)) 10 (omega (arith, frame-most bytes)) (cause-most (schemeIn bytes))
 
 -- Bytes without a cause hold an accepted scheme.
 pub read-accepted : (bytes : List ℕ) → readCause bytes ≡ 0 → Accepted (schemeIn bytes)

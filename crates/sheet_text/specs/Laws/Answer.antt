@@ -8,7 +8,7 @@ use lib.ListN.{length}
 use Rattle.scheme.specs.declared.Scheme.{Scheme}
 use Rattle.scheme.specs.Accepted.{Accepted}
 use Rattle.scheme.specs.Cause.{causeOf}
-use Rattle.scheme.specs.Laws.Cause.{second-cause}
+use Rattle.scheme.specs.Laws.FirstCause.{second-cause}
 use Rattle.scheme.specs.Laws.Judged.{cause-accepted}
 use Rattle.record_spec.specs.Layout.{schemeIn}
 use Rattle.record_spec.specs.Read.{readCause}

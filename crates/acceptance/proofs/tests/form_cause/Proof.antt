@@ -4,7 +4,7 @@ use mathlib.Core.Bool.{false}
 use native.Mathlib.Omega.{arith}
 use borrow.Author.Tests.{lt-ltb, le-ltb}
 use Rattle.scheme.specs.Cause.{sizesOut}
-use Rattle.scheme.specs.Laws.Cause.{test-none, sizes-first}
+use Rattle.scheme.specs.Laws.FirstCause.{test-none, cause-first}
 use borrow.Author.Needs.{needs}
 use Rattle.acceptance.proofs.tests.form_cause.Statement.{statement}
 use Rattle.acceptance.proofs.tests.form_cause.Tie as tie
@@ -19,9 +19,7 @@ sizes-cause-requires : tie.Need-sizes-cause-requires
 sizes-cause-requires c κs = search needs
 
 returns : tie.Need-returns
-returns c =
-    let start = c .before .before .args in
-    sizes-first (sizesOut (start .classes) (start .columns)) _ (c .before .sizes-cause .ensures) (c .if1 .taken)
+returns c = cause-first _ (c .before .sizes-cause .ensures) (c .if1 .taken)
 
 outside-requires : tie.Need-outside-requires
 outside-requires c κs = search needs

@@ -6,7 +6,7 @@ use native.Mathlib.Omega.{arith}
 use lib.ListN.{getD}
 use Rattle.scheme.specs.Tables.{anyBelow}
 use Rattle.scheme.specs.Cause.{outside}
-use Rattle.scheme.specs.Laws.Cause.{cond-true, cond-false}
+use Rattle.scheme.specs.Laws.FirstCause.{cond-true, cond-false}
 use Rattle.scheme.specs.Laws.Tables.{any-none, any-more, any-hit, any-end}
 use Rattle.acceptance.proofs.tests.rule_cause.Statement.{statement}
 use Rattle.acceptance.proofs.tests.rule_cause.Tie as tie

@@ -1,6 +1,6 @@
 -- `money_cause` meets its contract: the causes are the definition's, in its order.
 use mathlib.Core.Path.{ap₂, _∙_}
-use Rattle.scheme.specs.Cause.{orElse}
+use Rattle.scheme.specs.FirstCause.{orElse}
 use borrow.Author.Needs.{needs}
 use Rattle.bounds.proofs.causes.money_cause.Statement.{statement}
 use Rattle.bounds.proofs.causes.money_cause.Tie as tie

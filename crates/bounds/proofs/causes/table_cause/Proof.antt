@@ -1,6 +1,7 @@
 -- `table_cause` meets its contract: the causes are the definition's, in its order.
 use mathlib.Core.Path.{ap, ap₂, _∙_}
-use Rattle.scheme.specs.Cause.{orElse, slicesCause}
+use Rattle.scheme.specs.FirstCause.{orElse}
+use Rattle.scheme.specs.Cause.{slicesCause}
 use borrow.Author.Needs.{needs}
 use Rattle.bounds.proofs.causes.table_cause.Statement.{statement}
 use Rattle.bounds.proofs.causes.table_cause.Tie as tie

@@ -1,7 +1,7 @@
 -- `start_bounds` lists the scheme's entries and takes the low and the high figure, where there is no cause.
 -- Assumes nothing.
 use mathlib.Core.Path.{ap₂, sym, _∙_}
-use Rattle.scheme.specs.Laws.Cause.{answered, declined}
+use Rattle.scheme.specs.Laws.FirstCause.{answered, declined}
 use Rattle.bounds_spec.specs.declared.Bounds.the-variants.{Answered}
 use Rattle.bounds.proofs.ListSchemeLaws.{lists-empty}
 use borrow.Author.Needs.{needs}

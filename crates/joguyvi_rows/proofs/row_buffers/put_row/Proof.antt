@@ -2,8 +2,8 @@
 -- Assumes nothing.
 use mathlib.Core.Path.{_≡_, ap, sym, _∙_}
 use lib.ListN.{length, length-map}
-use Rattle.scheme.specs.Laws.Cause.{second-none}
-use Rattle.scheme.specs.Cause.{orElse}
+use Rattle.scheme.specs.Laws.FirstCause.{second-none}
+use Rattle.scheme.specs.FirstCause.{orElse}
 use Rattle.joguyvi_spec.specs.Buffers.{buffersCause}
 use Rattle.joguyvi_spec.specs.Rows.{putRowNumber}
 use Rattle.rows.specs.Laws.Copy.{row-copied}

@@ -1,7 +1,7 @@
 -- `buffers_cause` meets its contract: three causes joined.
 -- Assumes nothing.
 use mathlib.Core.Path.{ap₂, _∙_}
-use Rattle.scheme.specs.Cause.{orElse}
+use Rattle.scheme.specs.FirstCause.{orElse}
 use borrow.Author.Needs.{needs}
 use Rattle.joguyvi_steps.proofs.steps.buffers_cause.Statement.{statement}
 use Rattle.joguyvi_steps.proofs.steps.buffers_cause.Tie as tie

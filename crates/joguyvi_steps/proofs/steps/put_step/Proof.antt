@@ -3,8 +3,8 @@
 use mathlib.Core.Path.{_≡_, ap, sym, _∙_}
 use native.Mathlib.Omega.{arith}
 use lib.ListN.{length, length-map}
-use Rattle.scheme.specs.Laws.Cause.{second-none}
-use Rattle.scheme.specs.Cause.{orElse}
+use Rattle.scheme.specs.Laws.FirstCause.{second-none}
+use Rattle.scheme.specs.FirstCause.{orElse}
 use Rattle.joguyvi_spec.specs.Laws.Buffers.{unfilled, one}
 use Rattle.rows.specs.Laws.Copy.{row-copied}
 use Rattle.joguyvi_spec.specs.Steps.{stepBuffers}

@@ -3,8 +3,8 @@ use mathlib.Core.Path.{_≡_, ap₂, sym, _∙_}
 use mathlib.Core.List.{List}
 use Prim.Native.Nat.{ℕ}
 use native.Mathlib.Omega.{arith}
-use Rattle.scheme.specs.Cause.{orElse}
-use Rattle.record_spec.specs.Read.{versionCause, fieldCause}
+use Rattle.scheme.specs.FirstCause.{_when_, orElse}
+use Rattle.record_spec.specs.Read.{versionOut, fieldOut}
 use Rattle.record_spec.specs.Laws.Frame.{head-long, frame-head, frame-shape}
 use borrow.Author.Needs.{needs}
 use Rattle.record.proofs.reading.frame.Statement.{statement}
@@ -14,10 +14,10 @@ use Rattle.record.proofs.reading.frame.Tie as tie
 abbrev given : tie.After-or-else → List ℕ
 given c = c .before .before .before .before .args .bytes .now
 
-head : (c : tie.After-or-else) → c .or-else .result ≡ orElse (versionCause (given c)) (fieldCause (given c))
+head : (c : tie.After-or-else) → c .or-else .result ≡ orElse (1 when versionOut (given c)) (2 when fieldOut (given c))
 head c = c .or-else .ensures ∙ ap₂ (λ a b. orElse a b) (c .before .before .version-cause .ensures) (c .before .field-cause .ensures)
 
-none : (c : tie.Else1) → orElse (versionCause (given (c .before))) (fieldCause (given (c .before))) ≡ 0
+none : (c : tie.Else1) → orElse (1 when versionOut (given (c .before))) (2 when fieldOut (given (c .before))) ≡ 0
 none c = sym (head (c .before)) ∙ c .if1 .left
 
 version-cause-requires : tie.Need-version-cause-requires

@@ -5,7 +5,7 @@ use mathlib.Core.Path.{_≡_, ap, sym, _∙_}
 use native.Mathlib.Omega.{arith}
 use lib.ListN.{length, take}
 use lib.Seq.{length-take-le}
-use Rattle.scheme.specs.Cause.{orElse}
+use Rattle.scheme.specs.FirstCause.{orElse}
 use Rattle.rows.specs.Laws.Front.{front-fits, front-size, front-lent}
 use Rattle.order.specs.Order.{SortedPermutation}
 use Rattle.step_spec.specs.StepAnswer.{stepCause}
