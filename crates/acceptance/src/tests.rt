@@ -4,6 +4,7 @@ ghost use mathlib.Core.Bool.{true, false, cond, _||_};
 ghost use Prim.Native.Nat.{_+_, _*_, _<_, _≤_};
 ghost use lib.Dec.{ltb};
 ghost use lib.ListN.{getD};
+ghost use Rattle.scheme.specs.Access.{CELL_PLACES, CELL_STRIDE};
 ghost use Rattle.setchain.specs.Sums.{sumTo};
 ghost use Rattle.setchain.specs.Rows.{ONE};
 ghost use Rattle.scheme.specs.Tables.{anyBelow};
@@ -31,7 +32,7 @@ pub fn form_cause(classes: u8, columns: u8, start: u8, horizon: u8) -> u8
 
 // Some rule from place `from` on, of as many as there are columns, is outside 1 to s.
 fn row_out(rules: &[u8; 256], from: usize, classes: u8, columns: u8) -> bool
-    requires { ⌜ from + columns ≤ 256 ⌝ }
+    requires { ⌜ from + columns ≤ CELL_PLACES ⌝ }
     ensures { λ r. ⌜ r ≡ anyBelow columns (λ k. outside classes (getD (now (rules .entry)) (from + k) 0)) ⌝ }
 {
     let n = columns as usize;
@@ -48,12 +49,12 @@ fn row_out(rules: &[u8; 256], from: usize, classes: u8, columns: u8) -> bool
 // Some rule of some class is outside 1 to s.
 pub fn rule_cause(rules: &[u8; 256], classes: u8, columns: u8) -> u8
     requires { ⌜ (classes ≤ 32) × (columns ≤ 8) ⌝ }
-    ensures { λ r. ⌜ r ≡ cond (anyBelow classes (λ i. anyBelow columns (λ k. outside classes (getD (now (rules .entry)) (i * 8 + k) 0)))) 7 0 ⌝ }
+    ensures { λ r. ⌜ r ≡ cond (anyBelow classes (λ i. anyBelow columns (λ k. outside classes (getD (now (rules .entry)) (i * CELL_STRIDE + k) 0)))) 7 0 ⌝ }
 {
     let n = classes as usize;
     let mut i: usize = 0;
     while i < n {
-        if row_out(rules, i * scheme::RULE_STRIDE, classes, columns) {
+        if row_out(rules, i * scheme::CELL_STRIDE, classes, columns) {
             return scheme::RULE_OUT;
         }
         i += 1;

@@ -9,6 +9,7 @@ use lib.ListN.{length, take, drop, set, length-set}
 use lib.Seq.{getD-set-same, getD-set-other}
 use borrow.Author.Count.{below-none, below-more}
 use borrow.Author.Tests.{eq-eqb, ne-eqb}
+use Rattle.scheme.specs.Access.{CELL_STRIDE}
 use Rattle.setchain.specs.Sums.{at, sumTo, onlyIf}
 use Rattle.setchain.specs.Rows.{ONE, SetChain}
 use Rattle.setchain.specs.Step.{capacity}
@@ -71,22 +72,22 @@ module _ {n : ℕ} {rules lowers uppers entries₀ slack₀ : List ℕ} (able : 
       }
 
   module _ {entries slack : List ℕ} (i : ℕ) (w : Listing chain entries slack i) where
-    part-count : i * 8 + length lowers - i * 8 ≡ length lowers
+    part-count : i * CELL_STRIDE + length lowers - i * CELL_STRIDE ≡ length lowers
     part-count = omega arith
 
-    pub listing-adds : i < n → AddRowPre n (rulesRow (take (i * 8 + length lowers - i * 8) (drop (i * 8) rules)) lowers uppers) i entries
+    pub listing-adds : i < n → AddRowPre n (rulesRow (take (i * CELL_STRIDE + length lowers - i * CELL_STRIDE) (drop (i * CELL_STRIDE) rules)) lowers uppers) i entries
     listing-adds l =
-        subst (λ k. AddRowPre n (rulesRow (take k (drop (i * 8) rules)) lowers uppers) i entries) (sym part-count)
+        subst (λ k. AddRowPre n (rulesRow (take k (drop (i * CELL_STRIDE) rules)) lowers uppers) i entries) (sym part-count)
         (record { states = able .states; inside = l; sound = able .sound i l; lists = w .lists })
 
     module _ {entries′ : List ℕ} (r : ℕ) (l : i < n)
-        (a : AddRowPost n (rulesRow (take (i * 8 + length lowers - i * 8) (drop (i * 8) rules)) lowers uppers) i entries entries′)
-        (s : sumTo n (rulesRow (take (i * 8 + length lowers - i * 8) (drop (i * 8) rules)) lowers uppers .lower) + r ≡ ONE) where
+        (a : AddRowPost n (rulesRow (take (i * CELL_STRIDE + length lowers - i * CELL_STRIDE) (drop (i * CELL_STRIDE) rules)) lowers uppers) i entries entries′)
+        (s : sumTo n (rulesRow (take (i * CELL_STRIDE + length lowers - i * CELL_STRIDE) (drop (i * CELL_STRIDE) rules)) lowers uppers .lower) + r ≡ ONE) where
       added : AddRowPost n (chain .row i) i entries entries′
-      added = subst (λ k. AddRowPost n (rulesRow (take k (drop (i * 8) rules)) lowers uppers) i entries entries′) part-count a
+      added = subst (λ k. AddRowPost n (rulesRow (take k (drop (i * CELL_STRIDE) rules)) lowers uppers) i entries entries′) part-count a
 
       left : sumTo n (chain .row i .lower) + r ≡ ONE
-      left = subst (λ k. sumTo n (rulesRow (take k (drop (i * 8) rules)) lowers uppers .lower) + r ≡ ONE) part-count s
+      left = subst (λ k. sumTo n (rulesRow (take k (drop (i * CELL_STRIDE) rules)) lowers uppers .lower) + r ≡ ONE) part-count s
 
       pub listing-more : Listing chain entries′ (set slack i r) (i + 1)
       listing-more =

@@ -6,6 +6,7 @@ use mathlib.Core.List.{List}
 use native.Mathlib.Omega.{arith}
 use lib.ListN.{length, take, replicate, length-replicate, getD-replicate}
 use lib.Seq.{length-take-le}
+use Rattle.scheme.specs.Access.{CELL_STRIDE, CELL_PLACES, cellCount}
 use Rattle.setchain.specs.Rows.{IntervalRow, SetChain}
 use Rattle.scheme.specs.declared.Scheme.{Scheme}
 use Rattle.scheme.specs.Accepted.{Accepted}
@@ -27,18 +28,18 @@ lists-empty =
     }
 
 -- From a scheme's parts to its chain.
-module _ (s : Scheme) (accepted : Accepted s) (rulesStored : length (s .rules) ≡ 256) (lowersStored : length (s .lowers) ≡ 8) where
+module _ (s : Scheme) (accepted : Accepted s) (rulesStored : length (s .rules) ≡ CELL_PLACES) (lowersStored : length (s .lowers) ≡ CELL_STRIDE) where
   abbrev lowers : List ℕ
-  lowers = take (s .columns) (s .lowers)
+  lowers = take (cellCount s) (s .lowers)
 
   abbrev uppers : List ℕ
-  uppers = take (s .columns) (s .uppers)
+  uppers = take (cellCount s) (s .uppers)
 
   abbrev parts : SetChain
   parts = rulesChain (s .classes) (s .rules) lowers uppers
 
-  count : length lowers ≡ s .columns
-  count = length-take-le (s .columns) (s .lowers) (omega (arith, accepted .size .columns))
+  count : length lowers ≡ cellCount s
+  count = length-take-le (cellCount s) (s .lowers) (omega (arith, accepted .size .columns))
 
   agree : (i : ℕ) → i < s .classes → Agree (s .classes) (parts .row i) (chainOf s .row i)
   agree i l =

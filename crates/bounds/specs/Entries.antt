@@ -6,6 +6,7 @@ use mathlib.Core.Path.{_≡_}
 use mathlib.Core.List.{List}
 use lib.Dec.{eqb}
 use lib.ListN.{length}
+use Rattle.scheme.specs.Access.{CELL_STRIDE}
 use Rattle.setchain.specs.Sums.{at, sumTo, onlyIf}
 use Rattle.setchain.specs.Rows.{ONE, IntervalRow, SoundRow, SetChain, SoundChain}
 use Rattle.setchain.specs.Step.{capacity}
@@ -92,7 +93,7 @@ pub record ListRowsPre (n : ℕ) (rules lowers uppers entries slack : List ℕ) 
   pub positive : 1 ≤ n
   pub states : n ≤ 32
   pub columns : length lowers ≤ 8
-  pub stored : n * 8 ≤ length rules
+  pub stored : n * CELL_STRIDE ≤ length rules
   pub sound : SoundChain (rulesChain n rules lowers uppers)
   pub empty : EmptyLists entries slack
 

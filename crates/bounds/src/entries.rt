@@ -80,7 +80,7 @@ fn list_rows(
     let m = lowers.len();
     let mut i: usize = 0;
     while i < n {
-        let first = i * scheme::RULE_STRIDE;
+        let first = i * scheme::CELL_STRIDE;
         let end = first + m;
         slack[i] = list_row(&rules[first..end], lowers, uppers, n, i, entries);
         i += 1;

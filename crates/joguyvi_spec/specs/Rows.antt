@@ -7,7 +7,7 @@ use lib.ListN.{length}
 use Rattle.scheme.specs.declared.Scheme.{Scheme}
 use Rattle.scheme.specs.declared.RowAnswer.{RowAnswer}
 use Rattle.scheme.specs.Tables.{tab}
-use Rattle.scheme.specs.Access.{lowerAt, upperAt}
+use Rattle.scheme.specs.Access.{sharedLower, sharedUpper, cellCount}
 use Rattle.scheme.specs.FirstCause.{_when_, firstOf}
 use Rattle.scheme.specs.RowAnswer.{rowAnswer}
 use Rattle.record_spec.specs.Layout.{schemeIn, columnsIn}
@@ -57,15 +57,15 @@ pub record RuleRowCall (bytes : List ℕ) (class : ℕ) (out : List ℕ) (number
 
 -- The lower ends of a scheme's bands, a number for each column.
 abbrev pub lowerBands : Scheme → List ℕ
-lowerBands s = tab (s .columns) (lowerAt s 0)
+lowerBands s = tab (cellCount s) (sharedLower s)
 
 -- The upper ends.
 abbrev pub upperBands : Scheme → List ℕ
-upperBands s = tab (s .columns) (upperAt s 0)
+upperBands s = tab (cellCount s) (sharedUpper s)
 
 -- What is answered and left for a scheme's bands into two buffers: 13 where one of them is not of m numbers.
 abbrev pub BandsPost : Scheme → (lower upper : List ℕ) (number : ℕ) (lower′ upper′ : List ℕ) → Type 0
-BandsPost s lower upper = BuffersPost (buffersCause (s .columns) lower upper) (lowerBands s) (upperBands s) lower upper
+BandsPost s lower upper = BuffersPost (buffersCause (cellCount s) lower upper) (lowerBands s) (upperBands s) lower upper
 
 -- The number for a record's bands: the cause of reading, then 13 where a buffer is not of m numbers.
 abbrev pub bandsNumber : List ℕ → (lower upper : List ℕ) → ℕ

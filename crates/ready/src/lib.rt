@@ -1,6 +1,7 @@
 // The ready schemes of document 01: number 1, 2 or 3, with premiums from a base.
 ghost use mathlib.Core.Path.{_≡_};
 ghost use Prim.Native.Nat.{_/_, _≤_, _<_};
+ghost use Rattle.scheme.specs.Access.{CELL_PLACES};
 ghost use Rattle.scheme.specs.Tables.{tab};
 ghost use Rattle.ready_spec.specs.Scales.{chosen, classesOf, factorOf, tenthsOf, premiumOf};
 ghost use Rattle.ready_spec.specs.Moves.{held, movedClass, Movable};
@@ -159,12 +160,12 @@ fn moved(s: u64, c: u64, class: u64, k: u64) -> u64
 
 // The rule at a place of the rules.
 fn rule_entry(number: u64, place: usize) -> u8
-    requires { ⌜ place < 256 ⌝ }
+    requires { ⌜ place < CELL_PLACES ⌝ }
     ensures { λ r. ⌜ r ≡ rulesUpTo (classesOf number) 5 (readyRule number) place ⌝ }
 {
     let s = classes_of(number);
-    let i = (place / scheme::RULE_STRIDE) as u64;
-    let k = (place % scheme::RULE_STRIDE) as u64;
+    let i = (place / scheme::CELL_STRIDE) as u64;
+    let k = (place % scheme::CELL_STRIDE) as u64;
     if s <= i {
         return 0;
     }
@@ -176,7 +177,7 @@ fn rule_entry(number: u64, place: usize) -> u8
 
 // The rules, class by class.
 fn rules(number: u64) -> [u8; 256]
-    ensures { λ r. ⌜ r ≡ tab 256 (rulesUpTo (classesOf number) 5 (readyRule number)) ⌝ }
+    ensures { λ r. ⌜ r ≡ tab CELL_PLACES (rulesUpTo (classesOf number) 5 (readyRule number)) ⌝ }
 {
     let mut out = [0u8; 256];
     let mut place: usize = 0;

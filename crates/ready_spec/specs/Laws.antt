@@ -9,6 +9,7 @@ use native.Mathlib.Omega.{arith}
 use native.Mathlib.Decide.{ℕ-discrete, decLt}
 use native.Mathlib.Nat.{mul-le-mul}
 use borrow.Author.Tests.{eq-eqb, ne-eqb, lt-ltb, le-ltb}
+use Rattle.scheme.specs.Access.{CELL_STRIDE}
 use Rattle.ready_spec.specs.Scales.{chosen, classesOf, factorOf, tenthsOf, scale1, scale2, scale3}
 use Rattle.ready_spec.specs.Moves.{Movable}
 use Rattle.ready_spec.specs.Ready.{readyScheme}
@@ -81,8 +82,8 @@ pub raise-least : (c k : ℕ) → 1 ≤ c → 1 ≤ k → 1 ≤ c * k
 raise-least c k h l = omega (arith, mul-le-mul h l)
 
 -- What the code's move asks, at a place of the rules.
-pub movable : (number place s c : ℕ) → s ≡ classesOf number → c ≡ factorOf number → place / 8 < s → place % 8 < 5
-    → Movable s c (place / 8 + 1) (place % 8)
+pub movable : (number place s c : ℕ) → s ≡ classesOf number → c ≡ factorOf number → place / CELL_STRIDE < s → place % CELL_STRIDE < 5
+    → Movable s c (place / CELL_STRIDE + 1) (place % CELL_STRIDE)
 movable number place s c e f h k =
     record {
       someClass = omega arith;

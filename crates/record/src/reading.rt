@@ -2,6 +2,7 @@
 ghost use mathlib.Core.Path.{_≡_};
 ghost use Prim.Native.Nat.{_+_, _*_, _<_, _≤_};
 ghost use lib.ListN.{length, getD, replicate};
+ghost use Rattle.scheme.specs.Access.{CELL_PLACES};
 ghost use Rattle.scheme.specs.Tables.{tab};
 ghost use Rattle.big_endian_spec.specs.Numbers.{beAt};
 ghost use Rattle.scheme.specs.Stored.{upTo, rulesUpTo};
@@ -77,7 +78,7 @@ pub fn frame(bytes: &[u8]) -> u8
 // The rules of s classes and m columns, from place `from` on.
 fn rules(bytes: &[u8], from: usize, s: usize, m: usize) -> [u8; 256]
     requires { ⌜ (from + s * m ≤ length (now bytes)) × (s ≤ 32) × (m ≤ 8) ⌝ }
-    ensures { λ r. ⌜ r ≡ tab 256 (rulesUpTo s m (λ i k. getD (now (bytes .entry)) (from + i * m + k) 0)) ⌝ }
+    ensures { λ r. ⌜ r ≡ tab CELL_PLACES (rulesUpTo s m (λ i k. getD (now (bytes .entry)) (from + i * m + k) 0)) ⌝ }
 {
     let mut rules = [0u8; 256];
     let mut i: usize = 0;
@@ -86,7 +87,7 @@ fn rules(bytes: &[u8], from: usize, s: usize, m: usize) -> [u8; 256]
     while i < s {
         big_endian::copy(bytes, at, &mut rules, to, m);
         at += m;
-        to += scheme::RULE_STRIDE;
+        to += scheme::CELL_STRIDE;
         i += 1;
     }
     rules

@@ -3,10 +3,10 @@ use Prim.Native.Nat.{ℕ}
 use mathlib.Core.List.{List, [], _∷_, _++_}
 use Rattle.scheme.specs.declared.Scheme.{Scheme}
 use Rattle.scheme.specs.Tables.{tab}
-use Rattle.scheme.specs.Access.{ruleAt, lowerAt, upperAt, premiumAt}
+use Rattle.scheme.specs.Access.{ruleAt, premiumAt, sharedLower, sharedUpper, cellCount}
 use Rattle.big_endian_spec.specs.Numbers.{beBytes}
 use Rattle.record_spec.specs.Joined.{joined}
-use Rattle.record_spec.specs.Layout.{Layout, lengthOf}
+use Rattle.record_spec.specs.Layout.{Layout, END_WIDTH, lengthOf}
 
 -- "Byte 0: version … Bytes 1 to 2: length of the whole record. Byte 3: s. Byte 4: m. Byte 5: start. Byte 6: horizon.", then the layout's further bytes.
 unfoldable pub headerBytes : Layout → (length s m start horizon : ℕ) → List ℕ
@@ -18,15 +18,15 @@ headerOf y s = headerBytes y (lengthOf y (s .classes) (s .columns)) (s .classes)
 
 -- The rules, class by class.
 abbrev pub rulesOf : Scheme → List ℕ
-rulesOf s = joined (s .classes) (λ i. tab (s .columns) (ruleAt s i))
+rulesOf s = joined (s .classes) (λ i. tab (cellCount s) (ruleAt s i))
 
 -- A band, lower and upper.
 abbrev pub bandBytes : ℕ → ℕ → List ℕ
-bandBytes lower upper = beBytes 4 lower ++ beBytes 4 upper
+bandBytes lower upper = beBytes END_WIDTH lower ++ beBytes END_WIDTH upper
 
 -- The bands, column by column.
 abbrev pub bandsOf : Scheme → List ℕ
-bandsOf s = joined (s .columns) (λ k. bandBytes (lowerAt s 0 k) (upperAt s 0 k))
+bandsOf s = joined (cellCount s) (λ k. bandBytes (sharedLower s k) (sharedUpper s k))
 
 -- The premiums, class by class.
 abbrev pub premiumsOf : Layout → Scheme → List ℕ

@@ -21,6 +21,13 @@ pub record Layout : Type 0 where
 abbrev pub HEADER : ℕ
 HEADER = 7
 
+-- How many bytes a band's end has, and a band, "lower and upper, 4 bytes each".
+abbrev pub END_WIDTH : ℕ
+END_WIDTH = 4
+
+abbrev pub BAND_WIDTH : ℕ
+BAND_WIDTH = 8
+
 -- "Byte 0: version, 1.", no byte of the header after the horizon's, "premiums of 4 bytes".
 abbrev pub version1 : Layout
 version1 = record { version = 1; further = 0; holds = λ m k. 0; width = 4 }
@@ -35,7 +42,7 @@ headerLength y = HEADER + y .further
 
 -- "Length = 7 + s × m + 8 × m + 4 × s".
 abbrev pub lengthOf : Layout → (s m : ℕ) → ℕ
-lengthOf y s m = headerLength y + s * m + 8 * m + y .width * s
+lengthOf y s m = headerLength y + s * m + BAND_WIDTH * m + y .width * s
 
 -- "Then s × m rule bytes, class by class": the row of class i, counted from 0.
 abbrev pub rowPlace : Layout → (m : ℕ) → (i : ℕ) → ℕ
@@ -43,11 +50,11 @@ rowPlace y m i = headerLength y + i * m
 
 -- "m bands of lower and upper, 4 bytes each": the band of column k.
 abbrev pub bandPlace : Layout → (s m : ℕ) → (k : ℕ) → ℕ
-bandPlace y s m k = headerLength y + s * m + k * 8
+bandPlace y s m k = headerLength y + s * m + k * BAND_WIDTH
 
 -- "s premiums of 4 bytes": the premium of class i, counted from 0.
 abbrev pub premiumPlace : Layout → (s m : ℕ) → (i : ℕ) → ℕ
-premiumPlace y s m i = headerLength y + s * m + m * 8 + i * y .width
+premiumPlace y s m i = headerLength y + s * m + m * BAND_WIDTH + i * y .width
 
 -- "Byte 3: s."
 abbrev pub classesIn : List ℕ → ℕ
@@ -62,8 +69,8 @@ abbrev pub schemeFrom : Layout → List ℕ → (s m : ℕ) → Scheme
 schemeFrom y bytes s m =
     schemeOf s m (getD bytes 5 0) (getD bytes 6 0)
     (λ i k. getD bytes (rowPlace y m i + k) 0)
-    (λ k. beAt 4 bytes (bandPlace y s m k))
-    (λ k. beAt 4 bytes (bandPlace y s m k + 4))
+    (λ k. beAt END_WIDTH bytes (bandPlace y s m k))
+    (λ k. beAt END_WIDTH bytes (bandPlace y s m k + END_WIDTH))
     (λ i. beAt (y .width) bytes (premiumPlace y s m i))
 
 -- The scheme that stands in the bytes: "Byte 5: start. Byte 6: horizon. Then s × m rule bytes … m bands … s premiums".

@@ -8,7 +8,7 @@ use Rattle.scheme.specs.Tables.{tab}
 use Rattle.record_spec.specs.declared.Band.{Band}
 use Rattle.record_spec.specs.declared.Band.the-variants.{Ends, NoMore}
 use Rattle.big_endian_spec.specs.Numbers.{beAt}
-use Rattle.record_spec.specs.Layout.{layoutIn, bandPlace, classesIn, columnsIn}
+use Rattle.record_spec.specs.Layout.{END_WIDTH, layoutIn, bandPlace, classesIn, columnsIn}
 use Rattle.record_spec.specs.Read.{readCause}
 
 -- The number of each answer: how many bands it hands out.
@@ -29,8 +29,8 @@ stored bytes column = eqb (readCause bytes) 0 && ltb column (columnsIn bytes)
 abbrev pub bandIn : List ℕ → ℕ → Band
 bandIn bytes column =
     Ends
-    (beAt 4 bytes (bandPlace (layoutIn bytes) (classesIn bytes) (columnsIn bytes) column))
-    (beAt 4 bytes (bandPlace (layoutIn bytes) (classesIn bytes) (columnsIn bytes) column + 4))
+    (beAt END_WIDTH bytes (bandPlace (layoutIn bytes) (classesIn bytes) (columnsIn bytes) column))
+    (beAt END_WIDTH bytes (bandPlace (layoutIn bytes) (classesIn bytes) (columnsIn bytes) column + END_WIDTH))
 
 -- "Past the last band, or over a record that isn't accepted, the answer is "no more"."
 unfoldable pub bandAt : List ℕ → (cursor : ℕ) → Band

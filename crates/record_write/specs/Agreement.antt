@@ -11,7 +11,7 @@ use borrow.Author.Tests.{ltb-false}
 use Rattle.scheme.specs.Laws.FirstCause.{first-none, second-none, test-none}
 use Rattle.scheme.specs.declared.Scheme.{Scheme}
 use Rattle.scheme.specs.Tables.{tab}
-use Rattle.scheme.specs.Access.{ruleAt, lowerAt, upperAt, premiumAt}
+use Rattle.scheme.specs.Access.{ruleAt, premiumAt, sharedLower, sharedUpper}
 use Rattle.scheme.specs.Cause.{causeOf}
 use Rattle.scheme.specs.Accepted.{Accepted}
 use Rattle.scheme.specs.Laws.Judged.{accepted-cause}
@@ -22,7 +22,7 @@ use Rattle.scheme.specs.Laws.Values.{cause-same, cleared-values}
 use Rattle.big_endian_spec.specs.Numbers.{Bytes, beAt, beBytes}
 use Rattle.scheme.specs.Stored.{schemeOf, cleared}
 use Rattle.record_spec.specs.declared.WriteAnswer.{WriteAnswer}
-use Rattle.record_spec.specs.Layout.{Layout, HEADER, version1, layoutIn, headerLength, lengthOf, rowPlace, bandPlace, premiumPlace, classesIn, columnsIn, schemeFrom, schemeIn}
+use Rattle.record_spec.specs.Layout.{Layout, HEADER, version1, layoutIn, headerLength, lengthOf, rowPlace, bandPlace, premiumPlace, classesIn, columnsIn, schemeFrom, schemeIn, END_WIDTH}
 use Rattle.record_spec.specs.Bytes.{headerBytes, headerOf, rulesOf, bandsOf, premiumsOf, bytesOf}
 use Rattle.record_spec.specs.Read.{frameCause, readCause, readAnswer}
 use Rattle.record_spec.specs.Write.{recordOf, recordLength, writeCause, writeAnswer, writeLeaves, WritePromise}
@@ -113,15 +113,15 @@ module _ {y : Layout} (known : Known y) (s : Scheme) (accepted : causeOf s ≡ 0
   rule-at : (i k : ℕ) → i < s .classes → k < s .columns → getD (bytesOf y s) (rowPlace y (s .columns) i + k) 0 ≡ ruleAt s i k
   rule-at i k is ks = ap (λ l. getD l (rowPlace y (s .columns) i + k) 0) split ∙ rule-read y s (headerOf y s) (length-header y s) i k is ks
 
-  lower-at : (k : ℕ) → k < s .columns → beAt 4 (bytesOf y s) (bandPlace y (s .classes) (s .columns) k) ≡ lowerAt s 0 k
+  lower-at : (k : ℕ) → k < s .columns → beAt END_WIDTH (bytesOf y s) (bandPlace y (s .classes) (s .columns) k) ≡ sharedLower s k
   lower-at k ks =
-      ap (λ l. beAt 4 l (bandPlace y (s .classes) (s .columns) k)) split
+      ap (λ l. beAt END_WIDTH l (bandPlace y (s .classes) (s .columns) k)) split
       ∙ lower-read y s (headerOf y s) (length-header y s) k ks
       (omega (arith, ok .bands .ordered 0 k (ok .size .someClass) ks, ok .bands .capped 0 k (ok .size .someClass) ks))
 
-  upper-at : (k : ℕ) → k < s .columns → beAt 4 (bytesOf y s) (bandPlace y (s .classes) (s .columns) k + 4) ≡ upperAt s 0 k
+  upper-at : (k : ℕ) → k < s .columns → beAt END_WIDTH (bytesOf y s) (bandPlace y (s .classes) (s .columns) k + END_WIDTH) ≡ sharedUpper s k
   upper-at k ks =
-      ap (λ l. beAt 4 l (bandPlace y (s .classes) (s .columns) k + 4)) split
+      ap (λ l. beAt END_WIDTH l (bandPlace y (s .classes) (s .columns) k + END_WIDTH)) split
       ∙ upper-read y s (headerOf y s) (length-header y s) k ks (omega (arith, ok .bands .capped 0 k (ok .size .someClass) ks))
 
   premium-at : (i : ℕ) → i < s .classes → beAt (y .width) (bytesOf y s) (premiumPlace y (s .classes) (s .columns) i) ≡ premiumAt s i
@@ -132,7 +132,7 @@ module _ {y : Layout} (known : Known y) (s : Scheme) (accepted : causeOf s ≡ 0
   by-layout : schemeFrom y (bytesOf y s) (s .classes) (s .columns) ≡ cleared s
   unfolding bytesOf headerBytes beBytes
   by-layout =
-      made-eq (s .classes) (s .columns) (s .start) (s .horizon) _ _ _ _ (ruleAt s) (lowerAt s 0) (upperAt s 0) (premiumAt s) rule-at lower-at upper-at premium-at
+      made-eq (s .classes) (s .columns) (s .start) (s .horizon) _ _ _ _ (ruleAt s) (sharedLower s) (sharedUpper s) (premiumAt s) rule-at lower-at upper-at premium-at
 
   pub reread : schemeIn (bytesOf y s) ≡ cleared s
   unfolding bytesOf headerBytes beBytes

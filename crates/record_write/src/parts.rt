@@ -4,11 +4,12 @@ ghost use mathlib.Core.List.{_++_};
 ghost use Prim.Native.Nat.{_+_, _*_, _<_, _≤_};
 ghost use lib.ListN.{length, getD, drop};
 ghost use lib.Seq.{sets};
+ghost use Rattle.scheme.specs.Access.{CELL_STRIDE};
 ghost use Rattle.scheme.specs.Tables.{tab};
 ghost use Rattle.scheme.specs.Accepted.{SizeFits};
 ghost use Rattle.big_endian_spec.specs.Numbers.{beBytes};
 ghost use Rattle.record_spec.specs.Joined.{joined};
-ghost use Rattle.record_spec.specs.Layout.{HEADER, version1};
+ghost use Rattle.record_spec.specs.Layout.{HEADER, BAND_WIDTH, version1};
 ghost use Rattle.record_spec.specs.Bytes.{headerBytes, bandBytes};
 ghost use Rattle.record_spec.specs.Write.{recordOf, recordLength};
 use record_spec::BAND_WIDTH;
@@ -33,14 +34,14 @@ fn header(out: &mut [u8], size: usize, s: u8, m: u8, start: u8, horizon: u8)
 // Puts the rules of s classes and m columns, class by class, from place `from` on.
 fn rules(out: &mut [u8], from: usize, rules: &[u8; 256], s: usize, m: usize)
     requires { ⌜ (from + s * m ≤ length (now out)) × (s ≤ 32) × (m ≤ 8) ⌝ }
-    ensures { λ _. ⌜ now (out .exit) ≡ sets (now (out .entry)) from (joined s (λ i. tab m (λ k. getD (now (rules .entry)) (i * 8 + k) 0))) ⌝ }
+    ensures { λ _. ⌜ now (out .exit) ≡ sets (now (out .entry)) from (joined s (λ i. tab m (λ k. getD (now (rules .entry)) (i * CELL_STRIDE + k) 0))) ⌝ }
 {
     let mut i: usize = 0;
     let mut at: usize = 0;
     let mut to = from;
     while i < s {
         big_endian::copy(rules, at, out, to, m);
-        at += scheme::RULE_STRIDE;
+        at += scheme::CELL_STRIDE;
         to += m;
         i += 1;
     }
@@ -48,7 +49,7 @@ fn rules(out: &mut [u8], from: usize, rules: &[u8; 256], s: usize, m: usize)
 
 // Puts a band, lower and upper.
 fn put_band(out: &mut [u8], at: usize, lower: u32, upper: u32)
-    requires { ⌜ at + 8 ≤ length (now out) ⌝ }
+    requires { ⌜ at + BAND_WIDTH ≤ length (now out) ⌝ }
     ensures { λ _. ⌜ now (out .exit) ≡ sets (now (out .entry)) at (bandBytes lower upper) ⌝ }
 {
     big_endian::put_number(out, at, END_WIDTH, lower);
@@ -57,7 +58,7 @@ fn put_band(out: &mut [u8], at: usize, lower: u32, upper: u32)
 
 // Puts m bands, lower and upper, from place `from` on.
 fn bands(out: &mut [u8], from: usize, lowers: &[u32; 8], uppers: &[u32; 8], m: usize)
-    requires { ⌜ (from + m * 8 ≤ length (now out)) × (m ≤ 8) ⌝ }
+    requires { ⌜ (from + m * BAND_WIDTH ≤ length (now out)) × (m ≤ 8) ⌝ }
     ensures { λ _. ⌜ now (out .exit) ≡ sets (now (out .entry)) from (joined m (λ k. bandBytes (getD (now (lowers .entry)) k 0) (getD (now (uppers .entry)) k 0))) ⌝ }
 {
     let mut k: usize = 0;

@@ -4,6 +4,7 @@ use mathlib.Core.Bool.{cond}
 use mathlib.Core.List.{List}
 use lib.Dec.{eqb, ltb}
 use lib.ListN.{length, take, drop}
+use Rattle.scheme.specs.Access.{CELL_STRIDE}
 use Rattle.setchain.specs.Sums.{onlyIf}
 use Rattle.scheme.specs.declared.RowAnswer.{RowAnswer}
 use Rattle.scheme.specs.Tables.{tab}
@@ -15,7 +16,7 @@ entriesOf rules ends classes = tab 32 (λ j. onlyIf (ltb j classes) (sumByTarget
 
 -- The rules of class i + 1: eight stand for each class, of which as many count as there are columns.
 abbrev pub classRules : ℕ → List ℕ → ℕ → List ℕ
-classRules columns rules i = take columns (drop (i * 8) rules)
+classRules columns rules i = take columns (drop (i * CELL_STRIDE) rules)
 
 -- The row of class i + 1 that the code makes of a scheme's parts.
 abbrev pub rowFrom : List ℕ → List ℕ → List ℕ → ℕ → ℕ → ℕ → RowAnswer

@@ -42,7 +42,7 @@ pub fn answered(
     ensures { λ r. ⌜ r ≡ rowFrom rules lowers uppers columns classes (class - 1) ⌝ }
 {
     let m = columns as usize;
-    let from = (class - 1) as usize * scheme::RULE_STRIDE;
+    let from = (class - 1) as usize * scheme::CELL_STRIDE;
     let to = from + m;
     let own = &rules[from..to];
     let lower = entries(own, &lowers[..m], classes);

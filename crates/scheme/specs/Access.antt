@@ -4,21 +4,37 @@ use Prim.Native.Nat.{ℕ, _+_, _*_}
 use lib.ListN.{getD}
 use Rattle.scheme.specs.declared.Scheme.{Scheme}
 
+-- How far the cells of a class stand after those of the class before it: as many as a class has room for.
+abbrev pub CELL_STRIDE : ℕ
+CELL_STRIDE = 8
+
+-- How many cells 32 classes have room for.
+abbrev pub CELL_PLACES : ℕ
+CELL_PLACES = 256
+
 -- How many cells a class has.
 abbrev pub cellCount : Scheme → ℕ
 cellCount s = s .columns
 
 -- The next class, 1 to s, that cell k of class i leads to.
 abbrev pub ruleAt : Scheme → ℕ → ℕ → ℕ
-ruleAt s i k = getD (s .rules) (i * 8 + k) 0
+ruleAt s i k = getD (s .rules) (i * CELL_STRIDE + k) 0
 
--- The lower end of the band of cell k of class i: all classes share their bands.
+-- The lower end of the band that all classes share for cell k.
+abbrev pub sharedLower : Scheme → ℕ → ℕ
+sharedLower s k = getD (s .lowers) k 0
+
+-- The upper end.
+abbrev pub sharedUpper : Scheme → ℕ → ℕ
+sharedUpper s k = getD (s .uppers) k 0
+
+-- The lower end of the band of cell k of class i.
 abbrev pub lowerAt : Scheme → ℕ → ℕ → ℕ
-lowerAt s i k = getD (s .lowers) k 0
+lowerAt s i k = sharedLower s k
 
 -- The upper end.
 abbrev pub upperAt : Scheme → ℕ → ℕ → ℕ
-upperAt s i k = getD (s .uppers) k 0
+upperAt s i k = sharedUpper s k
 
 -- The premium of class i.
 abbrev pub premiumAt : Scheme → ℕ → ℕ

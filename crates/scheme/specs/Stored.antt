@@ -5,7 +5,7 @@ use lib.Dec.{ltb}
 use lib.ListN.{replicate}
 use Rattle.scheme.specs.declared.Scheme.{Scheme}
 use Rattle.scheme.specs.Tables.{tab}
-use Rattle.scheme.specs.Access.{ruleAt, lowerAt, upperAt, premiumAt}
+use Rattle.scheme.specs.Access.{CELL_STRIDE, CELL_PLACES, ruleAt, premiumAt, sharedLower, sharedUpper}
 
 -- f at an index below n, and 0 beyond.
 unfoldable pub upTo : ℕ → (ℕ → ℕ) → ℕ → ℕ
@@ -13,7 +13,7 @@ upTo n f k = cond (ltb k n) (f k) 0
 
 -- Where the rules are stored: class q / 8 and column q mod 8 at place q.
 abbrev pub rulesUpTo : (s m : ℕ) → (ℕ → ℕ → ℕ) → ℕ → ℕ
-rulesUpTo s m rule q = upTo s (λ i. upTo m (rule i) (q % 8)) (q / 8)
+rulesUpTo s m rule q = upTo s (λ i. upTo m (rule i) (q % CELL_STRIDE)) (q / CELL_STRIDE)
 
 -- "every operation that makes a scheme sets them to 0": the scheme of these values, with 0 stored beyond s and m.
 unfoldable pub schemeOf : (s m start horizon : ℕ) → (rule : ℕ → ℕ → ℕ) → (lower upper premium : ℕ → ℕ) → Scheme
@@ -22,15 +22,15 @@ schemeOf s m start horizon rule lower upper premium = record {
   columns = m;
   start = start;
   horizon = horizon;
-  rules = tab 256 (rulesUpTo s m rule);
-  lowers = tab 8 (upTo m lower);
-  uppers = tab 8 (upTo m upper);
+  rules = tab CELL_PLACES (rulesUpTo s m rule);
+  lowers = tab CELL_STRIDE (upTo m lower);
+  uppers = tab CELL_STRIDE (upTo m upper);
   premiums = tab 32 (upTo s premium);
 }
 
 -- "Values stored beyond s or m are ignored": a scheme with 0 for them.
 abbrev pub cleared : Scheme → Scheme
-cleared s = schemeOf (s .classes) (s .columns) (s .start) (s .horizon) (ruleAt s) (lowerAt s 0) (upperAt s 0) (premiumAt s)
+cleared s = schemeOf (s .classes) (s .columns) (s .start) (s .horizon) (ruleAt s) (sharedLower s) (sharedUpper s) (premiumAt s)
 
 -- "number only" (document 01, "When a call is declined"): a scheme all 0 beside it.
 unfoldable pub noScheme : Scheme
@@ -39,8 +39,8 @@ noScheme = record {
   columns = 0;
   start = 0;
   horizon = 0;
-  rules = replicate 256 0;
-  lowers = replicate 8 0;
-  uppers = replicate 8 0;
+  rules = replicate CELL_PLACES 0;
+  lowers = replicate CELL_STRIDE 0;
+  uppers = replicate CELL_STRIDE 0;
   premiums = replicate 32 0;
 }

@@ -14,8 +14,8 @@ pub const MOST_YEARS: u8 = 100;
 
 pub const MOST_PREMIUM: u32 = 10_000_000;
 
-// How far the rules of a class stand after those of the class before it.
-pub const RULE_STRIDE: usize = 8;
+// How far the cells of a class stand after those of the class before it.
+pub const CELL_STRIDE: usize = 8;
 
 // ONE as a band's end.
 pub const MOST_BAND: u32 = 1_000_000_000;

@@ -2,6 +2,7 @@
 -- Assumes nothing.
 use Prim.Native.Nat.{_-_, _≤_}
 use native.Mathlib.Omega.{arith}
+use Rattle.scheme.specs.Access.{CELL_PLACES}
 use Rattle.scheme.specs.Stored.{rulesUpTo}
 use Rattle.ready_spec.specs.Scales.{classesOf}
 use Rattle.ready_spec.specs.Ready.{readyRule}
@@ -10,13 +11,13 @@ use Rattle.ready.proofs.rules.Statement.{statement}
 use Rattle.ready.proofs.rules.Tie as tie
 
 abbrev Inv-loop : tie.InvT-loop
-Inv-loop number out₀ place₀ out place = (place ≤ 256) × Filled 256 (rulesUpTo (classesOf number) 5 (readyRule number)) place out
+Inv-loop number out₀ place₀ out place = (place ≤ CELL_PLACES) × Filled CELL_PLACES (rulesUpTo (classesOf number) 5 (readyRule number)) place out
 
 abbrev μ-loop : tie.MeasureT-loop
-μ-loop number out₀ place₀ out place = 256 - place
+μ-loop number out₀ place₀ out place = CELL_PLACES - place
 
 loop-holds : tie.Need-loop-holds Inv-loop μ-loop
-loop-holds c = (omega arith, fill-none 256 _)
+loop-holds c = (omega arith, fill-none CELL_PLACES _)
 
 rule-entry-requires : tie.Need-rule-entry-requires Inv-loop μ-loop
 rule-entry-requires c κs = omega arith
@@ -33,12 +34,12 @@ loop-less c = omega arith
 loop-again : tie.Need-loop-again Inv-loop μ-loop
 loop-again c = (
   omega arith,
-  fill-more 256 _ (c .before .before .loop .place) (c .before .before .loop .out) _ (c .before .loop-test .taken) (c .rule-entry .ensures)
+  fill-more CELL_PLACES _ (c .before .before .loop .place) (c .before .before .loop .out) _ (c .before .loop-test .taken) (c .rule-entry .ensures)
       (c .before .before .loop .inv .1),
 )
 
 returns : tie.Need-returns Inv-loop μ-loop
-returns c = fill-all 256 _ _ _ (c .loop-test .left) (c .before .loop .inv .1)
+returns c = fill-all CELL_PLACES _ _ _ (c .loop-test .left) (c .before .loop .inv .1)
 
 pub rules-spec : {M : Type 1} → statement M
 rules-spec =

@@ -8,12 +8,12 @@ use lib.ListN.{length, getD, take, drop, length-drop, List·getD-append}
 use lib.Seq.{take-add, drop-drop, take-all, getD-append-add}
 use Rattle.scheme.specs.declared.Scheme.{Scheme}
 use Rattle.scheme.specs.Tables.{tab}
-use Rattle.scheme.specs.Access.{ruleAt, lowerAt, upperAt, premiumAt}
+use Rattle.scheme.specs.Access.{ruleAt, premiumAt, sharedLower, sharedUpper}
 use Rattle.scheme.specs.Laws.Tab.{length-tab, getD-tab, tab-eq}
 use Rattle.big_endian_spec.specs.Numbers.{beAt, beBytes}
 use Rattle.record_spec.specs.Joined.{joined}
 use Rattle.scheme.specs.Stored.{schemeOf}
-use Rattle.record_spec.specs.Layout.{Layout, headerLength, lengthOf, rowPlace, bandPlace, premiumPlace, schemeFrom}
+use Rattle.record_spec.specs.Layout.{Layout, headerLength, lengthOf, rowPlace, bandPlace, premiumPlace, schemeFrom, END_WIDTH, BAND_WIDTH}
 use Rattle.record_spec.specs.Bytes.{bandBytes, rulesOf, bandsOf, premiumsOf}
 use Rattle.record_write.specs.Laws.Lists.{tab-part, joined-parts, getD-joined}
 use Rattle.record_spec.specs.Laws.Joined.{joined-eq}
@@ -40,40 +40,41 @@ module _ (y : Layout) (bytes : List ℕ) (s m : ℕ) (small : (k : ℕ) → getD
       ∙ tab-part m (rowPlace y m i) bytes (omega (arith, mul-le-mul-right m is)))
       ∙ joined-parts m (headerLength y) s bytes
 
-  band-put : (k : ℕ) → k < m → bandBytes (lowerAt found 0 k) (upperAt found 0 k) ≡ take 8 (drop (bandPlace y s m k) bytes)
+  band-put : (k : ℕ) → k < m → bandBytes (sharedLower found k) (sharedUpper found k) ≡ take BAND_WIDTH (drop (bandPlace y s m k) bytes)
   band-put k ks =
       let at : ℕ = bandPlace y s m k in
-      let lower : lowerAt found 0 k ≡ beAt 4 bytes at = lower-made _ _ _ _ _ _ _ _ 0 k few ks in
-      let upper : upperAt found 0 k ≡ beAt 4 bytes (at + 4) = upper-made _ _ _ _ _ _ _ _ 0 k few ks in
+      let lower : sharedLower found k ≡ beAt END_WIDTH bytes at = lower-made _ _ _ _ _ _ _ _ 0 k few ks in
+      let upper : sharedUpper found k ≡ beAt END_WIDTH bytes (at + END_WIDTH) = upper-made _ _ _ _ _ _ _ _ 0 k few ks in
       ap₂ (λ a b. bandBytes a b) lower upper
-      ∙ ap₂ (λ a b. a ++ b) (put-read 4 bytes at (omega arith) small) (put-read 4 bytes (at + 4) (omega arith) small)
+      ∙ ap₂ (λ a b. a ++ b) (put-read 4 bytes at (omega arith) small) (put-read 4 bytes (at + END_WIDTH) (omega arith) small)
       ∙ sym (take-add 4 4 (drop at bytes) ∙ ap (λ l. take 4 (drop at bytes) ++ take 4 l) (drop-drop 4 at bytes))
 
-  bands-put : joined m (λ k. bandBytes (lowerAt found 0 k) (upperAt found 0 k)) ≡ take (m * 8) (drop (headerLength y + s * m) bytes)
-  bands-put = joined-eq m _ (λ k. take 8 (drop (bandPlace y s m k) bytes)) band-put ∙ joined-parts 8 (headerLength y + s * m) m bytes
+  bands-put : joined m (λ k. bandBytes (sharedLower found k) (sharedUpper found k)) ≡ take (m * BAND_WIDTH) (drop (headerLength y + s * m) bytes)
+  bands-put = joined-eq m _ (λ k. take BAND_WIDTH (drop (bandPlace y s m k) bytes)) band-put ∙ joined-parts BAND_WIDTH (headerLength y + s * m) m bytes
 
-  premiums-put : joined s (λ i. beBytes (y .width) (premiumAt found i)) ≡ take (s * y .width) (drop (headerLength y + s * m + m * 8) bytes)
+  premiums-put : joined s (λ i. beBytes (y .width) (premiumAt found i)) ≡ take (s * y .width) (drop (headerLength y + s * m + m * BAND_WIDTH) bytes)
   premiums-put =
       joined-eq s _ (λ i. take (y .width) (drop (premiumPlace y s m i) bytes))
       (λ i is.
       ap (beBytes (y .width)) (premium-made _ _ _ _ _ _ _ _ i most is)
       ∙ put-read (y .width) bytes (premiumPlace y s m i) (omega (arith, mul-le-mul-right (y .width) is)) small)
-      ∙ joined-parts (y .width) (headerLength y + s * m + m * 8) s bytes
+      ∙ joined-parts (y .width) (headerLength y + s * m + m * BAND_WIDTH) s bytes
 
   pub body-put : rulesOf found ++ bandsOf found ++ premiumsOf y found ≡ drop (headerLength y) bytes
   unfolding schemeOf
   body-put =
       let h : ℕ = headerLength y in
-      let two : take (s * m) (drop h bytes) ++ take (m * 8) (drop (h + s * m) bytes) ≡ take (s * m + m * 8) (drop h bytes) =
-      sym (take-add (s * m) (m * 8) (drop h bytes) ∙ ap (λ l. take (s * m) (drop h bytes) ++ take (m * 8) l) (drop-drop (s * m) h bytes))
+      let two : take (s * m) (drop h bytes) ++ take (m * BAND_WIDTH) (drop (h + s * m) bytes) ≡ take (s * m + m * BAND_WIDTH) (drop h bytes) =
+      sym (take-add (s * m) (m * BAND_WIDTH) (drop h bytes) ∙ ap (λ l. take (s * m) (drop h bytes) ++ take (m * BAND_WIDTH) l) (drop-drop (s * m) h bytes))
       in
-      let rest : drop (s * m + m * 8) (drop h bytes) ≡ drop (h + s * m + m * 8) bytes =
-      drop-drop (s * m + m * 8) h bytes ∙ ap (λ n. drop n bytes) (sym (add-assoc h (s * m) (m * 8)))
+      let rest : drop (s * m + m * BAND_WIDTH) (drop h bytes) ≡ drop (h + s * m + m * BAND_WIDTH) bytes =
+      drop-drop (s * m + m * BAND_WIDTH) h bytes ∙ ap (λ n. drop n bytes) (sym (add-assoc h (s * m) (m * BAND_WIDTH)))
       in
-      let three : take (s * m + m * 8) (drop h bytes) ++ take (s * y .width) (drop (h + s * m + m * 8) bytes) ≡ take (s * m + m * 8 + s * y .width) (drop h bytes) =
-      sym (take-add (s * m + m * 8) (s * y .width) (drop h bytes) ∙ ap (λ l. take (s * m + m * 8) (drop h bytes) ++ take (s * y .width) l) rest)
+      let three : take (s * m + m * BAND_WIDTH) (drop h bytes) ++ take (s * y .width) (drop (h + s * m + m * BAND_WIDTH) bytes) ≡ take (s * m + m * BAND_WIDTH + s * y .width) (drop h bytes) =
+      sym (take-add (s * m + m * BAND_WIDTH) (s * y .width) (drop h bytes) ∙ ap (λ l. take (s * m + m * BAND_WIDTH) (drop h bytes) ++ take (s * y .width) l) rest)
       in
-      let all : take (s * m + m * 8 + s * y .width) (drop h bytes) ≡ drop h bytes = take-all (s * m + m * 8 + s * y .width) (drop h bytes) (rw (length-drop h bytes) (omega arith)) in
+      let size : ℕ = s * m + m * BAND_WIDTH + s * y .width in
+      let all : take size (drop h bytes) ≡ drop h bytes = take-all size (drop h bytes) (rw (length-drop h bytes) (omega arith)) in
       rw (rules-put, bands-put, premiums-put, two, three, all)
 
 -- Read after put: behind any header, the values of the scheme stand where the layout says.
@@ -100,48 +101,48 @@ module _ (y : Layout) (s : Scheme) (front : List ℕ) (size : length front ≡ h
       ∙ rw e (getD-append-add (rulesOf s) (bandsOf s ++ premiumsOf y s) p 0)
 
   -- Byte j of the band of column k.
-  band-byte : (k j : ℕ) → k < s .columns → j < 8
-      → getD laidOut (bandPlace y (s .classes) (s .columns) k + j) 0 ≡ getD (bandBytes (lowerAt s 0 k) (upperAt s 0 k)) j 0
+  band-byte : (k j : ℕ) → k < s .columns → j < BAND_WIDTH
+      → getD laidOut (bandPlace y (s .classes) (s .columns) k + j) 0 ≡ getD (bandBytes (sharedLower s k) (sharedUpper s k)) j 0
   band-byte k j ks js =
       let from : ℕ = headerLength y + s .classes * s .columns in
-      ap (λ q. getD laidOut q 0) (add-assoc from (k * 8) j) ∙ past-rules (k * 8 + j)
-      ∙ List·getD-append (bandsOf s) _ 0 (k * 8 + j) (omega (arith, length-bands y s, within (s .columns) 8 k j ks js))
-      ∙ getD-joined 8 (s .columns) (λ c. bandBytes (lowerAt s 0 c) (upperAt s 0 c)) (λ c lt. length-band (lowerAt s 0 c) (upperAt s 0 c)) k j ks js
+      ap (λ q. getD laidOut q 0) (add-assoc from (k * BAND_WIDTH) j) ∙ past-rules (k * BAND_WIDTH + j)
+      ∙ List·getD-append (bandsOf s) _ 0 (k * BAND_WIDTH + j) (omega (arith, length-bands y s, within (s .columns) BAND_WIDTH k j ks js))
+      ∙ getD-joined BAND_WIDTH (s .columns) (λ c. bandBytes (sharedLower s c) (sharedUpper s c)) (λ c lt. length-band (sharedLower s c) (sharedUpper s c)) k j ks js
 
-  pub lower-read : (k : ℕ) → k < s .columns → lowerAt s 0 k < 256 ^ 4 → beAt 4 laidOut (bandPlace y (s .classes) (s .columns) k) ≡ lowerAt s 0 k
+  pub lower-read : (k : ℕ) → k < s .columns → sharedLower s k < 256 ^ END_WIDTH → beAt END_WIDTH laidOut (bandPlace y (s .classes) (s .columns) k) ≡ sharedLower s k
   lower-read k ks fits =
-      let low : List ℕ = beBytes 4 (lowerAt s 0 k) in
+      let low : List ℕ = beBytes END_WIDTH (sharedLower s k) in
       beAt-eq 4 laidOut (bandPlace y (s .classes) (s .columns) k) low 0
       (λ j js.
       band-byte k j ks (omega arith)
-      ∙ List·getD-append low _ 0 j (omega (arith, length-beBytes 4 (lowerAt s 0 k)))
+      ∙ List·getD-append low _ 0 j (omega (arith, length-beBytes END_WIDTH (sharedLower s k)))
       ∙ ap (λ n. getD low n 0) (zero-plus j))
-      ∙ read-put 4 (lowerAt s 0 k) fits
+      ∙ read-put 4 (sharedLower s k) fits
     where
       zero-plus : (j : ℕ) → j ≡ 0 + j
       zero-plus j = omega arith
 
-  pub upper-read : (k : ℕ) → k < s .columns → upperAt s 0 k < 256 ^ 4 → beAt 4 laidOut (bandPlace y (s .classes) (s .columns) k + 4) ≡ upperAt s 0 k
+  pub upper-read : (k : ℕ) → k < s .columns → sharedUpper s k < 256 ^ END_WIDTH → beAt END_WIDTH laidOut (bandPlace y (s .classes) (s .columns) k + END_WIDTH) ≡ sharedUpper s k
   upper-read k ks fits =
-      let low : List ℕ = beBytes 4 (lowerAt s 0 k) in
-      let high : List ℕ = beBytes 4 (upperAt s 0 k) in
+      let low : List ℕ = beBytes END_WIDTH (sharedLower s k) in
+      let high : List ℕ = beBytes END_WIDTH (sharedUpper s k) in
       let from : ℕ = bandPlace y (s .classes) (s .columns) k in
-      beAt-eq 4 laidOut (from + 4) high 0
+      beAt-eq 4 laidOut (from + END_WIDTH) high 0
       (λ j js.
       ap (λ q. getD laidOut q 0) (add-assoc from 4 j) ∙ band-byte k (4 + j) ks (omega arith)
       ∙ ap (λ n. getD (low ++ high) n 0) (past j)
       ∙ getD-append-add low high (0 + j) 0)
-      ∙ read-put 4 (upperAt s 0 k) fits
+      ∙ read-put 4 (sharedUpper s k) fits
     where
-      past : (j : ℕ) → 4 + j ≡ length (beBytes 4 (lowerAt s 0 k)) + (0 + j)
-      past j = omega (arith, length-beBytes 4 (lowerAt s 0 k))
+      past : (j : ℕ) → 4 + j ≡ length (beBytes END_WIDTH (sharedLower s k)) + (0 + j)
+      past j = omega (arith, length-beBytes END_WIDTH (sharedLower s k))
 
   pub premium-read : (i : ℕ) → i < s .classes → premiumAt s i < 256 ^ y .width
       → beAt (y .width) laidOut (premiumPlace y (s .classes) (s .columns) i) ≡ premiumAt s i
   premium-read i is fits =
       beAt-eq w laidOut (premiumPlace y (s .classes) (s .columns) i) (beBytes w (premiumAt s i)) 0
       (λ j js.
-      ap (λ q. getD laidOut q 0) (place j) ∙ past-rules (m * 8 + (i * w + j))
+      ap (λ q. getD laidOut q 0) (place j) ∙ past-rules (m * BAND_WIDTH + (i * w + j))
       ∙ ap (λ n. getD (bandsOf s ++ premiumsOf y s) n 0) (after j)
       ∙ getD-append-add (bandsOf s) (premiumsOf y s) (i * w + j) 0
       ∙ getD-joined w (s .classes) (λ c. beBytes w (premiumAt s c)) (λ c lt. length-beBytes w (premiumAt s c)) i j is js
@@ -157,8 +158,8 @@ module _ (y : Layout) (s : Scheme) (front : List ℕ) (size : length front ≡ h
       zero-plus : (j : ℕ) → j ≡ 0 + j
       zero-plus j = omega arith
 
-      place : (j : ℕ) → premiumPlace y (s .classes) m i + j ≡ headerLength y + s .classes * m + (m * 8 + (i * w + j))
+      place : (j : ℕ) → premiumPlace y (s .classes) m i + j ≡ headerLength y + s .classes * m + (m * BAND_WIDTH + (i * w + j))
       place j = omega arith
 
-      after : (j : ℕ) → m * 8 + (i * w + j) ≡ length (bandsOf s) + (i * w + j)
+      after : (j : ℕ) → m * BAND_WIDTH + (i * w + j) ≡ length (bandsOf s) + (i * w + j)
       after j = omega (arith, length-bands y s)

@@ -6,12 +6,12 @@ use native.Mathlib.Omega.{arith}
 use lib.ListN.{length, getD, drop, length-append, List·getD-append}
 use lib.Seq.{sets, getD-append-add}
 use Rattle.scheme.specs.declared.Scheme.{Scheme}
-use Rattle.scheme.specs.Access.{ruleAt, lowerAt, upperAt, premiumAt}
+use Rattle.scheme.specs.Access.{CELL_STRIDE, ruleAt, premiumAt, sharedLower, sharedUpper}
 use Rattle.big_endian_spec.specs.Numbers.{beBytes}
 use Rattle.record_spec.specs.Joined.{joined}
 use Rattle.record_spec.specs.Write.{recordOf, recordLength}
 use Rattle.scheme.specs.Tables.{tab}
-use Rattle.record_spec.specs.Layout.{Layout, HEADER, version1, headerLength, lengthOf}
+use Rattle.record_spec.specs.Layout.{Layout, HEADER, version1, headerLength, lengthOf, BAND_WIDTH}
 use Rattle.record_spec.specs.Bytes.{bandBytes, headerBytes, headerOf, rulesOf, bandsOf, premiumsOf, bytesOf}
 use Rattle.scheme.specs.Laws.Tab.{length-tab, getD-tab}
 use Rattle.record_write.specs.Laws.Lists.{length-joined, sets-4}
@@ -36,8 +36,8 @@ module _ (y : Layout) (s : Scheme) where
   pub length-rules : length (rulesOf s) ≡ s .classes * s .columns
   length-rules = length-joined (s .columns) (s .classes) _ (λ i lt. length-tab (s .columns) (ruleAt s i))
 
-  pub length-bands : length (bandsOf s) ≡ s .columns * 8
-  length-bands = length-joined 8 (s .columns) _ (λ k lt. length-band (lowerAt s 0 k) (upperAt s 0 k))
+  pub length-bands : length (bandsOf s) ≡ s .columns * BAND_WIDTH
+  length-bands = length-joined BAND_WIDTH (s .columns) _ (λ k lt. length-band (sharedLower s k) (sharedUpper s k))
 
   pub length-premiums : length (premiumsOf y s) ≡ s .classes * y .width
   length-premiums = length-joined (y .width) (s .classes) _ (λ i lt. length-beBytes (y .width) (premiumAt s i))
@@ -52,7 +52,7 @@ module _ (y : Layout) (s : Scheme) where
   -- The parts laid one by one, each where the last one ends.
   pub laid : (l : List ℕ) → lengthOf y (s .classes) (s .columns) ≤ length l
       → sets (sets (sets (sets l 0 (headerOf y s)) (headerLength y) (rulesOf s)) (headerLength y + s .classes * s .columns) (bandsOf s))
-      (headerLength y + s .classes * s .columns + s .columns * 8) (premiumsOf y s)
+      (headerLength y + s .classes * s .columns + s .columns * BAND_WIDTH) (premiumsOf y s)
       ≡ bytesOf y s ++ drop (lengthOf y (s .classes) (s .columns)) l
   unfolding bytesOf
   laid l fits =
@@ -64,8 +64,8 @@ module _ (y : Layout) (s : Scheme) where
 -- What the writer lays, in its own terms.
 pub wrote : (s : Scheme) (l : List ℕ) {size : ℕ} {h r m p : List ℕ} → size ≡ recordLength s → size ≤ length l
     → h ≡ sets l 0 (headerBytes version1 size (s .classes) (s .columns) (s .start) (s .horizon))
-    → r ≡ sets h HEADER (joined (s .classes) (λ i. tab (s .columns) (λ k. getD (s .rules) (i * 8 + k) 0)))
+    → r ≡ sets h HEADER (joined (s .classes) (λ i. tab (s .columns) (λ k. getD (s .rules) (i * CELL_STRIDE + k) 0)))
     → m ≡ sets r (HEADER + s .classes * s .columns) (joined (s .columns) (λ k. bandBytes (getD (s .lowers) k 0) (getD (s .uppers) k 0)))
-    → p ≡ sets m (HEADER + s .classes * s .columns + s .columns * 8) (joined (s .classes) (λ i. beBytes 4 (getD (s .premiums) i 0)))
+    → p ≡ sets m (HEADER + s .classes * s .columns + s .columns * BAND_WIDTH) (joined (s .classes) (λ i. beBytes 4 (getD (s .premiums) i 0)))
     → p ≡ recordOf s ++ drop size l
 wrote s l es fits eh er em ep = rw (ep, em, er, eh, es) (laid version1 s l (rw es at fits))

@@ -7,21 +7,21 @@ use lib.ListN.{length, set, length-append}
 use lib.Seq.{sets, length-sets}
 use Rattle.big_endian_spec.specs.Numbers.{beBytes, numberPut}
 use Rattle.scheme.specs.Tables.{tab}
-use Rattle.record_spec.specs.Layout.{version1}
+use Rattle.record_spec.specs.Layout.{version1, END_WIDTH, BAND_WIDTH}
 use Rattle.record_spec.specs.Bytes.{bandBytes, headerBytes}
 use Rattle.big_endian_spec.specs.Laws.{sets-append, length-beBytes, put-held}
 
-pub length-band : (lower upper : ℕ) → length (bandBytes lower upper) ≡ 8
-length-band lower upper = omega (arith, length-append (beBytes 4 lower) (beBytes 4 upper), length-beBytes 4 lower, length-beBytes 4 upper)
+pub length-band : (lower upper : ℕ) → length (bandBytes lower upper) ≡ BAND_WIDTH
+length-band lower upper = omega (arith, length-append (beBytes END_WIDTH lower) (beBytes END_WIDTH upper), length-beBytes END_WIDTH lower, length-beBytes END_WIDTH upper)
 
-pub put-band : (l : List ℕ) (p lower upper : ℕ) → p + 8 ≤ length l → numberPut 4 (numberPut 4 l p lower) (p + 4) upper ≡ sets l p (bandBytes lower upper)
+pub put-band : (l : List ℕ) (p lower upper : ℕ) → p + BAND_WIDTH ≤ length l → numberPut END_WIDTH (numberPut END_WIDTH l p lower) (p + END_WIDTH) upper ≡ sets l p (bandBytes lower upper)
 put-band l p lower upper fits =
-    let low : numberPut 4 l p lower ≡ sets l p (beBytes 4 lower) = put-held 4 l p lower (omega arith) in
-    let high : numberPut 4 (sets l p (beBytes 4 lower)) (p + 4) upper ≡ sets (sets l p (beBytes 4 lower)) (p + 4) (beBytes 4 upper) =
-    put-held 4 (sets l p (beBytes 4 lower)) (p + 4) upper (rw (length-sets l p (beBytes 4 lower)) (omega arith))
+    let low : numberPut END_WIDTH l p lower ≡ sets l p (beBytes END_WIDTH lower) = put-held END_WIDTH l p lower (omega arith) in
+    let high : numberPut END_WIDTH (sets l p (beBytes END_WIDTH lower)) (p + END_WIDTH) upper ≡ sets (sets l p (beBytes END_WIDTH lower)) (p + END_WIDTH) (beBytes END_WIDTH upper) =
+    put-held END_WIDTH (sets l p (beBytes END_WIDTH lower)) (p + END_WIDTH) upper (rw (length-sets l p (beBytes END_WIDTH lower)) (omega arith))
     in
-    let next : p + 4 ≡ p + length (beBytes 4 lower) = omega (arith, length-beBytes 4 lower) in
-    rw (low, high, next) (sets-append l p (beBytes 4 lower) (beBytes 4 upper))
+    let next : p + END_WIDTH ≡ p + length (beBytes END_WIDTH lower) = omega (arith, length-beBytes END_WIDTH lower) in
+    rw (low, high, next) (sets-append l p (beBytes END_WIDTH lower) (beBytes END_WIDTH upper))
 
 -- The header's bytes, one by one.
 pub put-header : (l : List ℕ) (size s m start horizon : ℕ)

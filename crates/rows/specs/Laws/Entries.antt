@@ -8,6 +8,7 @@ use lib.ListN.{length, getD, take, drop, replicate}
 use native.Mathlib.Decide.{decLt}
 use native.Mathlib.Omega.{arith}
 use borrow.Author.Tests.{lt-ltb, le-ltb}
+use Rattle.scheme.specs.Access.{CELL_STRIDE}
 use Rattle.setchain.specs.Sums.{onlyIf}
 use Rattle.setchain.specs.Laws.Sums.{onlyIf-true, onlyIf-false}
 use Rattle.scheme.specs.declared.Scheme.{Scheme}
@@ -64,8 +65,8 @@ module _ (s : Scheme) (ok : Accepted s) (i : ℕ) (l : i < s .classes) where
 
 -- The code's parts of the rules run from i * 8 to i * 8 + columns.
 pub row-made : (rules lowers uppers : List ℕ) (columns classes i : ℕ) (lower upper : List ℕ)
-    → lower ≡ entriesOf (classRules (i * 8 + columns - i * 8) rules i) (take columns lowers) classes
-    → upper ≡ entriesOf (classRules (i * 8 + columns - i * 8) rules i) (take columns uppers) classes
+    → lower ≡ entriesOf (classRules (i * CELL_STRIDE + columns - i * CELL_STRIDE) rules i) (take columns lowers) classes
+    → upper ≡ entriesOf (classRules (i * CELL_STRIDE + columns - i * CELL_STRIDE) rules i) (take columns uppers) classes
     → _≡_ {A = RowAnswer} (record { number = 0; lower = lower; upper = upper }) (rowFrom rules lowers uppers columns classes i)
 row-made rules lowers uppers columns classes i lower upper e g =
     λ k. record { number = 0; lower = (e ∙ ap (part lowers) size) k; upper = (g ∙ ap (part uppers) size) k }
@@ -73,7 +74,7 @@ row-made rules lowers uppers columns classes i lower upper e g =
     part : List ℕ → ℕ → List ℕ
     part ends n = entriesOf (classRules n rules i) (take columns ends) classes
 
-    size : i * 8 + columns - i * 8 ≡ columns
+    size : i * CELL_STRIDE + columns - i * CELL_STRIDE ≡ columns
     size = omega arith
 
 -- The row operation's answer in each of its cases.

@@ -15,7 +15,7 @@ use Rattle.setchain.specs.Cells.{sumInto}
 use Rattle.setchain.specs.Laws.Cells.{into-all}
 use Rattle.setchain.specs.Laws.Sums.{onlyIf-false, onlyIf-zero, sumTo-eq, sumTo-longer}
 use Rattle.scheme.specs.declared.Scheme.{Scheme}
-use Rattle.scheme.specs.Access.{ruleAt, lowerAt, upperAt}
+use Rattle.scheme.specs.Access.{CELL_STRIDE, ruleAt, lowerAt, upperAt, cellCount}
 use Rattle.scheme.specs.Accepted.{Accepted}
 use Rattle.scheme.specs.Rows.{cellsOf, chainOf}
 use Rattle.rows.specs.Rows.{classRules}
@@ -75,16 +75,16 @@ summed-part rules ends columns from j =
 
 -- For an accepted scheme the entries are those of its interval row.
 module _ (s : Scheme) (ok : Accepted s) (i : ℕ) (l : i < s .classes) where
-  into : (band : ℕ → ℕ) (j : ℕ) → sumTo (s .columns) (λ k. onlyIf (eqb (ruleAt s i k) (suc j)) (band k)) ≡ sumInto (cellsOf s i) band j
+  into : (band : ℕ → ℕ) (j : ℕ) → sumTo (cellCount s) (λ k. onlyIf (eqb (ruleAt s i k) (suc j)) (band k)) ≡ sumInto (cellsOf s i) band j
   into band j =
-      sumTo-eq (s .columns) (λ k. onlyIf (eqb (ruleAt s i k) (suc j)) (band k)) (λ k. onlyIf (eqb (ruleAt s i k - 1) j) (band k))
+      sumTo-eq (cellCount s) (λ k. onlyIf (eqb (ruleAt s i k) (suc j)) (band k)) (λ k. onlyIf (eqb (ruleAt s i k - 1) j) (band k))
       (λ k g. ap (λ b. onlyIf b (band k)) (same-test (ruleAt s i k) j (ok .rules .positive i k l g)))
 
-  pub lower-is : (j : ℕ) → sumByTarget (classRules (s .columns) (s .rules) i) (take (s .columns) (s .lowers)) j ≡ chainOf s .row i .lower j
+  pub lower-is : (j : ℕ) → sumByTarget (classRules (cellCount s) (s .rules) i) (take (cellCount s) (s .lowers)) j ≡ chainOf s .row i .lower j
   lower-is j =
-      summed-part (s .rules) (s .lowers) (s .columns) (i * 8) j
+      summed-part (s .rules) (s .lowers) (cellCount s) (i * CELL_STRIDE) j
       ∙ ap (min ONE) (into (lowerAt s i) j)
       ∙ omega (arith, into-all (s .classes) (cellsOf s i) (accepted-cells s ok i l) j, ok .sums .lowers i l)
 
-  pub upper-is : (j : ℕ) → sumByTarget (classRules (s .columns) (s .rules) i) (take (s .columns) (s .uppers)) j ≡ chainOf s .row i .upper j
-  upper-is j = summed-part (s .rules) (s .uppers) (s .columns) (i * 8) j ∙ ap (min ONE) (into (upperAt s i) j)
+  pub upper-is : (j : ℕ) → sumByTarget (classRules (cellCount s) (s .rules) i) (take (cellCount s) (s .uppers)) j ≡ chainOf s .row i .upper j
+  upper-is j = summed-part (s .rules) (s .uppers) (cellCount s) (i * CELL_STRIDE) j ∙ ap (min ONE) (into (upperAt s i) j)

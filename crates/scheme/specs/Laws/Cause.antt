@@ -8,7 +8,7 @@ use native.Mathlib.Decide.{ℕ-discrete}
 use native.Mathlib.Omega.{arith}
 use borrow.Author.Tests.{ltb-false, eqb-false, ne-eqb, le-ltb}
 use Rattle.scheme.specs.declared.Scheme.{Scheme}
-use Rattle.scheme.specs.Access.{cellCount, lowerAt, upperAt}
+use Rattle.scheme.specs.Access.{cellCount, sharedLower, sharedUpper}
 use Rattle.scheme.specs.Cause.{outside, sizesOut, sizesCause, sizeOut, startOut, horizonOut, ruleOut, bandOut, sumOut, premiumOut, causeOf, sliceCause, slicesCause}
 use Rattle.scheme.specs.FirstCause.{_when_, orElse, firstOf}
 use Rattle.scheme.specs.Accepted.{SizeFits}
@@ -82,14 +82,14 @@ module _ (s : Scheme) where
           record { someClass = sizes .0 .0; classes = sizes .0 .1; someColumn = sizes .1 .0; columns = sizes .1 .1 }
 
       -- All classes share their bands.
-      same-bands : bandCause (cellCount s) (lowerAt s 0) (upperAt s 0) ≡ orElse (8 when bandOut s) (9 when sumOut s)
+      same-bands : bandCause (cellCount s) (sharedLower s) (sharedUpper s) ≡ orElse (8 when bandOut s) (9 when sumOut s)
       unfolding bandOut sumOut
       same-bands =
           let some = size-fits .someClass in
           ap₂ (λ x y. orElse (8 when x) (9 when y)) (sym (any-same (s .classes) _ some)) (sym (any-same (s .classes) _ some))
 
       -- And the others' first is the scheme's.
-      pub cause-later : orElse (7 when ruleOut s) (orElse (bandCause (cellCount s) (lowerAt s 0) (upperAt s 0)) (10 when premiumOut s)) ≡ causeOf s
+      pub cause-later : orElse (7 when ruleOut s) (orElse (bandCause (cellCount s) (sharedLower s) (sharedUpper s)) (10 when premiumOut s)) ≡ causeOf s
       unfolding form others
       cause-later =
           ap (λ n. orElse (7 when ruleOut s) (orElse n (10 when premiumOut s))) same-bands

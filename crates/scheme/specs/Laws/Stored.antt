@@ -8,7 +8,7 @@ use lib.ListN.{getD}
 use borrow.Author.Tests.{lt-ltb, le-ltb}
 use Rattle.scheme.specs.declared.Scheme.{Scheme}
 use Rattle.scheme.specs.Tables.{tab}
-use Rattle.scheme.specs.Access.{ruleAt, lowerAt, upperAt, premiumAt}
+use Rattle.scheme.specs.Access.{CELL_STRIDE, CELL_PLACES, ruleAt, lowerAt, upperAt, premiumAt}
 use Rattle.scheme.specs.Stored.{upTo, rulesUpTo, schemeOf, cleared, noScheme}
 use Rattle.scheme.specs.Laws.Tab.{getD-tab, tab-eq}
 
@@ -37,12 +37,12 @@ pub stored-at : (size n : ℕ) (f : ℕ → ℕ) (k : ℕ) → k < size → k < 
 stored-at size n f k fits lt = getD-tab size (upTo n f) k 0 fits ∙ upTo-below n f k lt
 
 pub rule-stored : (s m : ℕ) (rule : ℕ → ℕ → ℕ) (i k : ℕ) → i < 32 → k < 8 → i < s → k < m
-    → getD (tab 256 (rulesUpTo s m rule)) (i * 8 + k) 0 ≡ rule i k
+    → getD (tab CELL_PLACES (rulesUpTo s m rule)) (i * CELL_STRIDE + k) 0 ≡ rule i k
 rule-stored s m rule i k most few is ks =
-    let q : ℕ = i * 8 + k in
-    let class : q / 8 ≡ i = omega arith in
-    let column : q % 8 ≡ k = omega arith in
-    getD-tab 256 (rulesUpTo s m rule) q 0 (omega arith)
+    let q : ℕ = i * CELL_STRIDE + k in
+    let class : q / CELL_STRIDE ≡ i = omega arith in
+    let column : q % CELL_STRIDE ≡ k = omega arith in
+    getD-tab CELL_PLACES (rulesUpTo s m rule) q 0 (omega arith)
     ∙ rw (class, column) (upTo-below s (λ j. upTo m (rule j) k) i is ∙ upTo-below m (rule i) k ks)
 
 -- Filled again with what it holds, it is the same array.
@@ -50,12 +50,12 @@ stored-again : (size n : ℕ) (f : ℕ → ℕ) → tab size (upTo n (λ k. getD
 stored-again size n f = tab-eq 0 size _ _ (λ k fits. upTo-eq n _ f k (λ lt. stored-at size n f k fits lt))
 
 rules-again : (s m : ℕ) (rule : ℕ → ℕ → ℕ)
-    → tab 256 (rulesUpTo s m (λ i k. getD (tab 256 (rulesUpTo s m rule)) (i * 8 + k) 0)) ≡ tab 256 (rulesUpTo s m rule)
+    → tab CELL_PLACES (rulesUpTo s m (λ i k. getD (tab CELL_PLACES (rulesUpTo s m rule)) (i * CELL_STRIDE + k) 0)) ≡ tab CELL_PLACES (rulesUpTo s m rule)
 rules-again s m rule =
-    tab-eq 0 256 _ _
+    tab-eq 0 CELL_PLACES _ _
     (λ q fits.
-    upTo-eq s _ _ (q / 8)
-    (λ is. upTo-eq m _ (rule (q / 8)) (q % 8) (λ ks. rule-stored s m rule (q / 8) (q % 8) (omega arith) (omega arith) is ks)))
+    upTo-eq s _ _ (q / CELL_STRIDE)
+    (λ is. upTo-eq m _ (rule (q / CELL_STRIDE)) (q % CELL_STRIDE) (λ ks. rule-stored s m rule (q / CELL_STRIDE) (q % CELL_STRIDE) (omega arith) (omega arith) is ks)))
 
 -- The values of a made scheme.
 module _ (s m start horizon : ℕ) (rule : ℕ → ℕ → ℕ) (lower upper premium : ℕ → ℕ) where
@@ -68,11 +68,11 @@ module _ (s m start horizon : ℕ) (rule : ℕ → ℕ → ℕ) (lower upper pre
 
   pub lower-made : (i k : ℕ) → m ≤ 8 → k < m → lowerAt made i k ≡ lower k
   unfolding schemeOf
-  lower-made i k few ks = stored-at 8 m lower k (omega arith) ks
+  lower-made i k few ks = stored-at CELL_STRIDE m lower k (omega arith) ks
 
   pub upper-made : (i k : ℕ) → m ≤ 8 → k < m → upperAt made i k ≡ upper k
   unfolding schemeOf
-  upper-made i k few ks = stored-at 8 m upper k (omega arith) ks
+  upper-made i k few ks = stored-at CELL_STRIDE m upper k (omega arith) ks
 
   pub premium-made : (i : ℕ) → s ≤ 32 → i < s → premiumAt made i ≡ premium i
   unfolding schemeOf
@@ -92,11 +92,11 @@ module _ (s m start horizon : ℕ) (rule : ℕ → ℕ → ℕ) (lower upper pre
       → made ≡ schemeOf s m start horizon rule′ lower′ upper′ premium′
   unfolding schemeOf
   made-eq rule′ lower′ upper′ premium′ er el eu ep =
-      let rules : tab 256 (rulesUpTo s m rule) ≡ tab 256 (rulesUpTo s m rule′) =
-      tab-eq 0 256 _ _ (λ q lt. upTo-eq s _ _ (q / 8) (λ is. upTo-eq m _ _ (q % 8) (λ ks. er (q / 8) (q % 8) is ks)))
+      let rules : tab CELL_PLACES (rulesUpTo s m rule) ≡ tab CELL_PLACES (rulesUpTo s m rule′) =
+      tab-eq 0 CELL_PLACES _ _ (λ q lt. upTo-eq s _ _ (q / CELL_STRIDE) (λ is. upTo-eq m _ _ (q % CELL_STRIDE) (λ ks. er (q / CELL_STRIDE) (q % CELL_STRIDE) is ks)))
       in
-      let lowers : tab 8 (upTo m lower) ≡ tab 8 (upTo m lower′) = tab-eq 0 8 _ _ (λ k lt. upTo-eq m _ _ k (el k)) in
-      let uppers : tab 8 (upTo m upper) ≡ tab 8 (upTo m upper′) = tab-eq 0 8 _ _ (λ k lt. upTo-eq m _ _ k (eu k)) in
+      let lowers : tab CELL_STRIDE (upTo m lower) ≡ tab CELL_STRIDE (upTo m lower′) = tab-eq 0 CELL_STRIDE _ _ (λ k lt. upTo-eq m _ _ k (el k)) in
+      let uppers : tab CELL_STRIDE (upTo m upper) ≡ tab CELL_STRIDE (upTo m upper′) = tab-eq 0 CELL_STRIDE _ _ (λ k lt. upTo-eq m _ _ k (eu k)) in
       let premiums : tab 32 (upTo s premium) ≡ tab 32 (upTo s premium′) = tab-eq 0 32 _ _ (λ i lt. upTo-eq s _ _ i (ep i)) in
       rw (rules, lowers, uppers, premiums)
 

@@ -4,6 +4,7 @@ use mathlib.Core.Path.{_≡_, sym, _∙_}
 use mathlib.Core.Bool.{false}
 use native.Mathlib.Omega.{arith}
 use lib.ListN.{getD}
+use Rattle.scheme.specs.Access.{CELL_STRIDE}
 use Rattle.scheme.specs.Tables.{anyBelow}
 use Rattle.scheme.specs.Cause.{outside}
 use Rattle.scheme.specs.Laws.FirstCause.{cond-true, cond-false}
@@ -12,7 +13,7 @@ use Rattle.acceptance.proofs.tests.rule_cause.Statement.{statement}
 use Rattle.acceptance.proofs.tests.rule_cause.Tie as tie
 
 abbrev Inv-loop : tie.InvT-loop
-Inv-loop rules classes columns n i₀ i = (i ≤ n) × (anyBelow i (λ a. anyBelow columns (λ k. outside classes (getD rules (a * 8 + k) 0))) ≡ false)
+Inv-loop rules classes columns n i₀ i = (i ≤ n) × (anyBelow i (λ a. anyBelow columns (λ k. outside classes (getD rules (a * CELL_STRIDE + k) 0))) ≡ false)
 
 abbrev μ-loop : tie.MeasureT-loop
 μ-loop rules classes columns n i₀ i = n - i

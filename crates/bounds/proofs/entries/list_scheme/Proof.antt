@@ -4,19 +4,20 @@ use mathlib.Core.Path.{_≡_, sym, _∙_}
 use native.Mathlib.Omega.{arith}
 use lib.ListN.{length, length-map}
 use lib.Seq.{length-take-le}
+use Rattle.scheme.specs.Access.{CELL_STRIDE, CELL_PLACES}
 use Rattle.bounds.proofs.ListSchemeLaws.{scheme-lists, scheme-listed}
 use borrow.Author.Needs.{needs}
 use Rattle.bounds.proofs.entries.list_scheme.Statement.{statement}
 use Rattle.bounds.proofs.entries.list_scheme.Tie as tie
 
 -- Owning the scheme tells how long the arrays in its fifth, sixth and seventh field are.
-rules-stored : (c : tie.Start) → length (c .args .scheme .rules) ≡ 256
+rules-stored : (c : tie.Start) → length (c .args .scheme .rules) ≡ CELL_PLACES
 rules-stored c = sym (length-map (c .args .scheme .rules) (λ v. v)) ∙ c .good .0 .1 .1 .1 .1 .1 .1 .0 .1 .0 .1
 
-lowers-stored : (c : tie.Start) → length (c .args .scheme .lowers) ≡ 8
+lowers-stored : (c : tie.Start) → length (c .args .scheme .lowers) ≡ CELL_STRIDE
 lowers-stored c = sym (length-map (c .args .scheme .lowers) (λ v. v)) ∙ c .good .0 .1 .1 .1 .1 .1 .1 .1 .0 .1 .0 .1
 
-uppers-stored : (c : tie.Start) → length (c .args .scheme .uppers) ≡ 8
+uppers-stored : (c : tie.Start) → length (c .args .scheme .uppers) ≡ CELL_STRIDE
 uppers-stored c = sym (length-map (c .args .scheme .uppers) (λ v. v)) ∙ c .good .0 .1 .1 .1 .1 .1 .1 .1 .1 .0 .1 .0 .1
 
 cast-m : tie.Need-cast-m

@@ -4,6 +4,7 @@ use mathlib.Core.Path.{_≡_, ap, sym, _∙_}
 use native.Mathlib.Omega.{arith}
 use native.Mathlib.Nat.{mul-le-mul-right}
 use lib.ListN.{length, getD, take, drop}
+use Rattle.scheme.specs.Access.{CELL_PLACES, CELL_STRIDE}
 use Rattle.scheme.specs.Tables.{tab}
 use Rattle.scheme.specs.Stored.{rulesUpTo}
 use Rattle.scheme.specs.Laws.Tab.{length-tab}
@@ -16,7 +17,7 @@ use Rattle.record.proofs.reading.rules.Tie as tie
 
 abbrev Inv-loop : tie.InvT-loop
 Inv-loop bytes from s m rules₀ i₀ at₀ to₀ rules i at to =
-    (i ≤ s) × (at ≡ from + i * m) × (to ≡ i * 8) × (rules ≡ tab 256 (rulesUpTo i m (λ j k. getD bytes (from + j * m + k) 0)))
+    (i ≤ s) × (at ≡ from + i * m) × (to ≡ i * CELL_STRIDE) × (rules ≡ tab CELL_PLACES (rulesUpTo i m (λ j k. getD bytes (from + j * m + k) 0)))
 
 abbrev μ-loop : tie.MeasureT-loop
 μ-loop bytes from s m rules₀ i₀ at₀ to₀ rules i at to = s - i
@@ -33,7 +34,7 @@ loop-holds : tie.Need-loop-holds Inv-loop μ-loop
 loop-holds c = (omega arith, omega arith, omega arith, rows-none _ _)
 
 slice-aggregate-copy : tie.Need-slice-aggregate-copy Inv-loop μ-loop
-slice-aggregate-copy c = sym (rw (c .before .before .loop .inv .3) (length-tab 256 _))
+slice-aggregate-copy c = sym (rw (c .before .before .loop .inv .3) (length-tab CELL_PLACES _))
 
 copy-requires : tie.Need-copy-requires Inv-loop μ-loop
 copy-requires c κs = search needs
@@ -56,8 +57,8 @@ loop-again c =
     let start = at-loop .before .before .args in
     let turn = at-loop .loop in
     let here : turn .at ≡ start .from + turn .i * start .m = turn .inv .1 in
-    let to : turn .to ≡ turn .i * 8 = turn .inv .2 in
-    let size : length (turn .rules) ≡ 256 = rw (turn .inv .3) (length-tab 256 _) in (
+    let to : turn .to ≡ turn .i * CELL_STRIDE = turn .inv .2 in
+    let size : length (turn .rules) ≡ CELL_PLACES = rw (turn .inv .3) (length-tab CELL_PLACES _) in (
       omega arith,
       omega arith,
       omega arith,

@@ -4,6 +4,7 @@ use mathlib.Core.Path.{_≡_, _∙_}
 use native.Mathlib.Omega.{arith}
 use lib.ListN.{length, getD}
 use lib.Seq.{sets, length-sets}
+use Rattle.record_spec.specs.Layout.{BAND_WIDTH}
 use Rattle.record_spec.specs.Joined.{joined}
 use Rattle.record_spec.specs.Bytes.{bandBytes}
 use Rattle.record_write.specs.Laws.Lists.{join-none, join-more}
@@ -13,7 +14,7 @@ use Rattle.record_write.proofs.parts.bands.Tie as tie
 
 abbrev Inv-loop : tie.InvT-loop
 Inv-loop out₀ from lowers uppers m k₀ to₀ out k to =
-    (k ≤ m) × (to ≡ from + k * 8) × (out ≡ sets out₀ from (joined k (λ j. bandBytes (getD lowers j 0) (getD uppers j 0))))
+    (k ≤ m) × (to ≡ from + k * BAND_WIDTH) × (out ≡ sets out₀ from (joined k (λ j. bandBytes (getD lowers j 0) (getD uppers j 0))))
 
 abbrev μ-loop : tie.MeasureT-loop
 μ-loop out₀ from lowers uppers m k₀ to₀ out k to = m - k
@@ -57,7 +58,7 @@ loop-again c =
     let turn = at-loop .loop in (
       omega arith,
       omega arith,
-      c .before .before .put-band .ensures ∙ rw (turn .inv .2, turn .inv .1) (join-more 8 _ (start .out .now) (start .from) (turn .k) (λ j lt. length-band _ _)),
+      c .before .before .put-band .ensures ∙ rw (turn .inv .2, turn .inv .1) (join-more BAND_WIDTH _ (start .out .now) (start .from) (turn .k) (λ j lt. length-band _ _)),
     )
 
 same-length : tie.Need-same-length Inv-loop μ-loop

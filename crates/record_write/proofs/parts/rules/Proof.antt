@@ -5,6 +5,7 @@ use native.Mathlib.Omega.{arith}
 use native.Mathlib.Nat.{mul-le-mul-right}
 use lib.ListN.{length, getD}
 use lib.Seq.{sets, length-sets}
+use Rattle.scheme.specs.Access.{CELL_STRIDE}
 use Rattle.scheme.specs.Tables.{tab}
 use Rattle.record_spec.specs.Joined.{joined}
 use Rattle.scheme.specs.Laws.Tab.{length-tab}
@@ -16,7 +17,7 @@ use Rattle.record_write.proofs.parts.rules.Tie as tie
 
 abbrev Inv-loop : tie.InvT-loop
 Inv-loop out₀ from rules s m i₀ at₀ to₀ out i at to =
-    (i ≤ s) × (at ≡ i * 8) × (to ≡ from + i * m) × (out ≡ sets out₀ from (joined i (λ j. tab m (λ k. getD rules (j * 8 + k) 0))))
+    (i ≤ s) × (at ≡ i * CELL_STRIDE) × (to ≡ from + i * m) × (out ≡ sets out₀ from (joined i (λ j. tab m (λ k. getD rules (j * CELL_STRIDE + k) 0))))
 
 abbrev μ-loop : tie.MeasureT-loop
 μ-loop out₀ from rules s m i₀ at₀ to₀ out i at to = s - i
@@ -65,7 +66,7 @@ loop-again c =
       omega arith,
       at-copy .copy .ensures
           ∙ part-held (start .m) (start .rules .now) (turn .at) (turn .out) (turn .to) (omega arith) (omega (arith, size (in-loop .before), room in-loop))
-          ∙ rw (turn .inv .3, turn .inv .2, turn .inv .1, ← (tab-part (start .m) (turn .i * 8) (start .rules .now) (omega arith)))
+          ∙ rw (turn .inv .3, turn .inv .2, turn .inv .1, ← (tab-part (start .m) (turn .i * CELL_STRIDE) (start .rules .now) (omega arith)))
           (join-more (start .m) _ (start .out .now) (start .from) (turn .i) (λ j lt. length-tab (start .m) _)),
     )
 

@@ -1,9 +1,9 @@
 -- `parts::whole` meets its contract: each part is laid where the last one ends.
-use Prim.Native.Nat.{ℕ, _+_, _*_, _≤_}
+use Prim.Native.Nat.{ℕ, _*_, _≤_}
 use mathlib.Core.Path.{_≡_, sym}
 use native.Mathlib.Omega.{arith}
 use native.Mathlib.Nat.{mul-le-mul}
-use Rattle.record_spec.specs.Layout.{HEADER}
+use Rattle.record_spec.specs.Layout.{version1, lengthOf}
 use Rattle.record_write.specs.Laws.Bytes.{wrote}
 use borrow.Author.Needs.{needs}
 use Rattle.record_write.proofs.parts.whole.Statement.{statement}
@@ -14,7 +14,7 @@ pub record Places (s m size : ℕ) : Type 0 where
   pub classes : s ≤ 32
   pub columns : m ≤ 8
   pub product : s * m ≤ 32 * 8
-  pub whole : HEADER + s * m + 8 * m + 4 * s ≡ size
+  pub whole : lengthOf version1 s m ≡ size
 
 places : (c : tie.After-struct-known2)
     → Places (c .before .before .before .args .scheme .classes) (c .before .before .before .args .scheme .columns) (c .before .before .before .args .size)
