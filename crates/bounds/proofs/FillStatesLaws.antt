@@ -12,7 +12,8 @@ use lib.ListN.{length, set, length-set}
 use lib.Seq.{getD-set-same, getD-set-other, ext-getD}
 use Rattle.setchain.specs.Sums.{at, sumTo, dot}
 use Rattle.setchain.specs.Rows.{ONE, IntervalRow, SoundRow}
-use Rattle.setchain.specs.Step.{rounded, capacity, stepFigure}
+use Rattle.setchain.specs.Rounding.{rounded}
+use Rattle.setchain.specs.Step.{capacity, stepFigure}
 use Rattle.setchain.specs.Laws.Sums.{sumTo-eq, sumTo-front, sumTo-change}
 use Rattle.scheme.specs.Tables.{tab}
 use Rattle.scheme.specs.Laws.Tab.{length-tab, getD-tab}
@@ -234,7 +235,7 @@ module _ (high : Bool) (r : IntervalRow) (payoff order : List ℕ) (slack : ℕ)
   row-at (suc k) h = row-more h (row-at k (omega arith))
 
   -- The sum at the end is the filled row's.
-  pub filled-figure : rounded high (sumAt r (at payoff) read slack n) ≡ stepFigure high n r (at payoff)
+  pub filled-figure : rounded high ONE (sumAt r (at payoff) read slack n) ≡ stepFigure high n r (at payoff)
   unfolding bare
   filled-figure = ⊎-elim (λ s. absurd (omega (arith, s .inside, lower-size))) by (w .state)
     where
@@ -244,9 +245,9 @@ module _ (high : Bool) (r : IntervalRow) (payoff order : List ℕ) (slack : ℕ)
       sums-are : sumAt r (at payoff) read slack n ≡ dot n (at (w .row)) (at payoff)
       sums-are = omega (arith, w .sums, sum-along n read permutation (λ j. r .lower j * at payoff j))
 
-      by : Done (w .row) (leftAt r read slack n) → rounded high (sumAt r (at payoff) read slack n) ≡ stepFigure high n r (at payoff)
+      by : Done (w .row) (leftAt r read slack n) → rounded high ONE (sumAt r (at payoff) read slack n) ≡ stepFigure high n r (at payoff)
       by s =
-          ap (rounded high) (sums-are ∙ ap (λ k. dot k (at (w .row)) (at payoff)) (sym lower-size))
+          ap (rounded high ONE) (sums-are ∙ ap (λ k. dot k (at (w .row)) (at payoff)) (sym lower-size))
           ∙ step-reached steppable (s .filled)
           ∙ ap (λ k. stepFigure high k (listsRow lower upper) (at payoff)) lower-size
           ∙ sym (step-agrees agree (λ j l. refl) high)

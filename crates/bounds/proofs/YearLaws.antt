@@ -11,7 +11,8 @@ use lib.Seq.{length-take-le, getD-take, take-at}
 use mir.Syntax.{w64}
 use mir.Val.{Fits}
 use Rattle.setchain.specs.Rows.{ONE, IntervalRow, SoundRow}
-use Rattle.setchain.specs.Step.{rounded, capacity, stepFigure}
+use Rattle.setchain.specs.Rounding.{rounded}
+use Rattle.setchain.specs.Step.{capacity, stepFigure}
 use Rattle.order.specs.Order.{along, Permutation, SortedPermutation}
 use Rattle.order.specs.Laws.Written.{Rewritten}
 use Rattle.order.specs.Laws.Along.{along-permutation}
@@ -21,21 +22,21 @@ use Rattle.bounds.specs.Entries.{lowerEnds, capacities, counts, sumOf, l
 use Rattle.bounds.specs.Fill.{Small, leftAt, sumAt, taken, FillStatePre, FillStatePost, FillStatesPre, FillStatesPost, RoundSumsPre, RoundSumsPost}
 use Rattle.bounds.specs.Years.{YearPre, YearPost}
 use Rattle.setchain.specs.Laws.Agreeing.{agree-refl, step-agrees}
-use Rattle.setchain.specs.Laws.Step.{rounded-at-most}
+use Rattle.setchain.specs.Laws.Rounding.{rounded-at-most}
 use Rattle.bounds.proofs.FillStateLaws.{entry-in}
 use Rattle.bounds.proofs.FillStatesLaws.{sum-fits, filled-figure}
 use Rattle.bounds.proofs.FrontLaws.{zeros}
 
 -- What a figure is made of: the gain, and the sum rounded.
 abbrev pub figureOf : (gain : List ℕ) → (high : Bool) → ℕ → ℕ → ℕ
-figureOf gain high k sum = at gain k + rounded high sum
+figureOf gain high k sum = at gain k + rounded high ONE sum
 
 module _ {gain : List ℕ} (high : Bool) {sums figures : List ℕ} {i : ℕ} (able : RoundSumsPre gain sums)
     (w : Rewritten (length gain) (figureOf gain high) sums figures i) where
-  pub figure-fits : {r : ℕ} → i < length gain → r ≡ rounded high (at figures i) → Fits w64 (at gain i + r)
+  pub figure-fits : {r : ℕ} → i < length gain → r ≡ rounded high ONE (at figures i) → Fits w64 (at gain i + r)
   figure-fits more is =
       let sum : at figures i ≤ LARGEST * ONE = omega (arith, w .rest i (omega arith), able .fits i more) in
-      omega (arith, is, able .gains i more, rounded-at-most high (at figures i) LARGEST sum)
+      omega (arith, is, able .gains i more, rounded-at-most ONE (omega arith) high (at figures i) LARGEST sum)
 
   pub figures-all : length gain ≤ i → RoundSumsPost gain high sums figures
   figures-all h = record { size = w .size; each = λ k l. w .done k (omega arith) }
@@ -206,13 +207,13 @@ module _ {entries slack gain order before : List ℕ} (w : YearPre entries slack
             each = λ i l.
                 List·getD-append figures rest′ 0 i (omega (arith, s .size))
                 ∙ s .each i l
-                ∙ ap (λ x. at gain i + rounded high (at x i)) lent
-                ∙ ap (λ x. at gain i + rounded high x) (k .each i (omega (arith, front-count)))
+                ∙ ap (λ x. at gain i + rounded high ONE (at x i)) lent
+                ∙ ap (λ x. at gain i + rounded high ONE x) (k .each i (omega (arith, front-count)))
                 ∙ ap (λ x. at gain i + x) (figure i l);
           }
         where
           figure : (i : ℕ) → i < length gain
-              → rounded high (sumAt (listedRow entries i) (at (take (length gain) before)) (along high order′) (at (take (length gain) slack) i) (length (take (length gain) before)))
+              → rounded high ONE (sumAt (listedRow entries i) (at (take (length gain) before)) (along high order′) (at (take (length gain) slack) i) (length (take (length gain) before)))
               ≡ stepFigure high (length gain) (listedRow entries i) (at before)
           figure i l =
               filled-figure high (listedRow entries i) (take (length gain) before) order′ (at (take (length gain) slack) i)

@@ -5,7 +5,8 @@ use mathlib.Core.Bool.{Bool}
 use mathlib.Core.List.{List}
 use lib.ListN.{length}
 use Rattle.setchain.specs.Rows.{ONE, IntervalRow}
-use Rattle.setchain.specs.Step.{rounded, capacity}
+use Rattle.setchain.specs.Rounding.{rounded}
+use Rattle.setchain.specs.Step.{capacity}
 use Rattle.order.specs.Order.{Permutation}
 use Rattle.setchain.specs.Sums.{at}
 use Rattle.step.specs.Figure.{LARGEST}
@@ -70,4 +71,4 @@ pub record RoundSumsPre (gain sums : List ℕ) : Type 0 where
 -- The figures that they make.
 pub record RoundSumsPost (gain : List ℕ) (high : Bool) (sums figures : List ℕ) : Type 0 where
   pub size : length figures ≡ length gain
-  pub each : (i : ℕ) → i < length gain → at figures i ≡ at gain i + rounded high (at sums i)
+  pub each : (i : ℕ) → i < length gain → at figures i ≡ at gain i + rounded high ONE (at sums i)

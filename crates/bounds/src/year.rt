@@ -78,7 +78,7 @@ fn round_sums(gain: &[u64], high: bool, sums: &mut [u64])
 {
     let mut i: usize = 0;
     while i < gain.len() {
-        sums[i] = gain[i] + rounding::round(sums[i], high);
+        sums[i] = gain[i] + rounding::round(sums[i], setchain::ONE, high);
         i += 1;
     }
 }

@@ -8,7 +8,8 @@ use native.Mathlib.Nat.{le-refl}
 use borrow.Author.Tests.{le-ltb}
 use Rattle.setchain.specs.Sums.{sumTo, onlyIf, dot}
 use Rattle.setchain.specs.Rows.{ONE, IntervalRow, SoundRow, SetChain, SoundChain}
-use Rattle.setchain.specs.Step.{rounded, capacityBefore, fillRow, extremeRow, stepFigure}
+use Rattle.setchain.specs.Rounding.{rounded}
+use Rattle.setchain.specs.Step.{capacityBefore, fillRow, extremeRow, stepFigure}
 use Rattle.setchain.specs.Years.{yearsFigure, shareFigure}
 use Rattle.setchain.specs.Examples.{StepExamples, step-examples}
 use Rattle.setchain.specs.Laws.Step.{extreme-parts}
@@ -43,7 +44,7 @@ schemeThirds =
     }
 
 -- Whole units stay as they are.
-rounded-units : (high : Bool) (x : ℕ) → rounded high (x * ONE) ≡ x
+rounded-units : (high : Bool) (x : ℕ) → rounded high ONE (x * ONE) ≡ x
 rounded-units false x = omega arith
 rounded-units true x = omega arith
 
@@ -52,7 +53,7 @@ one-step : (high : Bool) (r : IntervalRow) → SoundRow 1 r → (f : ℕ → ℕ
 unfolding stepFigure sumTo
 one-step high r sound f =
     let units : dot 1 (extremeRow high 1 r f) f ≡ f 0 * ONE = omega (arith, ap (λ p. p * f 0) (extreme-parts 1 r sound high f .sums)) in
-    ap (rounded high) units ∙ rounded-units high (f 0)
+    ap (rounded high ONE) units ∙ rounded-units high (f 0)
 
 module _ (high : Bool) (c : SetChain) (sound : SoundChain c) (one : c .states ≡ 1) where
   only-step : (f : ℕ → ℕ) → stepFigure high (c .states) (c .row 0) f ≡ f 0

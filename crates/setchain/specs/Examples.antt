@@ -5,9 +5,10 @@ use mathlib.Core.Bool.{true, false}
 use mathlib.Core.List.{[], _∷_}
 use Rattle.setchain.specs.Sums.{at, sumTo, onlyIf}
 use Rattle.setchain.specs.Fractions.{sumFractions}
-use Rattle.setchain.specs.Rows.{IntervalRow, SetChain}
+use Rattle.setchain.specs.Rows.{ONE, IntervalRow, SetChain}
 use Rattle.setchain.specs.Cells.{Cells, rowOf}
-use Rattle.setchain.specs.Step.{rounded, capacityBefore, fillRow, stepFigure, lowStep, highStep}
+use Rattle.setchain.specs.Rounding.{rounded}
+use Rattle.setchain.specs.Step.{capacityBefore, fillRow, stepFigure, lowStep, highStep}
 use Rattle.setchain.specs.Years.{yearsFigure, lowShare, highShare, lowMean, highMean, lowTotal, highTotal}
 use Rattle.setchain.specs.Picks.{Matrix, product, exactMean, exactTotal}
 
@@ -35,9 +36,15 @@ pub step-examples : StepExamples
 unfolding stepFigure fillRow capacityBefore sumTo onlyIf
 step-examples = record { low = refl; high = refl; bareLow = refl; bareHigh = refl }
 
--- One part more than two units, and two units: down, and up.
-pub rounded-examples : (rounded false 2000000001 ≡ 2) × (rounded true 2000000001 ≡ 3) × (rounded false 2000000000 ≡ 2) × (rounded true 2000000000 ≡ 2)
-rounded-examples = (refl, refl, refl, refl)
+-- Rounded down and up: one part more than two units, and two units; tenths; and no unit, which gives 0.
+pub record RoundedExamples : Type 0 where
+  pub parts : (rounded false ONE 2000000001 ≡ 2) × (rounded true ONE 2000000001 ≡ 3) × (rounded false ONE 2000000000 ≡ 2) × (rounded true ONE 2000000000 ≡ 2)
+  pub tenths : (rounded false 10 29 ≡ 2) × (rounded true 10 21 ≡ 3) × (rounded false 10 30 ≡ 3) × (rounded true 10 30 ≡ 3)
+  pub wholes : (rounded false 1 7 ≡ 7) × (rounded true 1 7 ≡ 7)
+  pub none : (rounded false 0 7 ≡ 0) × (rounded true 0 7 ≡ 0)
+
+pub rounded-examples : RoundedExamples
+rounded-examples = record { parts = (refl, refl, refl, refl); tenths = (refl, refl, refl, refl); wholes = (refl, refl); none = (refl, refl) }
 
 -- Example A's class 1: the first two columns lead to class 1 and are summed, also the upper ends, which are held to ONE; the third leads to class 2.
 abbrev cellsA : Cells

@@ -3,22 +3,17 @@
 use Prim.Native.Nat.{ℕ, zero, suc, _*_, _<_}
 use mathlib.Core.Path.{sym, subst}
 use mathlib.Core.Bool.{Bool, true, false}
-use native.Mathlib.Omega.{arith}
 use native.Mathlib.Nat.{mul-le-mul-left}
 use Rattle.setchain.specs.Sums.{dot}
-use Rattle.setchain.specs.Rows.{IntervalRow, SoundRow, Covers, SetChain, SoundChain, CoversChain, ofParts}
-use Rattle.setchain.specs.Step.{rounded, NotAfter, extremeRow, stepFigure}
+use Rattle.setchain.specs.Rows.{ONE, IntervalRow, SoundRow, Covers, SetChain, SoundChain, CoversChain, ofParts}
+use Rattle.setchain.specs.Step.{NotAfter, extremeRow, stepFigure}
 use Rattle.setchain.specs.Years.{yearsFigure}
 use Rattle.setchain.specs.Laws.Sums.{sumTo-le}
 use Rattle.setchain.specs.Laws.NotAfter.{not-after-trans, not-after-add}
+pub use Rattle.setchain.specs.Laws.Rounding.{rounded-inward}
 use Rattle.setchain.specs.Laws.Step.{extreme-parts, extreme-certificate, certified-reaches}
 
--- Rounding keeps the order.
-pub rounded-inward : (high : Bool) (x y : ℕ) → NotAfter high x y → NotAfter high (rounded high x) (rounded high y)
-rounded-inward false x y h = omega arith
-rounded-inward true x y h = omega arith
-
--- So does a row of parts, or of counts, that weighs payoffs.
+-- A row of parts, or of counts, that weighs payoffs keeps the order, as rounding does (`rounded-inward`).
 pub dot-inward : (high : Bool) (n : ℕ) (p f g : ℕ → ℕ) → ((j : ℕ) → j < n → NotAfter high (f j) (g j)) → NotAfter high (dot n p f) (dot n p g)
 dot-inward false n p f g h = sumTo-le n (λ j. p j * f j) (λ j. p j * g j) (λ j l. mul-le-mul-left (p j) (h j l))
 dot-inward true n p f g h = sumTo-le n (λ j. p j * g j) (λ j. p j * f j) (λ j l. mul-le-mul-left (p j) (h j l))
@@ -31,7 +26,7 @@ step-inward high {n} {wide} {narrow} soundWide soundNarrow covers f g payoffs =
     let p = extremeRow high n wide f in
     let q = extremeRow high n narrow g in
     let inside = covers (ofParts q) (extreme-parts n narrow soundNarrow high g) in
-    rounded-inward high (dot n p f) (dot n q g)
+    rounded-inward high ONE (dot n p f) (dot n q g)
     (not-after-trans high (dot n p f) (dot n q f) (dot n q g)
     (certified-reaches n wide soundWide high f p (extreme-parts n wide soundWide high f) (extreme-certificate n wide soundWide high f) .extreme q inside)
     (dot-inward high n q f g payoffs))

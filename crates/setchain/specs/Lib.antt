@@ -4,6 +4,7 @@ pub mod Sums
 pub mod Fractions
 pub mod Rows
 pub mod Cells
+pub mod Rounding
 pub mod Step
 pub mod Certificate
 pub mod Years

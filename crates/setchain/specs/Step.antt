@@ -1,16 +1,12 @@
 -- The one-year step (document 01, "One year"): the extreme rows and their figures as formulas, and document 01's own words for them.
 -- One flag tells low from high: `high` is false for a low figure, true for a high one.
-use Prim.Native.Nat.{ℕ, min, _+_, _-_, _/_, _≤_}
+use Prim.Native.Nat.{ℕ, min, _+_, _-_, _≤_}
 use mathlib.Core.Path.{_≡_}
 use mathlib.Core.Bool.{Bool, true, false, _&&_, _||_}
 use lib.Dec.{eqb, ltb}
 use Rattle.setchain.specs.Sums.{sumTo, onlyIf, dot}
 use Rattle.setchain.specs.Rows.{ONE, IntervalRow, Inside, ofParts}
-
--- x parts in units: the low figure is rounded down, the high figure up.
-abbrev pub rounded : (high : Bool) → ℕ → ℕ
-rounded false x = x / ONE
-rounded true x = (x + (ONE - 1)) / ONE
+use Rattle.setchain.specs.Rounding.{rounded}
 
 -- A is at least as extreme as b: not larger for a low figure, not smaller for a high one.
 abbrev pub NotAfter : (high : Bool) → ℕ → ℕ → Type 0
@@ -48,7 +44,7 @@ extremeRow high n r f = fillRow n r (before high f)
 
 -- The figure of the extreme row, low or high.
 unfoldable pub stepFigure : (high : Bool) → ℕ → IntervalRow → (ℕ → ℕ) → ℕ
-stepFigure high n r f = rounded high (dot n (extremeRow high n r f) f)
+stepFigure high n r f = rounded high ONE (dot n (extremeRow high n r f) f)
 
 -- The low figure.
 abbrev pub lowStep : ℕ → IntervalRow → (ℕ → ℕ) → ℕ
@@ -69,7 +65,7 @@ pub record Reaches (high : Bool) (n : ℕ) (r : IntervalRow) (f p : ℕ → ℕ)
   -- No row of whole parts inside the interval has a smaller sum of part times payoff (for a high figure: a greater).
   pub extreme : (q : ℕ → ℕ) → Parts n r q → NotAfter high (dot n p f) (dot n q f)
   -- The figure is this row's sum of part times payoff over ONE, rounded down (for a high figure: up).
-  pub rounded : figure ≡ rounded high (dot n p f)
+  pub rounded : figure ≡ rounded high ONE (dot n p f)
 
 -- "The low figure … is the least, over rows of whole parts inside its interval that sum to ONE, of (sum of part times payoff) / ONE, rounded down. The high figure is the greatest, rounded up."
 pub record ExtremeFigure (high : Bool) (n : ℕ) (r : IntervalRow) (f : ℕ → ℕ) (figure : ℕ) : Type 0 where

@@ -1,7 +1,8 @@
 // The figure of a row: the sum of part times payoff over ONE, rounded.
 ghost use mathlib.Core.Path.{_≡_};
 ghost use lib.ListN.{length};
-ghost use Rattle.setchain.specs.Step.{rounded};
+ghost use Rattle.setchain.specs.Rounding.{rounded};
+ghost use Rattle.setchain.specs.Rows.{ONE};
 ghost use Rattle.setchain.specs.Sums.{at, dot};
 ghost use Rattle.step.specs.Figure.{WeighPre};
 
@@ -22,7 +23,7 @@ fn weigh(row: &[u64], payoff: &[u64]) -> u64
 // The row's figure: rounded down for a low figure, up for a high one.
 pub fn figure(row: &[u64], payoff: &[u64], high: bool) -> u64
     requires { ⌜ WeighPre (now row) (now payoff) ⌝ }
-    ensures { λ r. ⌜ r ≡ rounded high (dot (length (now (row .entry))) (at (now (row .entry))) (at (now (payoff .entry)))) ⌝ }
+    ensures { λ r. ⌜ r ≡ rounded high ONE (dot (length (now (row .entry))) (at (now (row .entry))) (at (now (payoff .entry)))) ⌝ }
 {
-    rounding::round(weigh(row, payoff), high)
+    rounding::round(weigh(row, payoff), setchain::ONE, high)
 }

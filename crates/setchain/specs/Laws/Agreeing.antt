@@ -6,7 +6,8 @@ use mathlib.Core.Bool.{Bool, true, false, _&&_, _||_}
 use lib.Dec.{eqb, ltb}
 use Rattle.setchain.specs.Sums.{onlyIf, dot}
 use Rattle.setchain.specs.Rows.{ONE, IntervalRow, SoundRow, SetChain}
-use Rattle.setchain.specs.Step.{rounded, capacity, slack, rising, before, capacityBefore, fillRow, stepFigure, NotAfter, Parts, Reaches}
+use Rattle.setchain.specs.Rounding.{rounded}
+use Rattle.setchain.specs.Step.{capacity, slack, rising, before, capacityBefore, fillRow, stepFigure, NotAfter, Parts, Reaches}
 use Rattle.setchain.specs.Years.{yearsFigure}
 use Rattle.setchain.specs.Laws.Sums.{sumTo-eq}
 
@@ -44,7 +45,7 @@ reaches-agree {high} {n} s g e w =
     record {
       inside = parts-agree s e (w .inside);
       extreme = λ q h. subst₂ (NotAfter high) (dot-agrees n e g) (dot-agrees n (λ j l. refl) g) (w .extreme q (parts-agree (agree-sym s) (λ j l. refl) h));
-      rounded = w .rounded ∙ ap (rounded high) (dot-agrees n e g);
+      rounded = w .rounded ∙ ap (rounded high ONE) (dot-agrees n e g);
     }
 
 -- One is sound where the other is.
@@ -86,7 +87,7 @@ module _ {n : ℕ} {r q : IntervalRow} (rows : Agree n r q) where
 
     pub step-agrees : (high : Bool) → stepFigure high n r f ≡ stepFigure high n q g
     unfolding stepFigure
-    step-agrees high = ap (rounded high) (dot-agrees n (fill-agrees (before high f) (before high g) (before-agrees high)) payoffs)
+    step-agrees high = ap (rounded high ONE) (dot-agrees n (fill-agrees (before high f) (before high g) (before-agrees high)) payoffs)
 
 -- Chains, payoffs and gains that agree on the states.
 module _ {c d : SetChain} (states : c .states ≡ d .states) (rows : (i : ℕ) → i < c .states → Agree (c .states) (c .row i) (d .row i))

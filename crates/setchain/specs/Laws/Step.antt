@@ -3,14 +3,16 @@ use Prim.Native.Nat.{ℕ, zero, suc, _+_, _*_, _≤_, _<_}
 use mathlib.Core.Path.{_≡_, refl, ap, _∙_}
 use mathlib.Core.Bool.{Bool, true, false}
 use native.Mathlib.Omega.{arith}
-use native.Mathlib.Nat.{mul-le-mul-left, mul-le-mul-right}
+use native.Mathlib.Nat.{mul-le-mul-left}
 use Rattle.setchain.specs.Sums.{sumTo, dot}
 use Rattle.setchain.specs.Rows.{ONE, IntervalRow, SoundRow, Row, Inside, ofParts, SetChain, SoundChain}
-use Rattle.setchain.specs.Step.{rounded, NotAfter, capacity, slack, before, capacityBefore, fillRow, extremeRow, stepFigure, Parts, Reaches, ExtremeFigure}
+use Rattle.setchain.specs.Rounding.{rounded}
+use Rattle.setchain.specs.Step.{NotAfter, capacity, slack, before, capacityBefore, fillRow, extremeRow, stepFigure, Parts, Reaches, ExtremeFigure}
 use Rattle.setchain.specs.Certificate.{Certificate}
 use Rattle.setchain.specs.Years.{yearsFigure}
 use Rattle.setchain.specs.Laws.Sums.{sumTo-le, sumTo-add, sumTo-scale}
 use Rattle.setchain.specs.Laws.NotAfter.{not-after-both}
+use Rattle.setchain.specs.Laws.Rounding.{rounded-bounds, rounded-at-most}
 use Rattle.setchain.specs.Laws.Certificate.{certified}
 use Rattle.setchain.specs.Laws.Fill.{Strict, Pivot, ahead, pivot, given, given-before, given-after, given-all, positive-count}
 use Rattle.setchain.specs.Laws.Order.{before-strict, before-ahead}
@@ -26,20 +28,6 @@ record Filled (n : ℕ) (r : IntervalRow) (order : ℕ → ℕ → Bool) : Type 
 not-after-parts : (high : Bool) (a b : ℕ) → NotAfter high (a * ONE) (b * ONE) → NotAfter high a b
 not-after-parts false a b h = omega arith
 not-after-parts true a b h = omega arith
-
--- Rounding down and up.
-rounding : (high : Bool) (x : ℕ) → NotAfter high (rounded high x * ONE) x
-rounding false x = omega arith
-rounding true x = omega arith
-
--- A rounded number bounds what the number itself bounds.
-rounded-bounds : (high : Bool) (x y m : ℕ) → NotAfter high (x * m) (y * ONE) → NotAfter high (rounded high x * m) y
-rounded-bounds false x y m h = omega (arith, mul-le-mul-right m (rounding false x))
-rounded-bounds true x y m h = omega (arith, mul-le-mul-right m (rounding true x))
-
-pub rounded-at-most : (high : Bool) (x b : ℕ) → x ≤ b * ONE → rounded high x ≤ b
-rounded-at-most false x b h = omega arith
-rounded-at-most true x b h = omega arith
 
 module _ (n : ℕ) (r : IntervalRow) (sound : SoundRow n r) where
   slack-le : slack n r ≤ sumTo n (capacity r)
@@ -87,11 +75,11 @@ module _ (n : ℕ) (r : IntervalRow) (sound : SoundRow n r) where
     pub step-extreme : (q : Row) → Inside n r q → NotAfter high (stepFigure high n r f * q .over) (dot n (q .entry) f)
     unfolding stepFigure
     step-extreme q inside =
-        rounded-bounds high (dot n (extremeRow high n r f) f) (dot n (q .entry) f) (q .over)
+        rounded-bounds ONE (omega arith) high (dot n (extremeRow high n r f) f) (dot n (q .entry) f) (q .over)
         (certified high n r f (extremeRow high n r f) extreme-parts extreme-certificate q inside)
 
     -- Any row of whole parts that lies inside and has a certificate reaches its figure.
-    pub certified-reaches : (p : ℕ → ℕ) → Parts n r p → Certificate high n r f p → Reaches high n r f p (rounded high (dot n p f))
+    pub certified-reaches : (p : ℕ → ℕ) → Parts n r p → Certificate high n r f p → Reaches high n r f p (rounded high ONE (dot n p f))
     certified-reaches p inside cert =
         record {
           inside = inside;
@@ -109,7 +97,7 @@ module _ (n : ℕ) (r : IntervalRow) (sound : SoundRow n r) where
     unfolding stepFigure step-figure
     figure-only v w =
         w .reached .rounded
-        ∙ ap (rounded high)
+        ∙ ap (rounded high ONE)
         (not-after-both high (w .reached .extreme (extremeRow high n r f) extreme-parts) (step-figure .reached .extreme (w .parts) (w .reached .inside)))
 
     pub reached-figure : (p : ℕ → ℕ) (v : ℕ) → Reaches high n r f p v → v ≡ stepFigure high n r f
@@ -127,7 +115,7 @@ module _ (n : ℕ) (r : IntervalRow) (sound : SoundRow n r) where
 
     pub step-at-most : (b : ℕ) → ((j : ℕ) → j < n → f j ≤ b) → stepFigure high n r f ≤ b
     unfolding stepFigure
-    step-at-most b h = rounded-at-most high (dot n (extremeRow high n r f) f) b (parts-at-most (extremeRow high n r f) b extreme-parts h)
+    step-at-most b h = rounded-at-most ONE (omega arith) high (dot n (extremeRow high n r f) f) b (parts-at-most (extremeRow high n r f) b extreme-parts h)
 
 -- Figures grow by no more than the gains.
 module _ (high : Bool) (c : SetChain) (sound : SoundChain c) (payoff gain : ℕ → ℕ) (top rise : ℕ)

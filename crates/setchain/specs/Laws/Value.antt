@@ -9,7 +9,8 @@ use native.Mathlib.Nat.{le-refl, mul-pos, mul-le-mul-right, mul-le-mul-left}
 use Rattle.setchain.specs.Sums.{sumTo, dot}
 use Rattle.setchain.specs.Fractions.{Fraction, whole, _⊕_, _⊗_, sumFractions}
 use Rattle.setchain.specs.Rows.{ONE, Row, SetChain, SoundChain, ofParts}
-use Rattle.setchain.specs.Step.{rounded, NotAfter, extremeRow, stepFigure}
+use Rattle.setchain.specs.Rounding.{rounded}
+use Rattle.setchain.specs.Step.{NotAfter, extremeRow, stepFigure}
 use Rattle.setchain.specs.Years.{yearsFigure}
 use Rattle.setchain.specs.Picks.{Matrix, InsideEach, none, also, PicksFor, entryOf}
 use Rattle.setchain.specs.Laws.Sums.{sumTo-eq, sumTo-le, sumTo-add, sumTo-scale}
@@ -91,7 +92,7 @@ inward-gain true t g b x h = let less : g + b - t ≤ g + (b - t) = omega arith 
 
 -- A year's rounding loses less than 1: payoffs moved inward by t, and their rounded figure by one more.
 inward-loss : (high : Bool) (n : ℕ) (p f : ℕ → ℕ) (t : ℕ) → sumTo n p ≡ ONE
-    → NotAfter (not high) (inward high (suc t) (rounded high (dot n p f)) * ONE) (dot n p (λ k. inward high t (f k)))
+    → NotAfter (not high) (inward high (suc t) (rounded high ONE (dot n p f)) * ONE) (dot n p (λ k. inward high t (f k)))
 inward-loss false n p f t e = omega (arith, dot-add n p f t, ap (λ s. s * t) e)
 inward-loss true n p f t e = omega (arith, dot-sub n p f t, ap (λ s. s * t) e)
 

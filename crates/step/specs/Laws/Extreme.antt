@@ -9,7 +9,9 @@ use native.Mathlib.Decide.{ℕ-discrete, decLt}
 use native.Mathlib.Omega.{arith}
 use lib.ListN.{length}
 use Rattle.setchain.specs.Sums.{at, dot}
-use Rattle.setchain.specs.Step.{rounded, stepFigure, Reaches, NotAfter}
+use Rattle.setchain.specs.Rows.{ONE}
+use Rattle.setchain.specs.Rounding.{rounded}
+use Rattle.setchain.specs.Step.{stepFigure, Reaches, NotAfter}
 use Rattle.setchain.specs.Certificate.{Ahead, Certificate}
 use Rattle.setchain.specs.Laws.Step.{certified-reaches, reached-figure}
 use Rattle.order.specs.Order.{payoffAt, along, Occurs}
@@ -86,17 +88,17 @@ module _ {lower upper payoff order : List ℕ} {high : Bool} {row₀ row : List 
       }
 
   -- It reaches its figure.
-  filled-reaches : Reaches high (length lower) (listsRow lower upper) (at payoff) (at row) (rounded high (dot (length lower) (at row) (at payoff)))
+  filled-reaches : Reaches high (length lower) (listsRow lower upper) (at payoff) (at row) (rounded high ONE (dot (length lower) (at row) (at payoff)))
   filled-reaches = certified-reaches (length lower) (listsRow lower upper) (s .sound) high (at payoff) (at row) (w .parts) certificate
 
   -- Which is the step's.
-  pub step-reached : rounded high (dot (length lower) (at row) (at payoff)) ≡ stepFigure high (length lower) (listsRow lower upper) (at payoff)
+  pub step-reached : rounded high ONE (dot (length lower) (at row) (at payoff)) ≡ stepFigure high (length lower) (listsRow lower upper) (at payoff)
   step-reached = reached-figure (length lower) (listsRow lower upper) (s .sound) high (at payoff) (at row) _ filled-reaches
 
   -- What the step leaves.
-  pub stepped : {r : ℕ} → r ≡ rounded high (dot (length row) (at row) (at payoff)) → StepPost lower upper payoff high row r
+  pub stepped : {r : ℕ} → r ≡ rounded high ONE (dot (length row) (at row) (at payoff)) → StepPost lower upper payoff high row r
   stepped {r} e =
-      let figure : r ≡ rounded high (dot (length lower) (at row) (at payoff)) = rw (w .size) at e in
+      let figure : r ≡ rounded high ONE (dot (length lower) (at row) (at payoff)) = rw (w .size) at e in
       record {
         size = w .size;
         reaches = subst (Reaches high (length lower) (listsRow lower upper) (at payoff) (at row)) (sym figure) filled-reaches;

@@ -2,7 +2,8 @@
 -- Assumes nothing.
 use mathlib.Core.Path.{ap, _∙_}
 use borrow.Author.Needs.{needs}
-use Rattle.setchain.specs.Step.{rounded}
+use Rattle.setchain.specs.Rounding.{rounded}
+use Rattle.setchain.specs.Rows.{ONE}
 use Rattle.step.proofs.figure.figure.Statement.{statement}
 use Rattle.step.proofs.figure.figure.Tie as tie
 
@@ -16,7 +17,7 @@ returns : tie.Need-returns
 returns c =
     let start = c .before .before .before .before in
     let a = start .args in
-    c .round .ensures ∙ ap (λ x. rounded (a .high) x) (c .before .weigh .ensures)
+    c .round .ensures ∙ ap (λ x. rounded (a .high) ONE x) (c .before .weigh .ensures)
 
 pub figure-spec : {M : Type 1} → statement M
 figure-spec = tie.close (tie.spec weigh-requires round-requires returns)
