@@ -1,6 +1,5 @@
--- The theorems that the contracts cite, what stands in a table, that the promises pin the figures, and the causes of queries, and what two schemes with the same values share.
+-- The theorems that the contracts cite, what stands in a table, the causes of queries, and what two schemes with the same values share.
 pub mod Kept
 pub mod Table
-pub mod Pinned
 pub mod Causes
 pub mod Alike

@@ -3,8 +3,10 @@ use Prim.Native.Nat.{ℕ}
 use mathlib.Core.Path.{refl}
 use mathlib.Core.List.{[], _∷_}
 use native.Mathlib.Omega.{arith}
+use Rattle.setchain.specs.Fractions.{whole}
 use Rattle.setchain.specs.Rows.{ONE, SoundChain}
 use Rattle.setchain.specs.Theorems.{exact-proper}
+use Rattle.setchain.specs.Kept.{Pinned, pinned}
 use Rattle.scheme.specs.Access.{premiumAt}
 use Rattle.scheme.specs.Rows.{chainOf}
 use Rattle.scheme.specs.Examples.{schemeA, rows-a}
@@ -15,7 +17,6 @@ use Rattle.bounds_spec.specs.Promises.{Kept, startShare, startMean, star
 use Rattle.bounds_spec.specs.Table.{highTable}
 use Rattle.bounds_spec.specs.Examples.{document-examples}
 use Rattle.bounds_spec.specs.Laws.Kept.{share-kept, mean-kept, total-kept}
-use Rattle.bounds_spec.specs.Laws.Pinned.{Pinned, pinned}
 
 sound : SoundChain (chainOf schemeA)
 sound = accepted-sound schemeA (accepted-cause schemeA (rows-a .accepted))
@@ -31,13 +32,13 @@ total-a : Kept schemeA 2 (startTotal schemeA) 25500 26000
 total-a = rw (document-examples .total) at (total-kept schemeA 2) refl
 
 -- So what else keeps them is no further than 2 from these.
-share-pinned : {low high : ℕ} → Kept schemeA 2 (startShare schemeA 0) low high → Pinned 2 920000000 990000000 low high
+share-pinned : {low high : ℕ} → Kept schemeA 2 (startShare schemeA 0) low high → Pinned (whole 2) 920000000 990000000 low high
 share-pinned = pinned (λ ps picks. exact-proper (chainOf schemeA) sound (premiumAt schemeA) 0 2 ps picks 1 (omega arith) .0) share-a
 
-mean-pinned : {low high : ℕ} → Kept schemeA 2 (startMean schemeA) low high → Pinned 2 10050 10400 low high
+mean-pinned : {low high : ℕ} → Kept schemeA 2 (startMean schemeA) low high → Pinned (whole 2) 10050 10400 low high
 mean-pinned = pinned (λ ps picks. exact-proper (chainOf schemeA) sound (premiumAt schemeA) 0 2 ps picks 1 (omega arith) .1) mean-a
 
-total-pinned : {low high : ℕ} → Kept schemeA 2 (startTotal schemeA) low high → Pinned 2 25500 26000 low high
+total-pinned : {low high : ℕ} → Kept schemeA 2 (startTotal schemeA) low high → Pinned (whole 2) 25500 26000 low high
 total-pinned = pinned (λ ps picks. exact-proper (chainOf schemeA) sound (premiumAt schemeA) 0 2 ps picks 1 (omega arith) .2) total-a
 
 -- The share of class 1 and of class 2 after 2 years, the mean and the total: what may not be answered.

@@ -3,9 +3,9 @@ use Prim.Native.Nat.{ℕ, _-_, _≤_, _<_}
 use mathlib.Core.Path.{_≡_}
 use mathlib.Core.List.{List}
 use lib.ListN.{getD}
-use Rattle.setchain.specs.Fractions.{Fraction}
-use Rattle.setchain.specs.Picks.{Matrix, PicksFor, exactMean, exactTotal}
-use Rattle.setchain.specs.Promise.{shareInParts, Between, Near}
+use Rattle.setchain.specs.Fractions.{Fraction, whole}
+use Rattle.setchain.specs.Picks.{Matrix, exactMean, exactTotal}
+use Rattle.setchain.specs.Promise.{shareInParts, NoFurther, KeptBy}
 use Rattle.scheme.specs.declared.Scheme.{Scheme}
 use Rattle.scheme.specs.Access.{premiumAt}
 use Rattle.scheme.specs.Rows.{chainOf}
@@ -14,17 +14,9 @@ use Rattle.bounds_spec.specs.Answers.{numberOf, lowOf, highOf, startOf}
 use Rattle.bounds_spec.specs.Table.{placeOf}
 use Rattle.bounds_spec.specs.Causes.{totalPlace}
 
--- Some picks for t years bring the exact figure no further than t from the bound.
-pub record SomeNear (s : Scheme) (t bound : ℕ) (exact : List Matrix → Fraction) : Type 0 where
-  pub picks : List Matrix
-  pub made : PicksFor (chainOf s) t picks
-  pub near : Near t bound (exact picks)
-
 -- "For all picks for t years, low ≤ exact … ≤ high"; "For each such low, and for each such high, some picks for t years bring the exact figure, in the same unit, no further than t from it".
-pub record Kept (s : Scheme) (t : ℕ) (exact : List Matrix → Fraction) (low high : ℕ) : Type 0 where
-  pub contains : (ps : List Matrix) → PicksFor (chainOf s) t ps → Between low high (exact ps)
-  pub lowClose : SomeNear s t low exact
-  pub highClose : SomeNear s t high exact
+abbrev pub Kept : Scheme → (t : ℕ) → (exact : List Matrix → Fraction) → (low high : ℕ) → Type 0
+Kept s t = KeptBy (chainOf s) t (NoFurther (whole t))
 
 -- The exact share of state j, in parts, seen from the start class.
 abbrev pub startShare : Scheme → ℕ → List Matrix → Fraction

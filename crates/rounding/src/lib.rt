@@ -2,7 +2,7 @@
 ghost use mathlib.Core.Path.{_≡_};
 ghost use Rattle.setchain.specs.Rounding.{rounded};
 
-// X over a unit: rounded down for a low figure, up for a high one; over no unit, 0.
+// x over a unit: rounded down for a low figure, up for a high one; over no unit, 0.
 pub fn round(x: u64, unit: u64, high: bool) -> u64
     ensures { λ r. ⌜ r ≡ rounded high unit x ⌝ }
 {

@@ -1,9 +1,12 @@
 -- Fractions as two whole numbers, added and multiplied by the school rules and compared multiplied out (document 01, "Years").
-use Prim.Native.Nat.{ℕ, zero, suc, _+_, _*_, _≤_}
+use Prim.Native.Nat.{ℕ, zero, suc, _+_, _*_, _≤_, _<_}
+use mathlib.Core.Path.{_≡_}
 
 infixl 60 _⊕_
 infixl 70 _⊗_
 infix 40 _≼_
+infix 40 _≺_
+infix 40 _≈_
 -- Numerator and denominator.
 pub record Fraction : Type 0 where
   pub num : ℕ
@@ -24,6 +27,18 @@ x ⊗ y = record { num = x .num * y .num; den = x .den * y .den }
 -- x is at most y, multiplied out.
 abbrev pub _≼_ : Fraction → Fraction → Type 0
 x ≼ y = x .num * y .den ≤ y .num * x .den
+
+-- x is smaller than y.
+abbrev pub _≺_ : Fraction → Fraction → Type 0
+x ≺ y = x .num * y .den < y .num * x .den
+
+-- The same value.
+abbrev pub _≈_ : Fraction → Fraction → Type 0
+x ≈ y = x .num * y .den ≡ y .num * x .den
+
+-- A fraction proper: its denominator is not 0.
+abbrev pub Proper : Fraction → Type 0
+Proper x = 0 < x .den
 
 -- The sum of the fractions f at each index below n.
 unfoldable pub sumFractions : ℕ → (ℕ → Fraction) → Fraction

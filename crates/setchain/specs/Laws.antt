@@ -9,5 +9,6 @@ pub mod Order
 pub mod Agreeing
 pub mod Step
 pub mod Cells
-pub mod Value
-pub mod Exact
+pub mod Mean
+pub mod Obeys
+pub mod Follows

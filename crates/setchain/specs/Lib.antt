@@ -1,4 +1,4 @@
--- Read in this order: what a bound means (Sums to Promise), then that it holds (Theorems) and moves inward with narrower rows (Inward), then worked figures.
+-- Read in this order: what a bound means (Sums to Promise), then that it holds (Theorems), for answers too (Kept), and moves inward with narrower rows (Inward), then worked figures.
 -- Laws has the lemmas by which the theorems are proved.
 pub mod Sums
 pub mod Fractions
@@ -9,10 +9,13 @@ pub mod Step
 pub mod Certificate
 pub mod Years
 pub mod Picks
+pub mod Turns
 pub mod Promise
 pub mod Laws
 pub mod Theorems
+pub mod Kept
 pub mod Inward
 pub mod Examples
 pub mod PromiseExamples
+pub mod TurnExamples
 pub mod InwardExamples

@@ -26,6 +26,10 @@ pub record PicksFor (c : SetChain) (t : ℕ) (ps : List Matrix) : Type 0 where
 abbrev pub entryOf : Row → ℕ → Fraction
 entryOf q j = record { num = q .entry j; den = q .over }
 
+-- The mean of v over n states, by the entries of a row.
+abbrev pub weigh : ℕ → Row → (ℕ → Fraction) → Fraction
+weigh n q v = sumFractions n (λ k. entryOf q k ⊗ v k)
+
 -- Row i, entry j of the product of the matrices over n states, first year leftmost; of no matrix, 1 where i is j and 0 elsewhere.
 unfoldable pub product : ℕ → List Matrix → ℕ → ℕ → Fraction
 product n [] i j = whole (onlyIf (eqb i j) 1)

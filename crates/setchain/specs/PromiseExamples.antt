@@ -8,11 +8,15 @@ use Rattle.setchain.specs.Sums.{at, sumTo, onlyIf}
 use Rattle.setchain.specs.Fractions.{Fraction, whole, sumFractions}
 use Rattle.setchain.specs.Rows.{ONE, IntervalRow, Row, Inside, SoundRow, SoundChain}
 use Rattle.setchain.specs.Picks.{Matrix, InsideEach, none, also, PicksFor, product, exactShare, exactMean, exactTotal}
-use Rattle.setchain.specs.Promise.{shareInParts, Between, Near}
+use Rattle.setchain.specs.Promise.{shareInParts, Between, NoFurther, Nearer, withRounding, KeptBy}
+use Rattle.setchain.specs.Rounding.{rounded}
 use Rattle.setchain.specs.Step.{capacityBefore, fillRow, stepFigure, Parts, Reaches}
-use Rattle.setchain.specs.Years.{yearsFigure, lowShare, highShare, lowMean, highMean}
+use Rattle.setchain.specs.Years.{yearsFigure, nothing, lowShare, highShare, lowMean, highMean}
 use Rattle.setchain.specs.Laws.Sums.{below-two}
-use Rattle.setchain.specs.Theorems.{low-to-bound, bound-to-high, share-promise, mean-promise, exact-proper}
+use Rattle.setchain.specs.Laws.Obeys.{years-obey}
+use Rattle.setchain.specs.Laws.Follows.{unit-plain, means-follow}
+use Rattle.setchain.specs.Theorems.{promised, share-promise, mean-promise, exact-proper}
+use Rattle.setchain.specs.Kept.{at-state, rounded-kept, low-to-bound, bound-to-high}
 use Rattle.setchain.specs.Examples.{chainA, premiumA}
 
 -- A numerator over a denominator.
@@ -21,12 +25,12 @@ fraction a b = record { num = a; den = b }
 
 -- "no further than t from it": 12 and 8 are near 10 for t = 2, and 13, 7 and what lies just past 12 and 8 are not.
 pub record NearExamples : Type 0 where
-  pub above : Near 2 10 (whole 12)
-  pub below : Near 2 10 (whole 8)
-  pub tooHigh : Near 2 10 (whole 13) → ⊥
-  pub tooLow : Near 2 10 (whole 7) → ⊥
-  pub justTooHigh : Near 2 10 (fraction 1201 100) → ⊥
-  pub justTooLow : Near 2 10 (fraction 799 100) → ⊥
+  pub above : NoFurther (whole 2) 10 (whole 12)
+  pub below : NoFurther (whole 2) 10 (whole 8)
+  pub tooHigh : NoFurther (whole 2) 10 (whole 13) → ⊥
+  pub tooLow : NoFurther (whole 2) 10 (whole 7) → ⊥
+  pub justTooHigh : NoFurther (whole 2) 10 (fraction 1201 100) → ⊥
+  pub justTooLow : NoFurther (whole 2) 10 (fraction 799 100) → ⊥
 
 pub near-examples : NearExamples
 near-examples =
@@ -37,6 +41,32 @@ near-examples =
       tooLow = λ h. omega (arith, h .over);
       justTooHigh = λ h. omega (arith, h .under);
       justTooLow = λ h. omega (arith, h .over);
+    }
+
+-- A distance of 12 tenths, which is what rounding leaves of 2 tenths: 11 1/5 and 8 4/5 are no further from 10, and are not nearer; what lies just inside is.
+pub record TenthsExamples : Type 0 where
+  pub distance : withRounding 10 (whole 2) ≡ fraction 12 10
+  pub above : NoFurther (fraction 12 10) 10 (fraction 56 5)
+  pub below : NoFurther (fraction 12 10) 10 (fraction 44 5)
+  pub tooHigh : NoFurther (fraction 12 10) 10 (fraction 1121 100) → ⊥
+  pub tooLow : NoFurther (fraction 12 10) 10 (fraction 879 100) → ⊥
+  pub nearerAbove : Nearer (fraction 12 10) 10 (fraction 1119 100)
+  pub nearerBelow : Nearer (fraction 12 10) 10 (fraction 881 100)
+  pub edgeAbove : Nearer (fraction 12 10) 10 (fraction 56 5) → ⊥
+  pub edgeBelow : Nearer (fraction 12 10) 10 (fraction 44 5) → ⊥
+
+pub tenths-examples : TenthsExamples
+tenths-examples =
+    record {
+      distance = refl;
+      above = record { under = omega arith; over = omega arith };
+      below = record { under = omega arith; over = omega arith };
+      tooHigh = λ h. omega (arith, h .under);
+      tooLow = λ h. omega (arith, h .over);
+      nearerAbove = record { under = omega arith; over = omega arith };
+      nearerBelow = record { under = omega arith; over = omega arith };
+      edgeAbove = λ h. omega (arith, h .under);
+      edgeBelow = λ h. omega (arith, h .over);
     }
 
 -- "low ≤ exact … ≤ high": both ends count as between, and nothing outside does.
@@ -80,7 +110,7 @@ module _ (r : IntervalRow) (m a b : ℕ) where
   unfolding sumTo
   inside-two positive sums above₀ below₀ above₁ below₁ =
       record {
-        positive = positive;
+        positive = omega arith;
         sums = omega arith;
         above = below-two (λ j. r .lower j * m ≤ at (a ∷ b ∷ []) j * ONE) above₀ above₁;
         below = below-two (λ j. at (a ∷ b ∷ []) j * ONE ≤ r .upper j * m) below₀ below₁;
@@ -234,10 +264,10 @@ year-one = (refl, refl, refl, refl)
 -- "always 0 and ONE for a share" is shut out by closeness: no picks for a year bring the share of class 1 within 1 of 0, or of ONE;
 -- and none bring the mean within 1 cent of the lowest premium, or of the highest.
 pub record WorthlessA (ps : List Matrix) : Type 0 where
-  pub zero : Near 1 0 (shareInParts 2 0 ps 1) → ⊥
-  pub one : Near 1 ONE (shareInParts 2 0 ps 1) → ⊥
-  pub lowest : Near 1 10000 (exactMean 2 premiumA ps 1) → ⊥
-  pub highest : Near 1 15000 (exactMean 2 premiumA ps 1) → ⊥
+  pub zero : NoFurther (whole 1) 0 (shareInParts 2 0 ps 1) → ⊥
+  pub one : NoFurther (whole 1) ONE (shareInParts 2 0 ps 1) → ⊥
+  pub lowest : NoFurther (whole 1) 10000 (exactMean 2 premiumA ps 1) → ⊥
+  pub highest : NoFurther (whole 1) 15000 (exactMean 2 premiumA ps 1) → ⊥
 
 pub worthless-a : (ps : List Matrix) → PicksFor chainA 1 ps → WorthlessA ps
 worthless-a ps picks =
@@ -250,3 +280,16 @@ worthless-a ps picks =
       lowest = λ near. omega (arith, low-to-bound (proper .1) mean near, year-one .2);
       highest = λ near. omega (arith, bound-to-high (proper .1) mean near, year-one .3);
     }
+
+-- Example A's premiums in tenths of a cent.
+abbrev tenthsA : ℕ → ℕ
+tenthsA i = premiumA i * 10
+
+-- The mean from class 2, worked in tenths and answered in cents: builders and theorems for answers, composed.
+pub cents-a : (t : ℕ) → KeptBy chainA t (Nearer (fraction (10 + t) 10)) (λ ps. exactMean 2 premiumA ps 1)
+    (rounded false 10 (lowMean chainA tenthsA t 1))
+    (rounded true 10 (highMean chainA tenthsA t 1))
+cents-a t =
+    rounded-kept 10 (omega arith) (whole t) (omega arith) (λ ps picks. means-follow chainA premiumA .proper ps (picks .inside) 1 (omega arith))
+    (at-state 1 (omega arith)
+    (promised chainA sound-a (unit-plain chainA 10 (means-follow chainA premiumA)) (years-obey false chainA tenthsA nothing) (years-obey true chainA tenthsA nothing) t))

@@ -2,7 +2,7 @@
 use Prim.Native.Nat.{ℕ, _+_, _-_, _/_}
 use mathlib.Core.Bool.{Bool, true, false}
 
--- X over a unit, rounded outward: down for a low figure, up for a high one.
+-- x over a unit, rounded outward: down for a low figure, up for a high one.
 abbrev pub rounded : (high : Bool) (unit x : ℕ) → ℕ
 rounded false unit x = x / unit
 rounded true unit x = (x + (unit - 1)) / unit

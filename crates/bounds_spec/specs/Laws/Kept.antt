@@ -1,16 +1,17 @@
 -- The answers keep their promises: setchain's theorems at an accepted scheme's chain and start class.
-use Prim.Native.Nat.{ℕ, _-_, _<_}
+use Prim.Native.Nat.{ℕ, _-_}
 use mathlib.Core.Path.{_≡_, ap, sym, _∙_, subst, subst₂}
 use mathlib.Core.List.{List}
 use mathlib.Core.Bool.{Bool, true, false}
 use lib.ListN.{getD, length}
 use native.Mathlib.Decide.{ℕ-discrete}
 use native.Mathlib.Omega.{arith}
-use Rattle.setchain.specs.Fractions.{Fraction}
+use Rattle.setchain.specs.Fractions.{Fraction, whole}
 use Rattle.setchain.specs.Picks.{Matrix, PicksFor, exactMean, exactTotal}
 use Rattle.setchain.specs.Years.{shareFigure, lowShare, highShare, lowMean, highMean, lowTotal, highTotal}
-use Rattle.setchain.specs.Promise.{shareInParts, Promise}
+use Rattle.setchain.specs.Promise.{shareInParts, NoFurther, Promise}
 use Rattle.setchain.specs.Theorems.{share-promise, mean-promise, total-promise, some-picks}
+use Rattle.setchain.specs.Kept.{at-state}
 use Rattle.scheme.specs.declared.Scheme.{Scheme}
 use Rattle.scheme.specs.Access.{premiumAt}
 use Rattle.scheme.specs.Accepted.{Accepted}
@@ -29,17 +30,9 @@ use Rattle.bounds_spec.specs.Causes.{shareCause, moneyCause}
 use Rattle.bounds_spec.specs.Laws.Causes.{of-share, of-money, of-sheet, of-table}
 
 -- A promise for every state, at the start class.
-at-start : (s : Scheme) → Accepted s → (t : ℕ) (low high : ℕ → ℕ) (exact : List Matrix → ℕ → Fraction) → Promise (chainOf s) t low high exact
+at-start : (s : Scheme) → Accepted s → (t : ℕ) (low high : ℕ → ℕ) (exact : List Matrix → ℕ → Fraction) → Promise (chainOf s) t (NoFurther (whole t)) low high exact
     → Kept s t (λ ps. exact ps (startOf s)) (low (startOf s)) (high (startOf s))
-at-start s ok t low high exact p =
-    record {
-      contains = λ ps picks. p .contains ps picks (startOf s) within;
-      lowClose = record { picks = p .lowClose .picks; made = p .lowClose .made; near = p .lowClose .near (startOf s) within };
-      highClose = record { picks = p .highClose .picks; made = p .highClose .made; near = p .highClose .near (startOf s) within };
-    }
-  where
-    within : startOf s < s .classes
-    within = omega (arith, ok .start .positive, ok .start .within)
+at-start s ok t low high exact = at-state (startOf s) (omega (arith, ok .start .positive, ok .start .within))
 
 -- The three figures of a state, each by its theorem.
 module _ (s : Scheme) (ok : Accepted s) (t : ℕ) where

@@ -5,18 +5,9 @@ use mathlib.Core.Bool.{Bool, true, false}
 use native.Mathlib.Omega.{arith}
 use native.Mathlib.Nat.{le-refl, le-of-eq, mul-le-mul-right, mul-pos, le-of-mul-le-mul-right, eq-of-mul-eq-mul-right}
 use Rattle.setchain.specs.Sums.{sumTo, dot}
-use Rattle.setchain.specs.Fractions.{Fraction, whole, _⊕_, _⊗_, _≼_, sumFractions}
+use Rattle.setchain.specs.Fractions.{Fraction, whole, _⊕_, _⊗_, _≼_, _≈_, Proper, sumFractions}
 use Rattle.setchain.specs.Rows.{IntervalRow, Row, Inside}
 use Rattle.setchain.specs.Laws.Sums.{below-pred}
-
-infix 40 _≈_
--- The same value.
-abbrev pub _≈_ : Fraction → Fraction → Type 0
-x ≈ y = x .num * y .den ≡ y .num * x .den
-
--- A fraction proper: its denominator is not 0.
-abbrev pub Proper : Fraction → Type 0
-Proper x = 0 < x .den
 
 fraction : {a b c d : ℕ} → a ≡ b → c ≡ d → _≡_ {A = Fraction} (record { num = a; den = c }) (record { num = b; den = d })
 fraction p q = λ i. record { num = p i; den = q i }
@@ -62,8 +53,8 @@ pub add-same : (x x′ y y′ : Fraction) → x ≈ x′ → y ≈ y′ → x �
 add-same x x′ y y′ e g =
     omega (arith, ap (λ v. v * (y .den * y′ .den)) e, ap (λ v. v * (x .den * x′ .den)) g)
 
-pub mul-same : (x y y′ : Fraction) → y ≈ y′ → x ⊗ y ≈ x ⊗ y′
-mul-same x y y′ e = omega (arith, ap (λ v. v * (x .num * x .den)) e)
+pub mul-same : (x x′ y : Fraction) → x ≈ x′ → x ⊗ y ≈ x′ ⊗ y
+mul-same x x′ y e = omega (arith, ap (λ v. v * (y .num * y .den)) e)
 
 add-at-most : (x x′ y y′ : Fraction) → x ≼ x′ → y ≼ y′ → x ⊕ y ≼ x′ ⊕ y′
 add-at-most x x′ y y′ h k =
@@ -169,6 +160,12 @@ weigh-sum n m e x he hx =
     subst (λ s. s ≈ sumFractions n (λ k. e k ⊗ sumFractions m (x k))) (sum-swap n m (λ k j. e k ⊗ x k j))
     (sum-same n (λ k. sumFractions m (λ j. e k ⊗ x k j)) (λ k. e k ⊗ sumFractions m (x k))
     (λ k l. sym (sum-scale m (e k) (x k) (he k l) (λ j g. hx k j l g))))
+
+-- A sum of whole numbers.
+pub sum-whole : (n : ℕ) (f : ℕ → ℕ) → sumFractions n (λ k. whole (f k)) ≡ whole (sumTo n f)
+unfolding sumFractions sumTo
+sum-whole zero f = refl
+sum-whole (suc n) f = ap (λ s. s ⊕ whole (f n)) (sum-whole n f) ∙ fraction (omega arith) refl
 
 -- Whole numbers weighed by the entries of one row over m: their dot product over m.
 pub sum-weighed : (n m : ℕ) (e c : ℕ → ℕ)

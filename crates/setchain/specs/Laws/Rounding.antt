@@ -7,7 +7,7 @@ use native.Mathlib.Nat.{le-of-eq, mul-le-mul-right, le-of-mul-le-mul-right, lt-o
 use Rattle.setchain.specs.Rounding.{rounded}
 use Rattle.setchain.specs.Step.{NotAfter}
 
--- Units that are given whole.
+-- Over a unit that is not 0.
 module _ (unit : ℕ) (positive : 1 ≤ unit) where
   -- The rounded figure bounds x.
   pub rounded-outward : (high : Bool) (x : ℕ) → NotAfter high (rounded high unit x * unit) x
