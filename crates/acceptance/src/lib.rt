@@ -16,13 +16,9 @@ pub fn cause(scheme: Scheme) -> u8
     if form != 0 {
         return form;
     }
-    let rules = scheme.rules;
-    let lowers = scheme.lowers;
-    let uppers = scheme.uppers;
-    let premiums = scheme.premiums;
-    let leads = tests::rule_cause(&rules, classes, columns);
-    let bands = tests::band_cause(&lowers, &uppers, columns);
-    let money = tests::premium_cause(&premiums, classes);
+    let leads = tests::rule_cause(&scheme.rules, classes, columns);
+    let bands = tests::band_cause(&scheme.lowers, &scheme.uppers, columns);
+    let money = tests::premium_cause(&scheme.premiums, classes);
     let later = or_else(bands, money);
     or_else(leads, later)
 }

@@ -109,7 +109,7 @@ fn sum_out(lowers: &[u32; 8], uppers: &[u32; 8], columns: u8) -> bool
 }
 
 // The first of causes 8 and 9, or 0.
-pub fn band_cause(lowers: &[u32; 8], uppers: &[u32; 8], columns: u8) -> u8
+pub fn band_cause<'a>(lowers: &'a [u32; 8], uppers: &'a [u32; 8], columns: u8) -> u8
     requires { ⌜ columns ≤ 8 ⌝ }
     ensures { λ r. ⌜ r ≡ bandCause columns (λ k. getD (now (lowers .entry)) k 0) (λ k. getD (now (uppers .entry)) k 0) ⌝ }
 {

@@ -5,8 +5,8 @@ use rows::slack;
 use rows::sum_by_target;
 use scheme::Scheme;
 ghost use mathlib.Core.Path.{_≡_};
-ghost use Prim.Native.Nat.{_+_};
-ghost use lib.ListN.{length};
+ghost use Prim.Native.Nat.{_+_, _≤_};
+ghost use lib.ListN.{length, take};
 ghost use Rattle.setchain.specs.Sums.{sumTo};
 ghost use Rattle.setchain.specs.Rows.{ONE};
 ghost use Rattle.scheme.specs.Accepted.{Accepted};
@@ -87,15 +87,36 @@ fn list_rows(
     }
 }
 
+// Lists the entries of all rows of n states, each with m cells.
+fn list_cells<'a>(
+    rules: &'a [u8],
+    lowers: &'a [u32],
+    uppers: &'a [u32],
+    m: usize,
+    n: usize,
+    entries: &mut [u32; 3104],
+    slack: &mut [u32; 32],
+)
+    requires { ⌜ (m ≤ length (now lowers)) × (m ≤ length (now uppers)) × ListRowsPre n (now rules) (take m (now lowers)) (take m (now uppers)) (now entries) (now slack) ⌝ }
+    ensures { λ _. ⌜ ListRowsPost (rulesChain n (now (rules .entry)) (take m (now (lowers .entry))) (take m (now (uppers .entry)))) (now (entries .exit)) (now (slack .exit)) ⌝ }
+{
+    list_rows(rules, &lowers[..m], &uppers[..m], n, entries, slack);
+}
+
 // Lists the entries of a scheme.
 pub fn list_scheme(scheme: Scheme, entries: &mut [u32; 3104], slack: &mut [u32; 32])
     requires { ⌜ (Accepted scheme) × EmptyLists (now entries) (now slack) ⌝ }
     ensures { λ _. ⌜ ListRowsPost (chainOf scheme) (now (entries .exit)) (now (slack .exit)) ⌝ }
 {
-    let rules = scheme.rules;
-    let lowers = scheme.lowers;
-    let uppers = scheme.uppers;
     let m = scheme.columns as usize;
     let n = scheme.classes as usize;
-    list_rows(&rules, &lowers[..m], &uppers[..m], n, entries, slack);
+    list_cells(
+        &scheme.rules,
+        &scheme.lowers,
+        &scheme.uppers,
+        m,
+        n,
+        entries,
+        slack,
+    );
 }

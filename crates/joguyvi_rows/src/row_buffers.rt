@@ -46,9 +46,7 @@ pub fn put_bands(scheme: Scheme, lower: &mut [u32], upper: &mut [u32]) -> u8
     if number != 0 {
         return number;
     }
-    let lowers = scheme.lowers;
-    let uppers = scheme.uppers;
-    copies::copy_ends(lowers, lower);
-    copies::copy_ends(uppers, upper);
+    copies::copy_ends(&scheme.lowers, lower);
+    copies::copy_ends(&scheme.uppers, upper);
     0
 }

@@ -25,8 +25,8 @@ abbrev pub lengthOut : List ℕ → Bool
 lengthOut bytes = not (eqb (length bytes) (lengthOf (layoutIn bytes) (classesIn bytes) (columnsIn bytes)))
 
 -- The table's lines for a record's bytes, in the order of their tests; cause 3 is that of s and m.
-abbrev pub frameLines : List ℕ → List Line
-frameLines bytes =
+abbrev pub frameTable : List ℕ → List Line
+frameTable bytes =
     record { number = 1; applies = versionOut bytes; Fits = VersionFits bytes }
     ∷ record { number = 2; applies = fieldOut bytes; Fits = FieldFits bytes }
     ∷ record { number = 3; applies = sizesOut (classesIn bytes) (columnsIn bytes); Fits = SizesFit bytes }
@@ -35,7 +35,7 @@ frameLines bytes =
 
 -- The first of them, or 0.
 unfoldable pub frameCause : List ℕ → ℕ
-frameCause bytes = firstOf (tests (frameLines bytes))
+frameCause bytes = firstOf (tests (frameTable bytes))
 
 -- Causes 1 to 4 by the bytes, then 5 to 10 by the scheme in them: "the first that applies is returned".
 abbrev pub readCause : List ℕ → ℕ

@@ -57,7 +57,7 @@ fn put_band(out: &mut [u8], at: usize, lower: u32, upper: u32)
 }
 
 // Puts m bands, lower and upper, from place `from` on.
-fn bands(out: &mut [u8], from: usize, lowers: &[u32; 8], uppers: &[u32; 8], m: usize)
+fn bands<'a>(out: &mut [u8], from: usize, lowers: &'a [u32; 8], uppers: &'a [u32; 8], m: usize)
     requires { ⌜ (from + m * BAND_WIDTH ≤ length (now out)) × (m ≤ 8) ⌝ }
     ensures { λ _. ⌜ now (out .exit) ≡ sets (now (out .entry)) from (joined m (λ k. bandBytes (getD (now (lowers .entry)) k 0) (getD (now (uppers .entry)) k 0))) ⌝ }
 {
@@ -100,12 +100,9 @@ pub fn whole(scheme: Scheme, out: &mut [u8], size: usize)
         scheme.horizon,
     );
     let header_length = HEADER;
-    let rows = scheme.rules;
-    rules(out, header_length, &rows, s, m);
-    let lowers = scheme.lowers;
-    let uppers = scheme.uppers;
+    rules(out, header_length, &scheme.rules, s, m);
     let after = header_length + s * m;
-    bands(out, after, &lowers, &uppers, m);
-    let money = scheme.premiums;
-    premiums(out, after + m * BAND_WIDTH, PREMIUM_WIDTH, &money, s);
+    let money = after + m * BAND_WIDTH;
+    bands(out, after, &scheme.lowers, &scheme.uppers, m);
+    premiums(out, money, PREMIUM_WIDTH, &scheme.premiums, s);
 }

@@ -23,10 +23,16 @@ pub fn row(scheme: Scheme, class: u64) -> RowAnswer
     if scheme::class_out(scheme.classes, class) {
         return rows::refused(scheme::CLASS_OUT);
     }
-    let rules = scheme.rules;
-    let lowers = scheme.lowers;
-    let uppers = scheme.uppers;
-    rows::answered(rules, lowers, uppers, scheme.columns, scheme.classes, class)
+    let columns = scheme.columns;
+    let classes = scheme.classes;
+    rows::answered(
+        &scheme.rules,
+        &scheme.lowers,
+        &scheme.uppers,
+        columns,
+        classes,
+        class,
+    )
 }
 
 // The entries that the cells of one class make, over slices.

@@ -1,6 +1,8 @@
 // The row operation's parts.
 ghost use mathlib.Core.Path.{_≡_};
 ghost use Prim.Native.Nat.{_-_, _≤_};
+ghost use lib.ListN.{length};
+ghost use Rattle.scheme.specs.Access.{CELL_STRIDE, CELL_PLACES};
 ghost use Rattle.scheme.specs.RowAnswer.{rowRefused};
 ghost use Rattle.rows.specs.Rows.{entriesOf, rowFrom};
 use crate::sum_by_target;
@@ -30,16 +32,17 @@ pub fn refused(number: u8) -> RowAnswer
 }
 
 // The row of a class of an accepted scheme, from the scheme's parts.
-pub fn answered(
-    rules: [u8; 256],
-    lowers: [u32; 8],
-    uppers: [u32; 8],
+pub fn answered<'a>(
+    rules: &'a [u8],
+    lowers: &'a [u32],
+    uppers: &'a [u32],
     columns: u8,
     classes: u8,
     class: u64,
 ) -> RowAnswer
-    requires { ⌜ (1 ≤ class) × (class ≤ classes) × (classes ≤ 32) × (columns ≤ 8) ⌝ }
-    ensures { λ r. ⌜ r ≡ rowFrom rules lowers uppers columns classes (class - 1) ⌝ }
+    requires { ⌜ (1 ≤ class) × (class ≤ classes) × (classes ≤ 32) × (columns ≤ length (now lowers)) × (length (now lowers) ≡ length (now uppers))
+        × (columns ≤ CELL_STRIDE) × (length (now rules) ≡ CELL_PLACES) ⌝ }
+    ensures { λ r. ⌜ r ≡ rowFrom (now (rules .entry)) (now (lowers .entry)) (now (uppers .entry)) columns classes (class - 1) ⌝ }
 {
     let m = columns as usize;
     let from = (class - 1) as usize * scheme::CELL_STRIDE;

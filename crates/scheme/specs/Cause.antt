@@ -57,8 +57,8 @@ unfoldable pub premiumOut : Scheme → Bool
 premiumOut s = anyBelow (s .classes) (λ i. ltb 10000000 (premiumAt s i))
 
 -- The table's lines for a scheme by itself, in the order of their tests.
-abbrev pub schemeLines : Scheme → List Line
-schemeLines s =
+abbrev pub schemeTable : Scheme → List Line
+schemeTable s =
     record { number = 3; applies = sizeOut s; Fits = SizeFits s }
     ∷ record { number = 5; applies = startOut s; Fits = StartFits s }
     ∷ record { number = 6; applies = horizonOut s; Fits = HorizonFits s }
@@ -70,11 +70,11 @@ schemeLines s =
 
 -- The first cause that applies to the scheme by itself, or 0.
 unfoldable pub causeOf : Scheme → ℕ
-causeOf s = firstOf (tests (schemeLines s))
+causeOf s = firstOf (tests (schemeTable s))
 
 -- A scheme with this cause: it is the first that applies.
 abbrev pub Refused : Scheme → ℕ → Type 1
-Refused s number = FirstFails (schemeLines s) number
+Refused s number = FirstFails (schemeTable s) number
 
 -- Cause 11: queried class 0 or above s.
 abbrev pub classCause : Scheme → ℕ → ℕ

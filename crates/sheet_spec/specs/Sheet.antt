@@ -14,8 +14,8 @@ use Rattle.bounds_spec.specs.Answers.{startOf}
 use Rattle.sheet_spec.specs.Text.{field, newline, schemeWord, yearWord, classWord, premiumWord, totalWord, refusedWord}
 
 -- "SCHEME carries s, m, start, horizon."
-unfoldable pub schemeLine : Scheme → List ℕ
-schemeLine s = schemeWord ++ field (s .classes) ++ field (s .columns) ++ field (s .start) ++ field (s .horizon) ++ newline
+unfoldable pub schemeLine : (classes columns start horizon : ℕ) → List ℕ
+schemeLine classes columns start horizon = schemeWord ++ field classes ++ field columns ++ field start ++ field horizon ++ newline
 
 -- "a line for each class in order, with year and class number": class j + 1.
 unfoldable pub classLine : (year j low high : ℕ) → List ℕ
@@ -46,7 +46,7 @@ totalLine low high = totalWord ++ field low ++ field high ++ newline
 -- "Then each year from 0 to the horizon".
 unfoldable pub sheetOf : Scheme → List ℕ
 sheetOf s =
-    schemeLine s
+    schemeLine (s .classes) (s .columns) (s .start) (s .horizon)
     ++ joined (suc (s .horizon)) (yearLines s)
     ++ totalLine (lowTotal (chainOf s) (premiumAt s) (s .horizon) (startOf s)) (highTotal (chainOf s) (premiumAt s) (s .horizon) (startOf s))
 

@@ -5,7 +5,6 @@ ghost use Rattle.sheet_spec.specs.Text.{field, newline};
 ghost use Rattle.sheet_spec.specs.Sheet.{schemeLine, classLine, premiumLine, totalLine, refusedLine};
 ghost use Rattle.sheet_text.specs.Put.{Put, Space};
 use crate::text;
-use scheme::Scheme;
 
 // Puts the two figures that end a line.
 fn ends(out: &mut [u8], at: usize, low: u64, high: u64) -> usize
@@ -18,15 +17,22 @@ fn ends(out: &mut [u8], at: usize, low: u64, high: u64) -> usize
 }
 
 // Puts the SCHEME line.
-pub fn scheme_line(out: &mut [u8], at: usize, scheme: Scheme) -> usize
-    requires { ⌜ Space (now out) at (schemeLine scheme) ⌝ }
-    ensures { λ r. ⌜ Put (now (out .entry)) at (schemeLine scheme) (now (out .exit)) r ⌝ }
+pub fn scheme_line(
+    out: &mut [u8],
+    at: usize,
+    classes: u8,
+    columns: u8,
+    start: u8,
+    horizon: u8,
+) -> usize
+    requires { ⌜ Space (now out) at (schemeLine classes columns start horizon) ⌝ }
+    ensures { λ r. ⌜ Put (now (out .entry)) at (schemeLine classes columns start horizon) (now (out .exit)) r ⌝ }
 {
     let a = text::put_word(out, at, b"SCHEME");
-    let b = text::put_field(out, a, scheme.classes as u64);
-    let c = text::put_field(out, b, scheme.columns as u64);
-    let d = text::put_field(out, c, scheme.start as u64);
-    let e = text::put_field(out, d, scheme.horizon as u64);
+    let b = text::put_field(out, a, classes as u64);
+    let c = text::put_field(out, b, columns as u64);
+    let d = text::put_field(out, c, start as u64);
+    let e = text::put_field(out, d, horizon as u64);
     text::put_newline(out, e)
 }
 

@@ -15,7 +15,14 @@ pub fn whole(out: &mut [u8], at: usize, scheme: Scheme, low: &[u64], high: &[u64
 {
     let s = scheme.classes as usize;
     let n = (scheme.horizon as usize) + 1;
-    let a = lines::scheme_line(out, at, scheme);
+    let a = lines::scheme_line(
+        out,
+        at,
+        scheme.classes,
+        scheme.columns,
+        scheme.start,
+        scheme.horizon,
+    );
     let b = years::all_years(out, a, n, s, low, high);
     let last = n * (s + 1);
     lines::total_line(out, b, low[last], high[last])

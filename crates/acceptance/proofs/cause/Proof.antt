@@ -14,26 +14,27 @@ returns : tie.Need-returns
 returns c = cause-form _ (c .before .form-cause .ensures) (c .if1 .taken)
 
 -- A form without a cause fits.
-fits : (c : tie.Else1) → SizeFits (c .before .before .args .scheme)
+fits : (c : tie.Else1) → SizeFits (c .before .before .args .t1)
 fits c = size-fits _ (c .before .form-cause .ensures) (c .if1 .left)
 
 rule-cause-requires : tie.Need-rule-cause-requires
-rule-cause-requires c κs =
-    let at-lowers = c .before .before .before in
-    let at-form = at-lowers .before .before in
-    (fits at-form .classes, fits at-form .columns)
+rule-cause-requires c κs = let at-form = c .before .before in (fits at-form .classes, fits at-form .columns)
+
+-- The places passed, each from a later one.
+abbrev ruled : tie.After-band-cause-arg2 → tie.After-rule-cause
+ruled c = c .before .before .before
+
+abbrev formed : tie.After-rule-cause → tie.Else1
+formed c = c .before .before .before
+
+abbrev banded : tie.After-premium-cause-arg → tie.After-band-cause
+banded c = c .before .before
 
 band-cause-requires : tie.Need-band-cause-requires
-band-cause-requires c κs =
-    let at-rule-cause = c .before .before in
-    let at-lowers = at-rule-cause .before .before .before .before in
-    fits (at-lowers .before .before) .columns
+band-cause-requires c κs = fits (formed (ruled c)) .columns
 
 premium-cause-requires : tie.Need-premium-cause-requires
-premium-cause-requires c κs =
-    let at-rule-cause = c .before .before .before .before in
-    let at-lowers = at-rule-cause .before .before .before .before in
-    fits (at-lowers .before .before) .classes
+premium-cause-requires c κs = fits (formed (ruled (banded c .before))) .classes
 
 or-else-requires : tie.Need-or-else-requires
 or-else-requires c κs = tt
@@ -45,14 +46,13 @@ returns-2 : tie.Need-returns-2
 unfolding ruleOut premiumOut
 returns-2 c =
     let at-premium-cause = c .before .before in
-    let at-band-cause = at-premium-cause .before .before in
-    let at-rule-cause = at-band-cause .before .before .before in
-    let at-lowers = at-rule-cause .before .before .before .before in
-    let at-form = at-lowers .before .before in
+    let at-band-cause = banded (at-premium-cause .before) in
+    let at-rule-cause = ruled (at-band-cause .before) in
+    let at-form = formed at-rule-cause in
     c .or-else2 .ensures
     ∙ ap₂ (λ a b. orElse a b) (at-rule-cause .rule-cause .ensures)
     (c .before .or-else .ensures ∙ ap₂ (λ a b. orElse a b) (at-band-cause .band-cause .ensures) (at-premium-cause .premium-cause .ensures))
-    ∙ cause-later (at-form .before .before .args .scheme) (at-form .before .form-cause .ensures) (at-form .if1 .left)
+    ∙ cause-later (at-form .before .before .args .t1) (at-form .before .form-cause .ensures) (at-form .if1 .left)
 
 pub cause-spec : {M : Type 1} → statement M
 cause-spec =

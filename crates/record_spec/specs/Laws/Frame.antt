@@ -16,7 +16,7 @@ use Rattle.scheme.specs.Laws.Cause.{inside-outside, sizes-inside}
 use Rattle.big_endian_spec.specs.Numbers.{beAt}
 use Rattle.record_spec.specs.Layout.{HEADER, layoutIn, lengthOf, classesIn, columnsIn}
 use Rattle.record_spec.specs.Frame.{VersionFits, FieldFits, SizesFit, LengthFits, Framed}
-use Rattle.record_spec.specs.Read.{versionOut, fieldOut, lengthOut, frameLines, frameCause}
+use Rattle.record_spec.specs.Read.{versionOut, fieldOut, lengthOut, frameTable, frameCause}
 
 -- The first byte alone tells the layout.
 pub layout-same : (a b : List ℕ) → getD a 0 0 ≡ getD b 0 0 → layoutIn a ≡ layoutIn b
@@ -66,14 +66,14 @@ module _ (bytes : List ℕ) where
         passes = λ h. simp (eq-eqb (length bytes) (lengthOf (layoutIn bytes) (classesIn bytes) (columnsIn bytes)) (h .whole));
       }
 
-  told : Told (frameLines bytes)
+  told : Told (frameTable bytes)
   told = ((omega arith, version-tells), ((omega arith, field-tells), ((omega arith, sizes-tell), ((omega arith, length-tells), tt))))
 
   -- Bytes without the causes 1 to 4 are framed.
   pub frame-clear : frameCause bytes ≡ 0 → Framed bytes
   unfolding frameCause
   frame-clear e =
-      let (version, (field, (sizes, (length, last)))) = all-fit (frameLines bytes) told e in
+      let (version, (field, (sizes, (length, last)))) = all-fit (frameTable bytes) told e in
       record {
         version = version .version;
         header = field .header;
@@ -90,7 +90,7 @@ module _ (bytes : List ℕ) where
   pub framed : Framed bytes → frameCause bytes ≡ 0
   unfolding frameCause
   framed h =
-      none-applies (frameLines bytes) told (
+      none-applies (frameTable bytes) told (
         record { some = omega (arith, h .header); version = h .version },
         (
           record { header = h .header; field = h .field },
@@ -104,7 +104,7 @@ module _ (bytes : List ℕ) where
   -- They are 4 at most.
   pub frame-most : frameCause bytes ≤ 4
   unfolding frameCause
-  frame-most = first-most 4 (frameLines bytes) (omega arith, (omega arith, (omega arith, (omega arith, tt))))
+  frame-most = first-most 4 (frameTable bytes) (omega arith, (omega arith, (omega arith, (omega arith, tt))))
 
 -- The header of bytes without the causes 1 and 2.
 pub head-long : (bytes : List ℕ) → orElse (1 when versionOut bytes) (2 when fieldOut bytes) ≡ 0 → HEADER ≤ length bytes

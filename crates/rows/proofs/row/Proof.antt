@@ -1,5 +1,8 @@
 -- `row` meets its contract, by the cases of `Laws.Entries`.
-use mathlib.Core.Path.{sym, _∙_}
+use mathlib.Core.Path.{_≡_, sym, _∙_}
+use native.Mathlib.Omega.{arith}
+use lib.ListN.{length, length-map}
+use Rattle.scheme.specs.Access.{CELL_STRIDE, CELL_PLACES}
 use Rattle.scheme.specs.Laws.Cause.{outside-false}
 use Rattle.scheme.specs.Laws.Judged.{accepted-cause}
 use Rattle.rows.specs.Laws.Entries.{row-declined, row-no-class, row-answered}
@@ -18,7 +21,7 @@ returns c =
     let at-if1 = c .before in
     let at-cause = at-if1 .before in
     let start = at-cause .before in
-    c .refused .ensures ∙ row-declined (start .args .scheme) (start .args .class) _ (at-cause .cause .ensures) (at-if1 .if1 .taken)
+    c .refused .ensures ∙ row-declined (start .args .t1) (start .args .class) _ (at-cause .cause .ensures) (at-if1 .if1 .taken)
 
 class-out-requires : tie.Need-class-out-requires
 class-out-requires c κs = search needs
@@ -34,28 +37,49 @@ returns-2 c =
     let at-cause = at-if1 .before in
     let start = at-cause .before in
     c .refused2 .ensures
-    ∙ row-no-class (start .args .scheme) (start .args .class) _ (at-cause .cause .ensures) (at-if1 .if1 .left) (sym (at-class-out .class-out .ensures) ∙ at-if2 .if2 .taken)
+    ∙ row-no-class (start .args .t1) (start .args .class) _ (at-cause .cause .ensures) (at-if1 .if1 .left) (sym (at-class-out .class-out .ensures) ∙ at-if2 .if2 .taken)
+
+-- Owning the scheme tells how long the arrays in its fifth, sixth and seventh field are.
+rules-stored : (c : tie.Start) → length (c .args .t1 .rules) ≡ CELL_PLACES
+rules-stored c = sym (length-map (c .args .t1 .rules) (λ v. v)) ∙ c .good .0 .1 .1 .1 .1 .1 .1 .0 .1 .0 .1
+
+lowers-stored : (c : tie.Start) → length (c .args .t1 .lowers) ≡ CELL_STRIDE
+lowers-stored c = sym (length-map (c .args .t1 .lowers) (λ v. v)) ∙ c .good .0 .1 .1 .1 .1 .1 .1 .1 .0 .1 .0 .1
+
+uppers-stored : (c : tie.Start) → length (c .args .t1 .uppers) ≡ CELL_STRIDE
+uppers-stored c = sym (length-map (c .args .t1 .uppers) (λ v. v)) ∙ c .good .0 .1 .1 .1 .1 .1 .1 .1 .1 .0 .1 .0 .1
+
+-- The place of the second test, from the call that follows it.
+abbrev tested : tie.After-answered-arg6 → tie.Else2
+tested c = let lent = c .before .before .before .before .before in lent .before .before
 
 answered-requires : tie.Need-answered-requires
 answered-requires c κs =
-    let at-if2 = c .before .before .before in
+    let at-if2 = tested c in
     let at-class-out = at-if2 .before in
     let at-if1 = at-class-out .before in
     let at-cause = at-if1 .before in
     let start = at-cause .before in
-    let ok = accepted-cause (start .args .scheme) (sym (at-cause .cause .ensures) ∙ at-if1 .if1 .left) in
-    let range = outside-false (start .args .scheme .classes) (start .args .class) (sym (at-class-out .class-out .ensures) ∙ at-if2 .if2 .left) in
-    (range .0, range .1, ok .size .classes, ok .size .columns)
+    let ok = accepted-cause (start .args .t1) (sym (at-cause .cause .ensures) ∙ at-if1 .if1 .left) in
+    let range = outside-false (start .args .t1 .classes) (start .args .class) (sym (at-class-out .class-out .ensures) ∙ at-if2 .if2 .left) in (
+      range .0,
+      range .1,
+      ok .size .classes,
+      omega (arith, lowers-stored start, ok .size .columns),
+      lowers-stored start ∙ sym (uppers-stored start),
+      ok .size .columns,
+      rules-stored start,
+    )
 
 returns-3 : tie.Need-returns-3
 returns-3 c =
-    let at-if2 = c .before .before .before .before in
+    let at-if2 = tested (c .before) in
     let at-class-out = at-if2 .before in
     let at-if1 = at-class-out .before in
     let at-cause = at-if1 .before in
     let start = at-cause .before in
     c .answered .ensures
-    ∙ row-answered (start .args .scheme) (start .args .class) _ (at-cause .cause .ensures) (at-if1 .if1 .left) (sym (at-class-out .class-out .ensures) ∙ at-if2 .if2 .left)
+    ∙ row-answered (start .args .t1) (start .args .class) _ (at-cause .cause .ensures) (at-if1 .if1 .left) (sym (at-class-out .class-out .ensures) ∙ at-if2 .if2 .left)
 
 pub row-spec : {M : Type 1} → statement M
 row-spec =

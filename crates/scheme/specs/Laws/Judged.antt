@@ -11,7 +11,7 @@ use Rattle.scheme.specs.declared.Scheme.{Scheme}
 use Rattle.scheme.specs.Tables.{anyBelow}
 use Rattle.scheme.specs.Access.{cellCount, ruleAt, lowerAt, upperAt, premiumAt}
 use Rattle.scheme.specs.Accepted.{SizeFits, StartFits, HorizonFits, RulesFit, BandsFit, SumsFit, PremiumsFit, Accepted}
-use Rattle.scheme.specs.Cause.{outside, bandTest, sizeOut, startOut, horizonOut, ruleOut, bandOut, sumOut, premiumOut, schemeLines, causeOf}
+use Rattle.scheme.specs.Cause.{outside, bandTest, sizeOut, startOut, horizonOut, ruleOut, bandOut, sumOut, premiumOut, schemeTable, causeOf}
 use Rattle.scheme.specs.Laws.Tables.{or-false-left, or-false-right, or-false, any-clear, any-false}
 use Rattle.scheme.specs.Laws.FirstCause.{Tells, Told, Judged, judged, all-fit, none-applies, first-most}
 use Rattle.scheme.specs.Laws.Cause.{outside-false, inside-outside}
@@ -112,7 +112,7 @@ module _ (s : Scheme) where
       }
 
   -- Each test of the table tells what its line asks for.
-  told : Told (schemeLines s)
+  told : Told (schemeTable s)
   told = (
     (omega arith, size-tells),
     (
@@ -134,22 +134,22 @@ module _ (s : Scheme) where
   )
 
   -- What the scheme's cause says of it: accepted, or the number of the first cause that applies.
-  pub scheme-judged : Judged (schemeLines s) (causeOf s)
+  pub scheme-judged : Judged (schemeTable s) (causeOf s)
   unfolding causeOf
-  scheme-judged = judged (schemeLines s) told
+  scheme-judged = judged (schemeTable s) told
 
   -- "A scheme is accepted exactly when this list holds".
   pub cause-accepted : Accepted s → causeOf s ≡ 0
   unfolding causeOf
-  cause-accepted h = none-applies (schemeLines s) told (h .size, (h .start, (h .horizon, (h .rules, (h .bands, (h .sums, (h .premiums, tt)))))))
+  cause-accepted h = none-applies (schemeTable s) told (h .size, (h .start, (h .horizon, (h .rules, (h .bands, (h .sums, (h .premiums, tt)))))))
 
   pub accepted-cause : causeOf s ≡ 0 → Accepted s
   unfolding causeOf
   accepted-cause e =
-      let (size, (start, (horizon, (rules, (bands, (sums, (premiums, last))))))) = all-fit (schemeLines s) told e in
+      let (size, (start, (horizon, (rules, (bands, (sums, (premiums, last))))))) = all-fit (schemeTable s) told e in
       record { size = size; start = start; horizon = horizon; rules = rules; bands = bands; sums = sums; premiums = premiums }
 
   -- The causes of a scheme are 10 at most.
   pub cause-most : causeOf s ≤ 10
   unfolding causeOf
-  cause-most = first-most 10 (schemeLines s) (omega arith, (omega arith, (omega arith, (omega arith, (omega arith, (omega arith, (omega arith, tt)))))))
+  cause-most = first-most 10 (schemeTable s) (omega arith, (omega arith, (omega arith, (omega arith, (omega arith, (omega arith, (omega arith, tt)))))))

@@ -88,7 +88,7 @@ exactly : (l : List ℕ) → Within (length l) l
 exactly l = record { fits = le-refl (length l) }
 
 -- The lines.
-pub scheme-line-within : (s : Scheme) → Accepted s → Within 19 (schemeLine s)
+pub scheme-line-within : (s : Scheme) → Accepted s → Within 19 (schemeLine (s .classes) (s .columns) (s .start) (s .horizon))
 unfolding schemeLine
 scheme-line-within s ok =
     within-append

@@ -42,7 +42,7 @@ totalText low high n s = totalLine (getD low (n * (s + 1)) 0) (getD high (n * (s
 
 -- The whole sheet's text by two tables.
 abbrev pub tabledText : (s : Scheme) (low high : List ℕ) → List ℕ
-tabledText s low high = schemeLine s ++ joined (s .horizon + 1) (yearText low high (s .classes)) ++ totalText low high (s .horizon + 1) (s .classes)
+tabledText s low high = schemeLine (s .classes) (s .columns) (s .start) (s .horizon) ++ joined (s .horizon + 1) (yearText low high (s .classes)) ++ totalText low high (s .horizon + 1) (s .classes)
 
 -- The whole sheet.
 pub sheet-tabled : (s : Scheme) (low high : List ℕ) → low ≡ lowTable s → high ≡ highTable s

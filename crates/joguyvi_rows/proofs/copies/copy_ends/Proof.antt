@@ -10,10 +10,10 @@ use Rattle.joguyvi_rows.proofs.copies.copy_ends.Statement.{statement}
 use Rattle.joguyvi_rows.proofs.copies.copy_ends.Tie as tie
 
 abbrev Inv-loop : tie.InvT-loop
-Inv-loop out₀ from k₀ out k = Filled (length out₀) (λ j. getD from j 0) k out
+Inv-loop from out₀ k₀ out k = Filled (length out₀) (λ j. getD from j 0) k out
 
 abbrev μ-loop : tie.MeasureT-loop
-μ-loop out₀ from k₀ out k = length out₀ - k
+μ-loop from out₀ k₀ out k = length out₀ - k
 
 loop-holds : tie.Need-loop-holds Inv-loop μ-loop
 loop-holds c = copy-none _ _ _ refl
@@ -21,8 +21,8 @@ loop-holds c = copy-none _ _ _ refl
 mul-out : tie.Need-mul-out Inv-loop μ-loop
 mul-out c = omega arith
 
-array-read-out : tie.Need-array-read-out Inv-loop μ-loop
-array-read-out c = omega arith
+element-copy-out-out : tie.Need-element-copy-out-out Inv-loop μ-loop
+element-copy-out-out c = omega arith
 
 mul-out-2 : tie.Need-mul-out-2 Inv-loop μ-loop
 mul-out-2 c = omega arith
@@ -37,7 +37,7 @@ loop-less : tie.Need-loop-less Inv-loop μ-loop
 loop-less c = omega arith
 
 loop-again : tie.Need-loop-again Inv-loop μ-loop
-loop-again c = fill-more _ _ _ _ _ (omega arith) refl (c .before .loop .inv)
+loop-again c = fill-more _ _ _ _ _ (omega arith) refl (c .before .before .loop .inv)
 
 same-length : tie.Need-same-length Inv-loop μ-loop
 same-length c = omega arith
@@ -53,7 +53,7 @@ copy-ends-spec =
     μ-loop
     loop-holds
     mul-out
-    array-read-out
+    element-copy-out-out
     mul-out-2
     slice-write-out
     add-k

@@ -2,7 +2,8 @@
 -- Assumes nothing.
 use mathlib.Core.Path.{_≡_, ap, sym, _∙_}
 use native.Mathlib.Omega.{arith}
-use lib.ListN.{getD, length}
+use lib.ListN.{length}
+use Rattle.scheme.specs.Access.{sharedLower, sharedUpper}
 use Rattle.scheme.specs.Tables.{tab}
 use Rattle.joguyvi_spec.specs.Laws.Buffers.{buffer-sizes, unfilled}
 use borrow.Author.Needs.{needs}
@@ -15,28 +16,33 @@ cast-columns c = search needs
 slices-cause-requires : tie.Need-slices-cause-requires
 slices-cause-requires c κs = search needs
 
-sizes : (c : tie.Else1) → let at-cause = c .before in let start = at-cause .before .before .before .before .args in
-    (length (start .lower .now) ≡ start .scheme .columns) × (length (start .upper .now) ≡ start .scheme .columns)
+sizes : (c : tie.Else1) → let start = c .before .before .before .before .args in
+    (length (start .lower .now) ≡ start .t1 .columns) × (length (start .upper .now) ≡ start .t1 .columns)
 sizes c =
     let at-cause = c .before in
-    let start = at-cause .before .before .before .before .args in
-    buffer-sizes (start .scheme .columns) (start .lower .now) (start .upper .now) (sym (at-cause .slices-cause .ensures) ∙ c .if1 .left)
+    let start = at-cause .before .before .before .args in
+    buffer-sizes (start .t1 .columns) (start .lower .now) (start .upper .now) (sym (at-cause .slices-cause .ensures) ∙ c .if1 .left)
 
 returns : tie.Need-returns
 returns c = record { answer = c .before .slices-cause .ensures; filled = unfilled _ _ (c .if1 .taken); otherFilled = unfilled _ _ (c .if1 .taken) }
 
+-- The places passed, each from a later one.
+abbrev sized : tie.After-copy-ends → tie.Else1
+sized c = c .before .before .before .before
+
+abbrev lowered : tie.After-copy-ends2 → tie.After-copy-ends
+lowered c = let lent = c .before .before .before in lent .before .before .before
+
 copy-ends-requires : tie.Need-copy-ends-requires
 copy-ends-requires c κs =
     let at-sizes = c .before .before .before in
-    let at-cause = at-sizes .before in
-    omega (arith, sizes at-sizes .0, at-cause .before .before .before .before .pre)
+    omega (arith, sizes at-sizes .0, at-sizes .before .before .before .before .pre)
 
 copy-ends-requires-2 : tie.Need-copy-ends-requires-2
 copy-ends-requires-2 c κs =
-    let at-lowers = c .before .before .before in
-    let at-sizes = at-lowers .before .before .before .before in
-    let at-cause = at-sizes .before in
-    omega (arith, sizes at-sizes .1, at-cause .before .before .before .before .pre)
+    let lent = c .before .before in
+    let at-sizes = sized (lent .before .before .before) in
+    omega (arith, sizes at-sizes .1, at-sizes .before .before .before .before .pre)
 
 same-length : tie.Need-same-length
 same-length c = search needs
@@ -47,14 +53,13 @@ same-length-2 c = search needs
 returns-2 : tie.Need-returns-2
 returns-2 c =
     let at-uppers = c .before .before in
-    let at-lowers = at-uppers .before .before .before .before in
-    let at-sizes = at-lowers .before .before .before .before in
-    let at-cause = at-sizes .before in
-    let s = at-cause .before .before .before .before .args .scheme in
+    let at-lowers = lowered at-uppers in
+    let at-sizes = sized at-lowers in
+    let s = at-sizes .before .before .before .before .args .t1 in
     record {
-      answer = sym (at-sizes .if1 .left) ∙ at-cause .slices-cause .ensures;
-      filled = at-lowers .copy-ends .ensures ∙ ap (λ n. tab n (λ k. getD (s .lowers) k 0)) (sizes at-sizes .0);
-      otherFilled = at-uppers .copy-ends2 .ensures ∙ ap (λ n. tab n (λ k. getD (s .uppers) k 0)) (sizes at-sizes .1);
+      answer = sym (at-sizes .if1 .left) ∙ at-sizes .before .slices-cause .ensures;
+      filled = at-lowers .copy-ends .ensures ∙ ap (λ n. tab n (sharedLower s)) (sizes at-sizes .0);
+      otherFilled = at-uppers .copy-ends2 .ensures ∙ ap (λ n. tab n (sharedUpper s)) (sizes at-sizes .1);
     }
 
 pub put-bands-spec : {M : Type 1} → statement M

@@ -1,9 +1,10 @@
 -- `parts::whole` meets its contract: each part is laid where the last one ends.
-use Prim.Native.Nat.{ℕ, _*_, _≤_}
-use mathlib.Core.Path.{_≡_, sym}
+use Prim.Native.Nat.{ℕ, _+_, _*_, _≤_}
+use mathlib.Core.Path.{_≡_, sym, _∙_}
 use native.Mathlib.Omega.{arith}
 use native.Mathlib.Nat.{mul-le-mul}
-use Rattle.record_spec.specs.Layout.{version1, lengthOf}
+use lib.ListN.{length}
+use Rattle.record_spec.specs.Layout.{HEADER, BAND_WIDTH, version1, lengthOf}
 use Rattle.record_write.specs.Laws.Bytes.{wrote}
 use borrow.Author.Needs.{needs}
 use Rattle.record_write.proofs.parts.whole.Statement.{statement}
@@ -16,10 +17,9 @@ pub record Places (s m size : ℕ) : Type 0 where
   pub product : s * m ≤ 32 * 8
   pub whole : lengthOf version1 s m ≡ size
 
-places : (c : tie.After-struct-known2)
-    → Places (c .before .before .before .args .scheme .classes) (c .before .before .before .args .scheme .columns) (c .before .before .before .args .size)
+places : (c : tie.Start) → Places (c .args .t1 .classes) (c .args .t1 .columns) (c .args .size)
 places c =
-    let fits = c .before .before .before .pre in
+    let fits = c .pre in
     record { classes = fits .0 .classes; columns = fits .0 .columns; product = mul-le-mul (fits .0 .classes) (fits .0 .columns); whole = sym (fits .1) }
 
 cast-s : tie.Need-cast-s
@@ -29,41 +29,52 @@ cast-m : tie.Need-cast-m
 cast-m c = search needs
 
 -- The places passed, each from a later one.
-abbrev sized : tie.After-header → tie.After-struct-known2
-sized c = c .before .before
+abbrev begun : tie.After-header → tie.Start
+begun c = c .before .before .before
 
 abbrev headed : tie.After-rules → tie.After-header
-headed c = let at-rows = c .before .before .before in at-rows .before .before .before
+headed c = let lent = c .before .before .before in lent .before .before .before
 
 abbrev ruled : tie.After-bands → tie.After-rules
-ruled c = let at-uppers = c .before .before .before .before in at-uppers .before .before .before .before
+ruled c = let lent = c .before .before .before .before in lent .before .before .before
 
-abbrev banded : tie.After-money → tie.After-bands
-banded c = c .before .before .before
+abbrev banded : tie.After-premiums → tie.After-bands
+banded c = let lent = c .before .before .before in lent .before .before .before
 
 header-requires : tie.Need-header-requires
-header-requires c κs = omega (arith, places (c .before))
+header-requires c κs = omega (arith, places (c .before .before))
 
 rules-requires : tie.Need-rules-requires
-rules-requires c κs = let at-rows = c .before .before in omega (arith, places (sized (at-rows .before .before .before)))
+rules-requires c κs = let lent = c .before .before in omega (arith, places (begun (lent .before .before .before)))
 
 mul-after : tie.Need-mul-after
-mul-after c = omega (arith, places (sized (headed (c .before .before .before .before))))
+mul-after c = omega (arith, places (begun (headed (c .before .before))))
 
 add-after : tie.Need-add-after
-add-after c = omega (arith, places (sized (headed (c .before .before .before .before))))
+add-after c = omega (arith, places (begun (headed (c .before .before))))
 
 bands-requires : tie.Need-bands-requires
-bands-requires c κs = let at-uppers = c .before .before .before in omega (arith, places (sized (headed (at-uppers .before .before .before .before))))
+bands-requires c κs = let lent = c .before .before .before in omega (arith, places (begun (headed (lent .before .before .before))))
 
-mul-premiums : tie.Need-mul-premiums
-mul-premiums c = search needs
+-- The slice keeps its length.
+size : (c : tie.After-bands) → length (c .bands .last .0) ≡ length (begun (headed (ruled c)) .args .out .now)
+size c = let at-rules = ruled c in c .bands .kept .0 ∙ at-rules .rules .kept .0 ∙ headed at-rules .header .kept .0
 
-add-premiums : tie.Need-add-premiums
-add-premiums c = omega (arith, places (sized (headed (ruled (banded (c .before))))))
+mul-money : tie.Need-mul-money
+mul-money c = search needs
+
+add-money : tie.Need-add-money
+add-money c = omega (arith, places (begun (headed (c .before .before))))
 
 premiums-requires : tie.Need-premiums-requires
-premiums-requires c κs = omega (arith, places (sized (headed (ruled (banded (c .before .before))))))
+premiums-requires c κs =
+    let known = c .before .before .before in
+    let at-bands = known .before .before in
+    let start = begun (headed (ruled at-bands)) in
+    let s : ℕ = start .args .t1 .classes in
+    let m : ℕ = start .args .t1 .columns in
+    let fits : HEADER + s * m + m * BAND_WIDTH + s * version1 .width ≤ length (at-bands .bands .last .0) = omega (arith, places start, size at-bands, start .pre .2) in
+    (fits, places start .classes)
 
 same-length : tie.Need-same-length
 same-length c = search needs
@@ -71,11 +82,11 @@ same-length c = search needs
 returns : tie.Need-returns
 returns c =
     let at-premiums = c .before .before in
-    let at-bands = banded (at-premiums .before .before .before) in
+    let at-bands = banded at-premiums in
     let at-rules = ruled at-bands in
     let at-header = headed at-rules in
-    let start = sized at-header .before .before .before in
-    wrote (start .args .scheme) (start .args .out .now) (start .pre .1) (start .pre .2)
+    let start = begun at-header in
+    wrote (start .args .t1) (start .args .out .now) (start .pre .1) (start .pre .2)
     (at-header .header .ensures) (at-rules .rules .ensures) (at-bands .bands .ensures) (at-premiums .premiums .ensures)
 
 pub whole-spec : {M : Type 1} → statement M
@@ -88,9 +99,9 @@ whole-spec =
     rules-requires
     mul-after
     add-after
+    mul-money
+    add-money
     bands-requires
-    mul-premiums
-    add-premiums
     premiums-requires
     same-length
     returns)

@@ -25,24 +25,19 @@ part-own-start c = omega arith
 part-own-end : tie.Need-part-own-end
 part-own-end c = omega arith
 
-array-share-prefix-lowers : tie.Need-array-share-prefix-lowers
-array-share-prefix-lowers c = omega arith
-
 slice-aggregate-entries : tie.Need-slice-aggregate-entries
 slice-aggregate-entries c =
-    let start = c .before .before .before in
-    sym (length-take-le (start .args .columns) (start .args .t2) (omega arith))
+    let start = c .before .before .before .before .before in
+    sym (length-take-le (start .args .columns) (start .args .lowers .now) (omega arith))
 
 entries-requires : tie.Need-entries-requires
 entries-requires c κs = omega arith
 
-array-share-prefix-uppers : tie.Need-array-share-prefix-uppers
-array-share-prefix-uppers c = omega arith
-
 slice-aggregate-entries-2 : tie.Need-slice-aggregate-entries-2
 slice-aggregate-entries-2 c =
-    let start = c .before .before .before .before .before in
-    sym (length-take-le (start .args .columns) (start .args .t3) (omega arith))
+    let at-entries = c .before in
+    let start = at-entries .before .before .before .before .before .before in
+    sym (length-take-le (start .args .columns) (start .args .uppers .now) (omega arith))
 
 entries-requires-2 : tie.Need-entries-requires-2
 entries-requires-2 c κs = omega arith
@@ -50,9 +45,9 @@ entries-requires-2 c κs = omega arith
 returns : tie.Need-returns
 returns c =
     let at-entries = c .before .before in
-    let start = at-entries .before .before .before .before in
+    let start = at-entries .before .before .before .before .before .before in
     let a = start .args in
-    row-made (a .t1) (a .t2) (a .t3) (a .columns) (a .classes) (a .class - 1) _ _ (at-entries .entries .ensures) (c .entries2 .ensures)
+    row-made (a .rules .now) (a .lowers .now) (a .uppers .now) (a .columns) (a .classes) (a .class - 1) _ _ (at-entries .entries .ensures) (c .entries2 .ensures)
 
 pub answered-spec : {M : Type 1} → statement M
 answered-spec =
@@ -64,10 +59,8 @@ answered-spec =
     sub-own
     part-own-start
     part-own-end
-    array-share-prefix-lowers
     slice-aggregate-entries
     entries-requires
-    array-share-prefix-uppers
     slice-aggregate-entries-2
     entries-requires-2
     returns)

@@ -12,59 +12,47 @@ slice-aggregate-put-word c = search needs
 put-word-requires : tie.Need-put-word-requires
 unfolding schemeLine
 put-word-requires c κs =
-    let scheme = c .before .before .before .args .scheme in
-    space-first (field (scheme .classes))
-    (space-first (field (scheme .columns))
-    (space-first (field (scheme .start)) (space-first (field (scheme .horizon)) (space-first newline (c .before .before .before .pre)))))
-
-cast-put-field : tie.Need-cast-put-field
-cast-put-field c = search needs
+    let given = c .before .before .before .args in
+    space-first (field (given .classes))
+    (space-first (field (given .columns))
+    (space-first (field (given .start)) (space-first (field (given .horizon)) (space-first newline (c .before .before .before .pre)))))
 
 put-field-requires : tie.Need-put-field-requires
 unfolding schemeLine
 put-field-requires c κs =
-    let at-put-word = c .before .before .before .before in
+    let at-put-word = c .before .before .before in
     let start = at-put-word .before .before .before .before in
-    let scheme = start .args .scheme in
-    space-next (at-put-word .put-word .ensures) (space-first (field (scheme .columns)) (space-first (field (scheme .start)) (space-first (field (scheme .horizon)) (space-first newline (start .pre)))))
-
-cast-put-field-2 : tie.Need-cast-put-field-2
-cast-put-field-2 c = search needs
+    let given = start .args in
+    space-next (at-put-word .put-word .ensures) (space-first (field (given .columns)) (space-first (field (given .start)) (space-first (field (given .horizon)) (space-first newline (start .pre)))))
 
 put-field-requires-2 : tie.Need-put-field-requires-2
 unfolding schemeLine
 put-field-requires-2 c κs =
-    let at-put-field = c .before .before .before .before in
-    let at-put-word = at-put-field .before .before .before .before .before in
+    let at-put-field = c .before .before .before in
+    let at-put-word = at-put-field .before .before .before .before in
     let start = at-put-word .before .before .before .before in
-    let scheme = start .args .scheme in
+    let given = start .args in
     space-next (put-then (at-put-word .put-word .ensures) (at-put-field .put-field .ensures))
-    (space-first (field (scheme .start)) (space-first (field (scheme .horizon)) (space-first newline (start .pre))))
-
-cast-put-field-3 : tie.Need-cast-put-field-3
-cast-put-field-3 c = search needs
+    (space-first (field (given .start)) (space-first (field (given .horizon)) (space-first newline (start .pre))))
 
 put-field-requires-3 : tie.Need-put-field-requires-3
 unfolding schemeLine
 put-field-requires-3 c κs =
-    let at-put-field2 = c .before .before .before .before in
-    let at-put-field = at-put-field2 .before .before .before .before .before in
-    let at-put-word = at-put-field .before .before .before .before .before in
+    let at-put-field2 = c .before .before .before in
+    let at-put-field = at-put-field2 .before .before .before .before in
+    let at-put-word = at-put-field .before .before .before .before in
     let start = at-put-word .before .before .before .before in
-    let scheme = start .args .scheme in
+    let given = start .args in
     space-next (put-then (put-then (at-put-word .put-word .ensures) (at-put-field .put-field .ensures)) (at-put-field2 .put-field2 .ensures))
-    (space-first (field (scheme .horizon)) (space-first newline (start .pre)))
-
-cast-put-field-4 : tie.Need-cast-put-field-4
-cast-put-field-4 c = search needs
+    (space-first (field (given .horizon)) (space-first newline (start .pre)))
 
 put-field-requires-4 : tie.Need-put-field-requires-4
 unfolding schemeLine
 put-field-requires-4 c κs =
-    let at-put-field3 = c .before .before .before .before in
-    let at-put-field2 = at-put-field3 .before .before .before .before .before in
-    let at-put-field = at-put-field2 .before .before .before .before .before in
-    let at-put-word = at-put-field .before .before .before .before .before in
+    let at-put-field3 = c .before .before .before in
+    let at-put-field2 = at-put-field3 .before .before .before .before in
+    let at-put-field = at-put-field2 .before .before .before .before in
+    let at-put-word = at-put-field .before .before .before .before in
     let start = at-put-word .before .before .before .before in
     space-next
     (put-then (put-then (put-then (at-put-word .put-word .ensures) (at-put-field .put-field .ensures)) (at-put-field2 .put-field2 .ensures))
@@ -75,10 +63,10 @@ put-newline-requires : tie.Need-put-newline-requires
 unfolding schemeLine
 put-newline-requires c κs =
     let at-put-field4 = c .before .before .before in
-    let at-put-field3 = at-put-field4 .before .before .before .before .before in
-    let at-put-field2 = at-put-field3 .before .before .before .before .before in
-    let at-put-field = at-put-field2 .before .before .before .before .before in
-    let at-put-word = at-put-field .before .before .before .before .before in
+    let at-put-field3 = at-put-field4 .before .before .before .before in
+    let at-put-field2 = at-put-field3 .before .before .before .before in
+    let at-put-field = at-put-field2 .before .before .before .before in
+    let at-put-word = at-put-field .before .before .before .before in
     let start = at-put-word .before .before .before .before in
     space-next
     (put-then
@@ -91,10 +79,10 @@ same-length : tie.Need-same-length
 same-length c =
     let at-put-newline = c .before .before in
     let at-put-field4 = at-put-newline .before .before .before .before in
-    let at-put-field3 = at-put-field4 .before .before .before .before .before in
-    let at-put-field2 = at-put-field3 .before .before .before .before .before in
-    let at-put-field = at-put-field2 .before .before .before .before .before in
-    let at-put-word = at-put-field .before .before .before .before .before in
+    let at-put-field3 = at-put-field4 .before .before .before .before in
+    let at-put-field2 = at-put-field3 .before .before .before .before in
+    let at-put-field = at-put-field2 .before .before .before .before in
+    let at-put-word = at-put-field .before .before .before .before in
     put-kept
     (put-then
     (put-then
@@ -108,10 +96,10 @@ unfolding schemeLine
 returns c =
     let at-put-newline = c .before .before in
     let at-put-field4 = at-put-newline .before .before .before .before in
-    let at-put-field3 = at-put-field4 .before .before .before .before .before in
-    let at-put-field2 = at-put-field3 .before .before .before .before .before in
-    let at-put-field = at-put-field2 .before .before .before .before .before in
-    let at-put-word = at-put-field .before .before .before .before .before in
+    let at-put-field3 = at-put-field4 .before .before .before .before in
+    let at-put-field2 = at-put-field3 .before .before .before .before in
+    let at-put-field = at-put-field2 .before .before .before .before in
+    let at-put-word = at-put-field .before .before .before .before in
     put-then
     (put-then
     (put-then (put-then (put-then (at-put-word .put-word .ensures) (at-put-field .put-field .ensures)) (at-put-field2 .put-field2 .ensures))
@@ -125,13 +113,9 @@ scheme-line-spec =
     (tie.spec
     slice-aggregate-put-word
     put-word-requires
-    cast-put-field
     put-field-requires
-    cast-put-field-2
     put-field-requires-2
-    cast-put-field-3
     put-field-requires-3
-    cast-put-field-4
     put-field-requires-4
     put-newline-requires
     same-length
