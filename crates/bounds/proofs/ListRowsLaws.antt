@@ -9,9 +9,9 @@ use lib.ListN.{length, take, drop, set, length-set}
 use lib.Seq.{getD-set-same, getD-set-other}
 use borrow.Author.Count.{below-none, below-more}
 use borrow.Author.Tests.{eq-eqb, ne-eqb}
-use Rattle.scheme.specs.Access.{CELL_STRIDE}
+use Rattle.scheme.specs.Access.{CELL_STRIDE, classBands}
 use Rattle.setchain.specs.Sums.{at, sumTo, onlyIf}
-use Rattle.setchain.specs.Rows.{ONE, SetChain}
+use Rattle.setchain.specs.Rows.{ONE, IntervalRow, SetChain}
 use Rattle.setchain.specs.Step.{capacity}
 use Rattle.setchain.specs.Laws.Sums.{sumTo-eq, onlyIf-true, onlyIf-false, total-start}
 use Rattle.setchain.specs.Laws.Agreeing.{Agree, agree-sym, sound-agrees}
@@ -46,9 +46,9 @@ pub record Listing (c : SetChain) (entries slack : List ℕ) (i : ℕ) : Type 0 
   pub capacitySums : RowSums (c .states) (λ k. capacity (c .row k)) capacities entries i
   pub whole : (k : ℕ) → k < i → sumTo (c .states) (c .row k .lower) + at slack k ≡ ONE
 
-module _ {n : ℕ} {rules lowers uppers entries₀ slack₀ : List ℕ} (able : ListRowsPre n rules lowers uppers entries₀ slack₀) where
+module _ {n m : ℕ} {rules lowers uppers entries₀ slack₀ : List ℕ} (able : ListRowsPre n m rules lowers uppers entries₀ slack₀) where
   abbrev chain : SetChain
-  chain = rulesChain n rules lowers uppers
+  chain = rulesChain n m rules lowers uppers
 
   none : (ends k j : ℕ) → j < n → listSum entries₀ ends j k ≡ 0
   none ends k j l =
@@ -72,23 +72,24 @@ module _ {n : ℕ} {rules lowers uppers entries₀ slack₀ : List ℕ} (able : 
       }
 
   module _ {entries slack : List ℕ} (i : ℕ) (w : Listing chain entries slack i) where
-    part-count : i * CELL_STRIDE + length lowers - i * CELL_STRIDE ≡ length lowers
-    part-count = omega arith
+    -- The row of the class's own rules and bands, as the code lends them.
+    module _ {ownLowers ownUppers : List ℕ} (lowersAre : ownLowers ≡ classBands m lowers i) (uppersAre : ownUppers ≡ classBands m uppers i) where
+      abbrev own : IntervalRow
+      own = rulesRow (take (i * CELL_STRIDE + m - i * CELL_STRIDE) (drop (i * CELL_STRIDE) rules)) ownLowers ownUppers
 
-    pub listing-adds : i < n → AddRowPre n (rulesRow (take (i * CELL_STRIDE + length lowers - i * CELL_STRIDE) (drop (i * CELL_STRIDE) rules)) lowers uppers) i entries
-    listing-adds l =
-        subst (λ k. AddRowPre n (rulesRow (take k (drop (i * CELL_STRIDE) rules)) lowers uppers) i entries) (sym part-count)
-        (record { states = able .states; inside = l; sound = able .sound i l; lists = w .lists })
+      own-is : own ≡ chain .row i
+      own-is = let count : i * CELL_STRIDE + m - i * CELL_STRIDE ≡ m = omega arith in λ t. rulesRow (take (count t) (drop (i * CELL_STRIDE) rules)) (lowersAre t) (uppersAre t)
 
-    module _ {entries′ : List ℕ} (r : ℕ) (l : i < n)
-        (a : AddRowPost n (rulesRow (take (i * CELL_STRIDE + length lowers - i * CELL_STRIDE) (drop (i * CELL_STRIDE) rules)) lowers uppers) i entries entries′)
-        (s : sumTo n (rulesRow (take (i * CELL_STRIDE + length lowers - i * CELL_STRIDE) (drop (i * CELL_STRIDE) rules)) lowers uppers .lower) + r ≡ ONE) where
-      added : AddRowPost n (chain .row i) i entries entries′
-      added = subst (λ k. AddRowPost n (rulesRow (take k (drop (i * CELL_STRIDE) rules)) lowers uppers) i entries entries′) part-count a
+      pub listing-adds : i < n → AddRowPre n own i entries
+      listing-adds l = subst (λ r. AddRowPre n r i entries) (sym own-is) (record { states = able .states; inside = l; sound = able .sound i l; lists = w .lists })
 
-      left : sumTo n (chain .row i .lower) + r ≡ ONE
-      left = subst (λ k. sumTo n (rulesRow (take k (drop (i * CELL_STRIDE) rules)) lowers uppers .lower) + r ≡ ONE) part-count s
+      pub own-added : {entries′ : List ℕ} → AddRowPost n own i entries entries′ → AddRowPost n (chain .row i) i entries entries′
+      own-added {entries′} = subst (λ r. AddRowPost n r i entries entries′) own-is
 
+      pub own-left : (r : ℕ) → sumTo n (own .lower) + r ≡ ONE → sumTo n (chain .row i .lower) + r ≡ ONE
+      own-left r = subst (λ q. sumTo n (q .lower) + r ≡ ONE) own-is
+
+    module _ {entries′ : List ℕ} (r : ℕ) (l : i < n) (added : AddRowPost n (chain .row i) i entries entries′) (left : sumTo n (chain .row i .lower) + r ≡ ONE) where
       pub listing-more : Listing chain entries′ (set slack i r) (i + 1)
       listing-more =
           record {

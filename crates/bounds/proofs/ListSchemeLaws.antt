@@ -1,19 +1,17 @@
 -- The lists of a scheme's entries: from its stored parts to its chain.
 -- Assumes nothing.
 use Prim.Native.Nat.{ℕ, _+_, _<_}
-use mathlib.Core.Path.{_≡_, sym, _∙_, subst}
+use mathlib.Core.Path.{_≡_, _∙_}
 use mathlib.Core.List.{List}
 use native.Mathlib.Omega.{arith}
-use lib.ListN.{length, take, replicate, length-replicate, getD-replicate}
-use lib.Seq.{length-take-le}
-use Rattle.scheme.specs.Access.{CELL_STRIDE, CELL_PLACES, cellCount}
+use lib.ListN.{length, replicate, length-replicate, getD-replicate}
+use Rattle.scheme.specs.Access.{CELL_PLACES, cellCount}
 use Rattle.setchain.specs.Rows.{IntervalRow, SetChain}
 use Rattle.scheme.specs.declared.Scheme.{Scheme}
 use Rattle.scheme.specs.Accepted.{Accepted}
 use Rattle.scheme.specs.Rows.{chainOf}
 use Rattle.scheme.specs.Laws.Sound.{accepted-sound}
-use Rattle.rows.specs.Rows.{classRules}
-use Rattle.bounds.specs.Entries.{rulesRow, counts, rulesChain, EmptyLists, ListRowsPre, ListRowsPost}
+use Rattle.bounds.specs.Entries.{counts, rulesChain, EmptyLists, ListRowsPre, ListRowsPost}
 use Rattle.rows.specs.Laws.SumByTarget.{lower-is, upper-is}
 use Rattle.setchain.specs.Laws.Agreeing.{Agree, agree-sym, sound-agrees}
 
@@ -28,30 +26,19 @@ lists-empty =
     }
 
 -- From a scheme's parts to its chain.
-module _ (s : Scheme) (accepted : Accepted s) (rulesStored : length (s .rules) ≡ CELL_PLACES) (lowersStored : length (s .lowers) ≡ CELL_STRIDE) where
-  abbrev lowers : List ℕ
-  lowers = take (cellCount s) (s .lowers)
-
-  abbrev uppers : List ℕ
-  uppers = take (cellCount s) (s .uppers)
-
+module _ (s : Scheme) (accepted : Accepted s) (rulesStored : length (s .rules) ≡ CELL_PLACES) where
   abbrev parts : SetChain
-  parts = rulesChain (s .classes) (s .rules) lowers uppers
-
-  count : length lowers ≡ cellCount s
-  count = length-take-le (cellCount s) (s .lowers) (omega (arith, accepted .size .columns))
+  parts = rulesChain (s .classes) (cellCount s) (s .rules) (s .lowers) (s .uppers)
 
   agree : (i : ℕ) → i < s .classes → Agree (s .classes) (parts .row i) (chainOf s .row i)
-  agree i l =
-      subst (λ k. Agree (s .classes) (rulesRow (classRules k (s .rules) i) lowers uppers) (chainOf s .row i)) (sym count)
-      (record { lower = λ j g. lower-is s accepted i l j; upper = λ j g. upper-is s accepted i l j })
+  agree i l = record { lower = λ j g. lower-is s accepted i l j; upper = λ j g. upper-is s accepted i l j }
 
-  pub scheme-lists : {entries slack : List ℕ} → EmptyLists entries slack → ListRowsPre (s .classes) (s .rules) lowers uppers entries slack
+  pub scheme-lists : {entries slack : List ℕ} → EmptyLists entries slack → ListRowsPre (s .classes) (cellCount s) (s .rules) (s .lowers) (s .uppers) entries slack
   scheme-lists empty =
       record {
         positive = accepted .size .someClass;
         states = accepted .size .classes;
-        columns = omega (arith, count, accepted .size .columns);
+        cells = accepted .size .columns;
         stored = omega (arith, accepted .size .classes);
         sound = λ i l. sound-agrees (agree-sym (agree i l)) (accepted-sound s accepted i l);
         empty = empty;

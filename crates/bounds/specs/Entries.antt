@@ -6,7 +6,7 @@ use mathlib.Core.Path.{_≡_}
 use mathlib.Core.List.{List}
 use lib.Dec.{eqb}
 use lib.ListN.{length}
-use Rattle.scheme.specs.Access.{CELL_STRIDE}
+use Rattle.scheme.specs.Access.{CELL_STRIDE, classBands}
 use Rattle.setchain.specs.Sums.{at, sumTo, onlyIf}
 use Rattle.setchain.specs.Rows.{ONE, IntervalRow, SoundRow, SetChain, SoundChain}
 use Rattle.setchain.specs.Step.{capacity}
@@ -50,9 +50,9 @@ chainListed n entries = record { states = n; row = listedRow entries }
 abbrev pub rulesRow : List ℕ → List ℕ → List ℕ → IntervalRow
 rulesRow rules lowers uppers = record { lower = sumByTarget rules lowers; upper = sumByTarget rules uppers }
 
--- The set-chain of n states that a scheme's rules make with the ends of its bands.
-abbrev pub rulesChain : ℕ → (rules lowers uppers : List ℕ) → SetChain
-rulesChain n rules lowers uppers = record { states = n; row = λ i. rulesRow (classRules (length lowers) rules i) lowers uppers }
+-- The set-chain of n states, each with m cells, that a scheme's rules make with the ends of its bands.
+abbrev pub rulesChain : (n m : ℕ) (rules lowers uppers : List ℕ) → SetChain
+rulesChain n m rules lowers uppers = record { states = n; row = λ i. rulesRow (classRules m rules i) (classBands m lowers i) (classBands m uppers i) }
 
 -- Lists for n states in an array of their size: every entry is of a state's row, and no list has more than `most`.
 pub record ShortLists (n most : ℕ) (entries : List ℕ) : Type 0 where
@@ -88,13 +88,13 @@ pub record AddRowPost (n : ℕ) (r : IntervalRow) (i : ℕ) (entries entries′ 
   pub lowerSums : (j k : ℕ) → j < n → listSum entries′ lowerEnds j k ≡ listSum entries lowerEnds j k + onlyIf (eqb i k) (r .lower j)
   pub capacitySums : (j k : ℕ) → j < n → listSum entries′ capacities j k ≡ listSum entries capacities j k + onlyIf (eqb i k) (capacity r j)
 
--- What it takes to list all rows: a sound chain of n states, its rules eight to a state, and lists with no entry.
-pub record ListRowsPre (n : ℕ) (rules lowers uppers entries slack : List ℕ) : Type 0 where
+-- What it takes to list all rows: a sound chain of n states, its rules as far apart as cells are, and lists with no entry.
+pub record ListRowsPre (n m : ℕ) (rules lowers uppers entries slack : List ℕ) : Type 0 where
   pub positive : 1 ≤ n
   pub states : n ≤ 32
-  pub columns : length lowers ≤ 8
+  pub cells : m ≤ CELL_STRIDE
   pub stored : n * CELL_STRIDE ≤ length rules
-  pub sound : SoundChain (rulesChain n rules lowers uppers)
+  pub sound : SoundChain (rulesChain n m rules lowers uppers)
   pub empty : EmptyLists entries slack
 
 -- The lists hold the rows of the chain.

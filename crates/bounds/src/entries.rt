@@ -4,9 +4,10 @@
 use rows::slack;
 use rows::sum_by_target;
 use scheme::Scheme;
+use scheme::class_bands;
 ghost use mathlib.Core.Path.{_≡_};
-ghost use Prim.Native.Nat.{_+_, _≤_};
-ghost use lib.ListN.{length, take};
+ghost use Prim.Native.Nat.{_+_};
+ghost use lib.ListN.{length};
 ghost use Rattle.setchain.specs.Sums.{sumTo};
 ghost use Rattle.setchain.specs.Rows.{ONE};
 ghost use Rattle.scheme.specs.Accepted.{Accepted};
@@ -65,30 +66,8 @@ fn list_row(
     slack(&lower[..n]) as u32
 }
 
-// Lists the entries of all rows of n states, and writes the slack that each row's lower ends leave.
-fn list_rows(
-    rules: &[u8],
-    lowers: &[u32],
-    uppers: &[u32],
-    n: usize,
-    entries: &mut [u32; 3104],
-    slack: &mut [u32; 32],
-)
-    requires { ⌜ ListRowsPre n (now rules) (now lowers) (now uppers) (now entries) (now slack) ⌝ }
-    ensures { λ _. ⌜ ListRowsPost (rulesChain n (now (rules .entry)) (now (lowers .entry)) (now (uppers .entry))) (now (entries .exit)) (now (slack .exit)) ⌝ }
-{
-    let m = lowers.len();
-    let mut i: usize = 0;
-    while i < n {
-        let first = i * scheme::CELL_STRIDE;
-        let end = first + m;
-        slack[i] = list_row(&rules[first..end], lowers, uppers, n, i, entries);
-        i += 1;
-    }
-}
-
-// Lists the entries of all rows of n states, each with m cells.
-fn list_cells<'a>(
+// Lists the entries of all rows of n states, each with m cells, and writes the slack that each row's lower ends leave.
+fn list_rows<'a>(
     rules: &'a [u8],
     lowers: &'a [u32],
     uppers: &'a [u32],
@@ -97,10 +76,18 @@ fn list_cells<'a>(
     entries: &mut [u32; 3104],
     slack: &mut [u32; 32],
 )
-    requires { ⌜ (m ≤ length (now lowers)) × (m ≤ length (now uppers)) × ListRowsPre n (now rules) (take m (now lowers)) (take m (now uppers)) (now entries) (now slack) ⌝ }
-    ensures { λ _. ⌜ ListRowsPost (rulesChain n (now (rules .entry)) (take m (now (lowers .entry))) (take m (now (uppers .entry)))) (now (entries .exit)) (now (slack .exit)) ⌝ }
+    requires { ⌜ ListRowsPre n m (now rules) (now lowers) (now uppers) (now entries) (now slack) ⌝ }
+    ensures { λ _. ⌜ ListRowsPost (rulesChain n m (now (rules .entry)) (now (lowers .entry)) (now (uppers .entry))) (now (entries .exit)) (now (slack .exit)) ⌝ }
 {
-    list_rows(rules, &lowers[..m], &uppers[..m], n, entries, slack);
+    let mut i: usize = 0;
+    while i < n {
+        let first = i * scheme::CELL_STRIDE;
+        let end = first + m;
+        let lower = class_bands(lowers, m, i);
+        let upper = class_bands(uppers, m, i);
+        slack[i] = list_row(&rules[first..end], lower, upper, n, i, entries);
+        i += 1;
+    }
 }
 
 // Lists the entries of a scheme.
@@ -110,7 +97,7 @@ pub fn list_scheme(scheme: Scheme, entries: &mut [u32; 3104], slack: &mut [u32; 
 {
     let m = scheme.columns as usize;
     let n = scheme.classes as usize;
-    list_cells(
+    list_rows(
         &scheme.rules,
         &scheme.lowers,
         &scheme.uppers,

@@ -12,4 +12,4 @@ readyRule number i k = movedClass (classesOf number) (factorOf number) (i + 1) k
 
 -- "Ready schemes": "m is 5 … Start is 10, horizon 40. A band is 0 to ONE in each column".
 unfoldable pub readyScheme : ℕ → ℕ → Scheme
-readyScheme number base = schemeOf (classesOf number) 5 10 40 (readyRule number) (λ k. 0) (λ k. ONE) (premiumOf number base)
+readyScheme number base = schemeOf (classesOf number) 5 10 40 (readyRule number) (λ i k. 0) (λ i k. ONE) (premiumOf number base)

@@ -69,8 +69,8 @@ abbrev pub schemeFrom : Layout → List ℕ → (s m : ℕ) → Scheme
 schemeFrom y bytes s m =
     schemeOf s m (getD bytes 5 0) (getD bytes 6 0)
     (λ i k. getD bytes (rowPlace y m i + k) 0)
-    (λ k. beAt END_WIDTH bytes (bandPlace y s m k))
-    (λ k. beAt END_WIDTH bytes (bandPlace y s m k + END_WIDTH))
+    (λ i k. beAt END_WIDTH bytes (bandPlace y s m k))
+    (λ i k. beAt END_WIDTH bytes (bandPlace y s m k + END_WIDTH))
     (λ i. beAt (y .width) bytes (premiumPlace y s m i))
 
 -- The scheme that stands in the bytes: "Byte 5: start. Byte 6: horizon. Then s × m rule bytes … m bands … s premiums".

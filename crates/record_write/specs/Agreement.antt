@@ -11,7 +11,7 @@ use borrow.Author.Tests.{ltb-false}
 use Rattle.scheme.specs.Laws.FirstCause.{first-none, second-none, test-none}
 use Rattle.scheme.specs.declared.Scheme.{Scheme}
 use Rattle.scheme.specs.Tables.{tab}
-use Rattle.scheme.specs.Access.{ruleAt, premiumAt, sharedLower, sharedUpper}
+use Rattle.scheme.specs.Access.{ruleAt, lowerAt, upperAt, premiumAt}
 use Rattle.scheme.specs.Cause.{causeOf}
 use Rattle.scheme.specs.Accepted.{Accepted}
 use Rattle.scheme.specs.Laws.Judged.{accepted-cause}
@@ -113,16 +113,16 @@ module _ {y : Layout} (known : Known y) (s : Scheme) (accepted : causeOf s ≡ 0
   rule-at : (i k : ℕ) → i < s .classes → k < s .columns → getD (bytesOf y s) (rowPlace y (s .columns) i + k) 0 ≡ ruleAt s i k
   rule-at i k is ks = ap (λ l. getD l (rowPlace y (s .columns) i + k) 0) split ∙ rule-read y s (headerOf y s) (length-header y s) i k is ks
 
-  lower-at : (k : ℕ) → k < s .columns → beAt END_WIDTH (bytesOf y s) (bandPlace y (s .classes) (s .columns) k) ≡ sharedLower s k
-  lower-at k ks =
+  lower-at : (i k : ℕ) → i < s .classes → k < s .columns → beAt END_WIDTH (bytesOf y s) (bandPlace y (s .classes) (s .columns) k) ≡ lowerAt s i k
+  lower-at i k is ks =
       ap (λ l. beAt END_WIDTH l (bandPlace y (s .classes) (s .columns) k)) split
       ∙ lower-read y s (headerOf y s) (length-header y s) k ks
-      (omega (arith, ok .bands .ordered 0 k (ok .size .someClass) ks, ok .bands .capped 0 k (ok .size .someClass) ks))
+      (omega (arith, ok .bands .ordered i k is ks, ok .bands .capped i k is ks))
 
-  upper-at : (k : ℕ) → k < s .columns → beAt END_WIDTH (bytesOf y s) (bandPlace y (s .classes) (s .columns) k + END_WIDTH) ≡ sharedUpper s k
-  upper-at k ks =
+  upper-at : (i k : ℕ) → i < s .classes → k < s .columns → beAt END_WIDTH (bytesOf y s) (bandPlace y (s .classes) (s .columns) k + END_WIDTH) ≡ upperAt s i k
+  upper-at i k is ks =
       ap (λ l. beAt END_WIDTH l (bandPlace y (s .classes) (s .columns) k + END_WIDTH)) split
-      ∙ upper-read y s (headerOf y s) (length-header y s) k ks (omega (arith, ok .bands .capped 0 k (ok .size .someClass) ks))
+      ∙ upper-read y s (headerOf y s) (length-header y s) k ks (omega (arith, ok .bands .capped i k is ks))
 
   premium-at : (i : ℕ) → i < s .classes → beAt (y .width) (bytesOf y s) (premiumPlace y (s .classes) (s .columns) i) ≡ premiumAt s i
   premium-at i is =
@@ -132,7 +132,7 @@ module _ {y : Layout} (known : Known y) (s : Scheme) (accepted : causeOf s ≡ 0
   by-layout : schemeFrom y (bytesOf y s) (s .classes) (s .columns) ≡ cleared s
   unfolding bytesOf headerBytes beBytes
   by-layout =
-      made-eq (s .classes) (s .columns) (s .start) (s .horizon) _ _ _ _ (ruleAt s) (sharedLower s) (sharedUpper s) (premiumAt s) rule-at lower-at upper-at premium-at
+      made-eq (s .classes) (s .columns) (s .start) (s .horizon) _ _ _ _ (ruleAt s) (lowerAt s) (upperAt s) (premiumAt s) (ok .size .someClass) rule-at lower-at upper-at premium-at
 
   pub reread : schemeIn (bytesOf y s) ≡ cleared s
   unfolding bytesOf headerBytes beBytes

@@ -4,7 +4,7 @@ use mathlib.Core.Bool.{cond}
 use mathlib.Core.List.{List}
 use lib.Dec.{eqb, ltb}
 use lib.ListN.{length, take, drop}
-use Rattle.scheme.specs.Access.{CELL_STRIDE}
+use Rattle.scheme.specs.Access.{CELL_STRIDE, classBands}
 use Rattle.setchain.specs.Sums.{onlyIf}
 use Rattle.scheme.specs.declared.RowAnswer.{RowAnswer}
 use Rattle.scheme.specs.Tables.{tab}
@@ -23,8 +23,8 @@ abbrev pub rowFrom : List ℕ → List ℕ → List ℕ → ℕ → ℕ → ℕ 
 rowFrom rules lowers uppers columns classes i =
     record {
       number = 0;
-      lower = entriesOf (classRules columns rules i) (take columns lowers) classes;
-      upper = entriesOf (classRules columns rules i) (take columns uppers) classes;
+      lower = entriesOf (classRules columns rules i) (classBands columns lowers i) classes;
+      upper = entriesOf (classRules columns rules i) (classBands columns uppers i) classes;
     }
 
 -- A slice after a row is copied into it: the row where it is of the row's length, and otherwise what it held.

@@ -7,6 +7,7 @@ ghost use Rattle.scheme.specs.RowAnswer.{rowRefused};
 ghost use Rattle.rows.specs.Rows.{entriesOf, rowFrom};
 use crate::sum_by_target;
 use scheme::RowAnswer;
+use scheme::class_bands;
 
 // The lower or the upper entries of one class from its rules and their bands' ends, with 0 beyond s.
 pub fn entries(rules: &[u8], ends: &[u32], classes: u8) -> [u64; 32]
@@ -40,16 +41,16 @@ pub fn answered<'a>(
     classes: u8,
     class: u64,
 ) -> RowAnswer
-    requires { ⌜ (1 ≤ class) × (class ≤ classes) × (classes ≤ 32) × (columns ≤ length (now lowers)) × (length (now lowers) ≡ length (now uppers))
-        × (columns ≤ CELL_STRIDE) × (length (now rules) ≡ CELL_PLACES) ⌝ }
+    requires { ⌜ (1 ≤ class) × (class ≤ classes) × (classes ≤ 32) × (columns ≤ CELL_STRIDE) × (length (now rules) ≡ CELL_PLACES) ⌝ }
     ensures { λ r. ⌜ r ≡ rowFrom (now (rules .entry)) (now (lowers .entry)) (now (uppers .entry)) columns classes (class - 1) ⌝ }
 {
     let m = columns as usize;
-    let from = (class - 1) as usize * scheme::CELL_STRIDE;
+    let i = (class - 1) as usize;
+    let from = i * scheme::CELL_STRIDE;
     let to = from + m;
     let own = &rules[from..to];
-    let lower = entries(own, &lowers[..m], classes);
-    let upper = entries(own, &uppers[..m], classes);
+    let lower = entries(own, class_bands(lowers, m, i), classes);
+    let upper = entries(own, class_bands(uppers, m, i), classes);
     RowAnswer {
         number: 0,
         lower,

@@ -1,7 +1,8 @@
 -- What a scheme holds, by class and cell. Classes are numbered from 1 in document 01 and from 0 here: i is class i + 1. A cell is a claim column.
 -- Only this module looks into the scheme's arrays.
 use Prim.Native.Nat.{ℕ, _+_, _*_}
-use lib.ListN.{getD}
+use mathlib.Core.List.{List}
+use lib.ListN.{getD, take}
 use Rattle.scheme.specs.declared.Scheme.{Scheme}
 
 -- How far the cells of a class stand after those of the class before it: as many as a class has room for.
@@ -35,6 +36,10 @@ lowerAt s i k = sharedLower s k
 -- The upper end.
 abbrev pub upperAt : Scheme → ℕ → ℕ → ℕ
 upperAt s i k = sharedUpper s k
+
+-- Of a list of bands' ends those of class i, as many as it has cells: all classes share them.
+unfoldable pub classBands : (cells : ℕ) → List ℕ → (i : ℕ) → List ℕ
+classBands cells ends i = take cells ends
 
 -- The premium of class i.
 abbrev pub premiumAt : Scheme → ℕ → ℕ

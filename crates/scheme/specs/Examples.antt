@@ -6,6 +6,7 @@ use lib.ListN.{replicate}
 use Rattle.setchain.specs.Sums.{sumTo, onlyIf}
 use Rattle.scheme.specs.declared.Scheme.{Scheme}
 use Rattle.scheme.specs.Tables.{anyBelow}
+use Rattle.scheme.specs.Access.{classBands}
 use Rattle.scheme.specs.Cause.{sizeOut, startOut, horizonOut, ruleOut, bandOut, sumOut, premiumOut, causeOf, sliceCause, slicesCause}
 use Rattle.scheme.specs.Rows.{chainOf}
 use Rattle.scheme.specs.Stored.{noScheme}
@@ -66,6 +67,11 @@ pub record CausesInOrder : Type 0 where
 pub causes-in-order : CausesInOrder
 unfolding causeOf sizeOut startOut horizonOut ruleOut bandOut sumOut premiumOut anyBelow sumTo
 causes-in-order = record { rule = refl; band = refl; sums = refl; premium = refl; none = refl }
+
+-- The bands of any class: as many as there are cells, or all where there are fewer.
+pub bands-of-a-class : (classBands 2 (5 ∷ 6 ∷ 7 ∷ []) 1 ≡ 5 ∷ 6 ∷ []) × (classBands 4 (5 ∷ 6 ∷ []) 0 ≡ 5 ∷ 6 ∷ [])
+unfolding classBands
+bands-of-a-class = (refl, refl)
 
 -- "number only": what stands beside it is 0 in every place.
 pub record NoScheme : Type 0 where

@@ -5,7 +5,7 @@ use lib.Dec.{ltb}
 use lib.ListN.{replicate}
 use Rattle.scheme.specs.declared.Scheme.{Scheme}
 use Rattle.scheme.specs.Tables.{tab}
-use Rattle.scheme.specs.Access.{CELL_STRIDE, CELL_PLACES, ruleAt, premiumAt, sharedLower, sharedUpper}
+use Rattle.scheme.specs.Access.{CELL_STRIDE, CELL_PLACES, ruleAt, premiumAt, lowerAt, upperAt}
 
 -- f at an index below n, and 0 beyond.
 unfoldable pub upTo : ℕ → (ℕ → ℕ) → ℕ → ℕ
@@ -15,22 +15,26 @@ upTo n f k = cond (ltb k n) (f k) 0
 abbrev pub rulesUpTo : (s m : ℕ) → (ℕ → ℕ → ℕ) → ℕ → ℕ
 rulesUpTo s m rule q = upTo s (λ i. upTo m (rule i) (q % CELL_STRIDE)) (q / CELL_STRIDE)
 
+-- Where the bands are stored: those of the first class, which all classes share, column k at place k.
+abbrev pub bandsUpTo : (m : ℕ) → (ℕ → ℕ → ℕ) → ℕ → ℕ
+bandsUpTo m band = upTo m (band 0)
+
 -- "every operation that makes a scheme sets them to 0": the scheme of these values, with 0 stored beyond s and m.
-unfoldable pub schemeOf : (s m start horizon : ℕ) → (rule : ℕ → ℕ → ℕ) → (lower upper premium : ℕ → ℕ) → Scheme
+unfoldable pub schemeOf : (s m start horizon : ℕ) → (rule lower upper : ℕ → ℕ → ℕ) → (premium : ℕ → ℕ) → Scheme
 schemeOf s m start horizon rule lower upper premium = record {
   classes = s;
   columns = m;
   start = start;
   horizon = horizon;
   rules = tab CELL_PLACES (rulesUpTo s m rule);
-  lowers = tab CELL_STRIDE (upTo m lower);
-  uppers = tab CELL_STRIDE (upTo m upper);
+  lowers = tab CELL_STRIDE (bandsUpTo m lower);
+  uppers = tab CELL_STRIDE (bandsUpTo m upper);
   premiums = tab 32 (upTo s premium);
 }
 
 -- "Values stored beyond s or m are ignored": a scheme with 0 for them.
 abbrev pub cleared : Scheme → Scheme
-cleared s = schemeOf (s .classes) (s .columns) (s .start) (s .horizon) (ruleAt s) (sharedLower s) (sharedUpper s) (premiumAt s)
+cleared s = schemeOf (s .classes) (s .columns) (s .start) (s .horizon) (ruleAt s) (lowerAt s) (upperAt s) (premiumAt s)
 
 -- "number only" (document 01, "When a call is declined"): a scheme all 0 beside it.
 unfoldable pub noScheme : Scheme

@@ -3,6 +3,7 @@ ghost use mathlib.Core.Path.{_≡_};
 ghost use Prim.Native.Nat.{_≤_};
 ghost use Rattle.scheme.specs.FirstCause.{orElse};
 ghost use Rattle.scheme.specs.Cause.{outside, sizesCause, sliceCause, slicesCause};
+ghost use Rattle.scheme.specs.Access.{classBands};
 ghost use Rattle.scheme.specs.Stored.{noScheme};
 
 // The limits of document 01, "Units and the scheme"; ONE is setchain's.
@@ -116,6 +117,16 @@ pub fn class_out(classes: u8, class: u64) -> bool
     ensures { λ r. ⌜ r ≡ outside classes class ⌝ }
 {
     class == 0 || (classes as u64) < class
+}
+
+// Of a list of bands' ends those of the class at index i, as many as it has cells: all classes share them.
+pub fn class_bands(ends: &[u32], cells: usize, i: usize) -> &[u32]
+    ensures { λ r. ⌜ now r ≡ classBands cells (now (ends .entry)) i ⌝ }
+{
+    if ends.len() < cells {
+        return ends;
+    }
+    &ends[..cells]
 }
 
 // The first of two causes, where 0 is none.

@@ -1,8 +1,7 @@
 -- `row` meets its contract, by the cases of `Laws.Entries`.
 use mathlib.Core.Path.{_≡_, sym, _∙_}
-use native.Mathlib.Omega.{arith}
 use lib.ListN.{length, length-map}
-use Rattle.scheme.specs.Access.{CELL_STRIDE, CELL_PLACES}
+use Rattle.scheme.specs.Access.{CELL_PLACES}
 use Rattle.scheme.specs.Laws.Cause.{outside-false}
 use Rattle.scheme.specs.Laws.Judged.{accepted-cause}
 use Rattle.rows.specs.Laws.Entries.{row-declined, row-no-class, row-answered}
@@ -39,15 +38,9 @@ returns-2 c =
     c .refused2 .ensures
     ∙ row-no-class (start .args .t1) (start .args .class) _ (at-cause .cause .ensures) (at-if1 .if1 .left) (sym (at-class-out .class-out .ensures) ∙ at-if2 .if2 .taken)
 
--- Owning the scheme tells how long the arrays in its fifth, sixth and seventh field are.
+-- Owning the scheme tells how long the array in its fifth field is.
 rules-stored : (c : tie.Start) → length (c .args .t1 .rules) ≡ CELL_PLACES
 rules-stored c = sym (length-map (c .args .t1 .rules) (λ v. v)) ∙ c .good .0 .1 .1 .1 .1 .1 .1 .0 .1 .0 .1
-
-lowers-stored : (c : tie.Start) → length (c .args .t1 .lowers) ≡ CELL_STRIDE
-lowers-stored c = sym (length-map (c .args .t1 .lowers) (λ v. v)) ∙ c .good .0 .1 .1 .1 .1 .1 .1 .1 .0 .1 .0 .1
-
-uppers-stored : (c : tie.Start) → length (c .args .t1 .uppers) ≡ CELL_STRIDE
-uppers-stored c = sym (length-map (c .args .t1 .uppers) (λ v. v)) ∙ c .good .0 .1 .1 .1 .1 .1 .1 .1 .1 .0 .1 .0 .1
 
 -- The place of the second test, from the call that follows it.
 abbrev tested : tie.After-answered-arg6 → tie.Else2
@@ -65,8 +58,6 @@ answered-requires c κs =
       range .0,
       range .1,
       ok .size .classes,
-      omega (arith, lowers-stored start, ok .size .columns),
-      lowers-stored start ∙ sym (uppers-stored start),
       ok .size .columns,
       rules-stored start,
     )

@@ -1,6 +1,6 @@
 -- The arrays of 32 entries: s of them summed by target, 0 beyond; and for an accepted scheme they are its interval rows.
 use Prim.Native.Nat.{ℕ, _+_, _-_, _*_, _≤_, _<_}
-use mathlib.Core.Path.{_≡_, ap, sym, _∙_}
+use mathlib.Core.Path.{_≡_, ap, ap₂, sym, _∙_}
 use mathlib.Core.Bool.{true, false}
 use mathlib.Core.List.{List, _++_}
 use lib.Dec.{ltb}
@@ -8,7 +8,7 @@ use lib.ListN.{length, getD, take, drop, replicate}
 use native.Mathlib.Decide.{decLt}
 use native.Mathlib.Omega.{arith}
 use borrow.Author.Tests.{lt-ltb, le-ltb}
-use Rattle.scheme.specs.Access.{CELL_STRIDE}
+use Rattle.scheme.specs.Access.{CELL_STRIDE, classBands}
 use Rattle.setchain.specs.Sums.{onlyIf}
 use Rattle.setchain.specs.Laws.Sums.{onlyIf-true, onlyIf-false}
 use Rattle.scheme.specs.declared.Scheme.{Scheme}
@@ -63,16 +63,17 @@ module _ (s : Scheme) (ok : Accepted s) (i : ℕ) (l : i < s .classes) where
         upper = tab-eq 0 32 _ _ (λ j g. ap (onlyIf (ltb j (s .classes))) (upper-is s ok i l j)) k;
       }
 
--- The code's parts of the rules run from i * 8 to i * 8 + columns.
-pub row-made : (rules lowers uppers : List ℕ) (columns classes i : ℕ) (lower upper : List ℕ)
-    → lower ≡ entriesOf (classRules (i * CELL_STRIDE + columns - i * CELL_STRIDE) rules i) (take columns lowers) classes
-    → upper ≡ entriesOf (classRules (i * CELL_STRIDE + columns - i * CELL_STRIDE) rules i) (take columns uppers) classes
+-- The code's part of the rules runs from the class's first cell to its last.
+pub row-made : (rules lowers uppers : List ℕ) (columns classes i : ℕ) {ownLowers ownUppers lower upper : List ℕ}
+    → ownLowers ≡ classBands columns lowers i → ownUppers ≡ classBands columns uppers i
+    → lower ≡ entriesOf (classRules (i * CELL_STRIDE + columns - i * CELL_STRIDE) rules i) ownLowers classes
+    → upper ≡ entriesOf (classRules (i * CELL_STRIDE + columns - i * CELL_STRIDE) rules i) ownUppers classes
     → _≡_ {A = RowAnswer} (record { number = 0; lower = lower; upper = upper }) (rowFrom rules lowers uppers columns classes i)
-row-made rules lowers uppers columns classes i lower upper e g =
-    λ k. record { number = 0; lower = (e ∙ ap (part lowers) size) k; upper = (g ∙ ap (part uppers) size) k }
+row-made rules lowers uppers columns classes i el eu e g =
+    λ k. record { number = 0; lower = (e ∙ ap₂ part size el) k; upper = (g ∙ ap₂ part size eu) k }
   where
-    part : List ℕ → ℕ → List ℕ
-    part ends n = entriesOf (classRules n rules i) (take columns ends) classes
+    part : ℕ → List ℕ → List ℕ
+    part n ends = entriesOf (classRules n rules i) ends classes
 
     size : i * CELL_STRIDE + columns - i * CELL_STRIDE ≡ columns
     size = omega arith

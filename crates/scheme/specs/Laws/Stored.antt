@@ -9,7 +9,7 @@ use borrow.Author.Tests.{lt-ltb, le-ltb}
 use Rattle.scheme.specs.declared.Scheme.{Scheme}
 use Rattle.scheme.specs.Tables.{tab}
 use Rattle.scheme.specs.Access.{CELL_STRIDE, CELL_PLACES, ruleAt, lowerAt, upperAt, premiumAt}
-use Rattle.scheme.specs.Stored.{upTo, rulesUpTo, schemeOf, cleared, noScheme}
+use Rattle.scheme.specs.Stored.{upTo, rulesUpTo, bandsUpTo, schemeOf, cleared, noScheme}
 use Rattle.scheme.specs.Laws.Tab.{getD-tab, tab-eq}
 
 -- One of two orders holds.
@@ -58,7 +58,7 @@ rules-again s m rule =
     (λ is. upTo-eq m _ (rule (q / CELL_STRIDE)) (q % CELL_STRIDE) (λ ks. rule-stored s m rule (q / CELL_STRIDE) (q % CELL_STRIDE) (omega arith) (omega arith) is ks)))
 
 -- The values of a made scheme.
-module _ (s m start horizon : ℕ) (rule : ℕ → ℕ → ℕ) (lower upper premium : ℕ → ℕ) where
+module _ (s m start horizon : ℕ) (rule lower upper : ℕ → ℕ → ℕ) (premium : ℕ → ℕ) where
   abbrev made : Scheme
   made = schemeOf s m start horizon rule lower upper premium
 
@@ -66,13 +66,13 @@ module _ (s m start horizon : ℕ) (rule : ℕ → ℕ → ℕ) (lower upper pre
   unfolding schemeOf
   rule-made i k most few is ks = rule-stored s m rule i k (omega arith) (omega arith) is ks
 
-  pub lower-made : (i k : ℕ) → m ≤ 8 → k < m → lowerAt made i k ≡ lower k
+  pub lower-made : (i k : ℕ) → m ≤ 8 → k < m → lowerAt made i k ≡ lower 0 k
   unfolding schemeOf
-  lower-made i k few ks = stored-at CELL_STRIDE m lower k (omega arith) ks
+  lower-made i k few ks = stored-at CELL_STRIDE m (lower 0) k (omega arith) ks
 
-  pub upper-made : (i k : ℕ) → m ≤ 8 → k < m → upperAt made i k ≡ upper k
+  pub upper-made : (i k : ℕ) → m ≤ 8 → k < m → upperAt made i k ≡ upper 0 k
   unfolding schemeOf
-  upper-made i k few ks = stored-at CELL_STRIDE m upper k (omega arith) ks
+  upper-made i k few ks = stored-at CELL_STRIDE m (upper 0) k (omega arith) ks
 
   pub premium-made : (i : ℕ) → s ≤ 32 → i < s → premiumAt made i ≡ premium i
   unfolding schemeOf
@@ -81,22 +81,22 @@ module _ (s m start horizon : ℕ) (rule : ℕ → ℕ → ℕ) (lower upper pre
   -- "every operation that makes a scheme sets them to 0".
   pub made-cleared : cleared made ≡ made
   unfolding schemeOf
-  made-cleared = rw (rules-again s m rule, stored-again 8 m lower, stored-again 8 m upper, stored-again 32 s premium)
+  made-cleared = rw (rules-again s m rule, stored-again CELL_STRIDE m (lower 0), stored-again CELL_STRIDE m (upper 0), stored-again 32 s premium)
 
   -- Schemes made from values that are equal up to s and m are equal.
-  pub made-eq : (rule′ : ℕ → ℕ → ℕ) (lower′ upper′ premium′ : ℕ → ℕ)
+  pub made-eq : (rule′ lower′ upper′ : ℕ → ℕ → ℕ) (premium′ : ℕ → ℕ) → 0 < s
       → ((i k : ℕ) → i < s → k < m → rule i k ≡ rule′ i k)
-      → ((k : ℕ) → k < m → lower k ≡ lower′ k)
-      → ((k : ℕ) → k < m → upper k ≡ upper′ k)
+      → ((i k : ℕ) → i < s → k < m → lower i k ≡ lower′ i k)
+      → ((i k : ℕ) → i < s → k < m → upper i k ≡ upper′ i k)
       → ((i : ℕ) → i < s → premium i ≡ premium′ i)
       → made ≡ schemeOf s m start horizon rule′ lower′ upper′ premium′
   unfolding schemeOf
-  made-eq rule′ lower′ upper′ premium′ er el eu ep =
+  made-eq rule′ lower′ upper′ premium′ some er el eu ep =
       let rules : tab CELL_PLACES (rulesUpTo s m rule) ≡ tab CELL_PLACES (rulesUpTo s m rule′) =
       tab-eq 0 CELL_PLACES _ _ (λ q lt. upTo-eq s _ _ (q / CELL_STRIDE) (λ is. upTo-eq m _ _ (q % CELL_STRIDE) (λ ks. er (q / CELL_STRIDE) (q % CELL_STRIDE) is ks)))
       in
-      let lowers : tab CELL_STRIDE (upTo m lower) ≡ tab CELL_STRIDE (upTo m lower′) = tab-eq 0 CELL_STRIDE _ _ (λ k lt. upTo-eq m _ _ k (el k)) in
-      let uppers : tab CELL_STRIDE (upTo m upper) ≡ tab CELL_STRIDE (upTo m upper′) = tab-eq 0 CELL_STRIDE _ _ (λ k lt. upTo-eq m _ _ k (eu k)) in
+      let lowers : tab CELL_STRIDE (bandsUpTo m lower) ≡ tab CELL_STRIDE (bandsUpTo m lower′) = tab-eq 0 CELL_STRIDE _ _ (λ k lt. upTo-eq m _ _ k (el 0 k some)) in
+      let uppers : tab CELL_STRIDE (bandsUpTo m upper) ≡ tab CELL_STRIDE (bandsUpTo m upper′) = tab-eq 0 CELL_STRIDE _ _ (λ k lt. upTo-eq m _ _ k (eu 0 k some)) in
       let premiums : tab 32 (upTo s premium) ≡ tab 32 (upTo s premium′) = tab-eq 0 32 _ _ (λ i lt. upTo-eq s _ _ i (ep i)) in
       rw (rules, lowers, uppers, premiums)
 

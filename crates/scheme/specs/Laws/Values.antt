@@ -8,7 +8,7 @@ use Rattle.setchain.specs.Sums.{sumTo, onlyIf}
 use Rattle.setchain.specs.Rows.{ONE}
 use Rattle.setchain.specs.Laws.Sums.{sumTo-eq}
 use Rattle.scheme.specs.declared.Scheme.{Scheme}
-use Rattle.scheme.specs.Access.{CELL_STRIDE, cellCount, ruleAt, lowerAt, upperAt, premiumAt, sharedLower, sharedUpper}
+use Rattle.scheme.specs.Access.{cellCount, ruleAt, lowerAt, upperAt, premiumAt}
 use Rattle.scheme.specs.Accepted.{SizeFits}
 use Rattle.scheme.specs.Cause.{outside, bandTest, sizeOut, startOut, horizonOut, ruleOut, bandOut, sumOut, premiumOut, causeOf, classCause, yearCause}
 use Rattle.scheme.specs.FirstCause.{_when_, orElse}
@@ -18,7 +18,7 @@ use Rattle.scheme.specs.Values.{SameButBands, SameValues}
 use Rattle.scheme.specs.Laws.Tables.{any-eq}
 use Rattle.scheme.specs.Laws.FirstCause.{by-cause}
 use Rattle.scheme.specs.Laws.Judged.{size-tells}
-use Rattle.scheme.specs.Laws.Stored.{stored-at, rule-stored}
+use Rattle.scheme.specs.Laws.Stored.{stored-at, rule-stored, lower-made, upper-made}
 
 -- Sums over as many cells.
 cells-eq : {n n′ : ℕ} → n ≡ n′ → (f g : ℕ → ℕ) → ((k : ℕ) → k < n → f k ≡ g k) → sumTo n f ≡ sumTo n′ g
@@ -142,8 +142,8 @@ cleared-values s h =
             rules = λ i k l g. sym (rule-stored (s .classes) (s .columns) (ruleAt s) i k (omega arith) (omega arith) l g);
             premiums = λ i l. sym (stored-at 32 (s .classes) (premiumAt s) i (omega arith) l);
           };
-      lowers = λ i k l g. sym (stored-at CELL_STRIDE (s .columns) (sharedLower s) k (omega arith) g);
-      uppers = λ i k l g. sym (stored-at CELL_STRIDE (s .columns) (sharedUpper s) k (omega arith) g);
+      lowers = λ i k l g. sym (lower-made (s .classes) (s .columns) (s .start) (s .horizon) (ruleAt s) (lowerAt s) (upperAt s) (premiumAt s) i k (h .columns) g);
+      uppers = λ i k l g. sym (upper-made (s .classes) (s .columns) (s .start) (s .horizon) (ruleAt s) (lowerAt s) (upperAt s) (premiumAt s) i k (h .columns) g);
     }
 
 -- A size out of range is cause 3, whatever else holds.

@@ -4,15 +4,15 @@ use Prim.Native.Nat.{_-_}
 use native.Mathlib.Omega.{arith}
 use borrow.Author.Needs.{needs}
 use Rattle.bounds.specs.Entries.{rulesChain}
-use Rattle.bounds.proofs.ListRowsLaws.{Listing, listing-none, listing-adds, listing-more, listing-all}
+use Rattle.bounds.proofs.ListRowsLaws.{Listing, listing-none, listing-adds, own-added, own-left, listing-more, listing-all}
 use Rattle.bounds.proofs.entries.list_rows.Statement.{statement}
 use Rattle.bounds.proofs.entries.list_rows.Tie as tie
 
 abbrev Inv-loop : tie.InvT-loop
-Inv-loop rules lowers uppers n entries₀ slack₀ m i₀ entries slack i = Listing (rulesChain n rules lowers uppers) entries slack i
+Inv-loop rules lowers uppers m n entries₀ slack₀ i₀ entries slack i = Listing (rulesChain n m rules lowers uppers) entries slack i
 
 abbrev μ-loop : tie.MeasureT-loop
-μ-loop rules lowers uppers n entries₀ slack₀ m i₀ entries slack i = n - i
+μ-loop rules lowers uppers m n entries₀ slack₀ i₀ entries slack i = n - i
 
 loop-holds : tie.Need-loop-holds Inv-loop μ-loop
 loop-holds c =
@@ -25,6 +25,12 @@ mul-first c = omega arith
 add-end : tie.Need-add-end Inv-loop μ-loop
 add-end c = omega arith
 
+class-bands-requires : tie.Need-class-bands-requires Inv-loop μ-loop
+class-bands-requires c κs = search needs
+
+class-bands-requires-2 : tie.Need-class-bands-requires-2 Inv-loop μ-loop
+class-bands-requires-2 c κs = search needs
+
 sub-list-row : tie.Need-sub-list-row Inv-loop μ-loop
 sub-list-row c = omega arith
 
@@ -34,11 +40,21 @@ part-list-row-start c = search needs
 part-list-row-end : tie.Need-part-list-row-end Inv-loop μ-loop
 part-list-row-end c = search needs
 
+-- The places passed, each from a later one.
+abbrev lent : tie.After-list-row-arg2 Inv-loop μ-loop → tie.After-class-bands2 Inv-loop μ-loop
+lent c = c .before .before
+
+abbrev turning : tie.After-class-bands2 Inv-loop μ-loop → tie.At-loop Inv-loop μ-loop
+turning c = c .before .before .before
+
+abbrev begun : tie.At-loop Inv-loop μ-loop → tie.Start Inv-loop μ-loop
+begun c = c .before .before .before .before
+
 list-row-requires : tie.Need-list-row-requires Inv-loop μ-loop
 list-row-requires c κs =
-    let at-loop = c .before .before .before in
-    let start = at-loop .before .before .before .before in
-    listing-adds (start .pre) (at-loop .loop .i) (at-loop .loop .inv) (omega arith)
+    let at-uppers = lent c in
+    let at-loop = turning at-uppers in
+    listing-adds (begun at-loop .pre) (at-loop .loop .i) (at-loop .loop .inv) (at-uppers .before .class-bands .ensures) (at-uppers .class-bands2 .ensures) (omega arith)
 
 mul-slack : tie.Need-mul-slack Inv-loop μ-loop
 mul-slack c = omega arith
@@ -54,15 +70,18 @@ loop-less c = omega arith
 
 loop-again : tie.Need-loop-again Inv-loop μ-loop
 loop-again c =
-    let at-loop = c .before .before .before .before in
-    let start = at-loop .before .before .before .before in
-    listing-more (start .pre) (at-loop .loop .i) (at-loop .loop .inv) (c .list-row .result) (omega arith) (c .list-row .ensures .0) (c .list-row .ensures .1)
+    let at-uppers = lent (c .before) in
+    let at-loop = turning at-uppers in
+    let able = begun at-loop .pre in
+    let i = at-loop .loop .i in
+    let w = at-loop .loop .inv in
+    let lowers = at-uppers .before .class-bands .ensures in
+    let uppers = at-uppers .class-bands2 .ensures in
+    listing-more able i w (c .list-row .result) (omega arith)
+    (own-added able i w lowers uppers (c .list-row .ensures .0)) (own-left able i w lowers uppers (c .list-row .result) (c .list-row .ensures .1))
 
 returns : tie.Need-returns Inv-loop μ-loop
-returns c =
-    let at-loop = c .before in
-    let start = at-loop .before .before .before .before in
-    listing-all (start .pre) (at-loop .loop .i) (at-loop .loop .inv) (omega arith)
+returns c = let at-loop = c .before in listing-all (begun at-loop .pre) (at-loop .loop .i) (at-loop .loop .inv) (omega arith)
 
 pub list-rows-spec : {M : Type 1} → statement M
 list-rows-spec =
@@ -73,6 +92,8 @@ list-rows-spec =
     loop-holds
     mul-first
     add-end
+    class-bands-requires
+    class-bands-requires-2
     sub-list-row
     part-list-row-start
     part-list-row-end
