@@ -1,10 +1,10 @@
 // The tests of acceptance, each over the numbers that it is about.
 ghost use mathlib.Core.Path.{_≡_};
-ghost use mathlib.Core.Bool.{true, false, cond, _||_};
-ghost use Prim.Native.Nat.{_+_, _*_, _<_, _≤_};
+ghost use mathlib.Core.Bool.{cond, _||_};
+ghost use Prim.Native.Nat.{_+_, _*_, _≤_};
 ghost use lib.Dec.{ltb};
-ghost use lib.ListN.{getD};
-ghost use Rattle.scheme.specs.Access.{CELL_PLACES, CELL_STRIDE};
+ghost use lib.ListN.{getD, length};
+ghost use Rattle.scheme.specs.Access.{CELL_STRIDE};
 ghost use Rattle.setchain.specs.Sums.{sumTo};
 ghost use Rattle.setchain.specs.Rows.{ONE};
 ghost use Rattle.scheme.specs.Tables.{anyBelow};
@@ -31,8 +31,8 @@ pub fn form_cause(classes: u8, columns: u8, start: u8, horizon: u8) -> u8
 }
 
 // Some rule from place `from` on, of as many as there are columns, is outside 1 to s.
-fn row_out(rules: &[u8; 256], from: usize, classes: u8, columns: u8) -> bool
-    requires { ⌜ from + columns ≤ CELL_PLACES ⌝ }
+fn row_out(rules: &[u8], from: usize, classes: u8, columns: u8) -> bool
+    requires { ⌜ from + columns ≤ length (now rules) ⌝ }
     ensures { λ r. ⌜ r ≡ anyBelow columns (λ k. outside classes (getD (now (rules .entry)) (from + k) 0)) ⌝ }
 {
     let n = columns as usize;
@@ -47,8 +47,8 @@ fn row_out(rules: &[u8; 256], from: usize, classes: u8, columns: u8) -> bool
 }
 
 // Some rule of some class is outside 1 to s.
-pub fn rule_cause(rules: &[u8; 256], classes: u8, columns: u8) -> u8
-    requires { ⌜ (classes ≤ 32) × (columns ≤ 8) ⌝ }
+pub fn rule_cause(rules: &[u8], classes: u8, columns: u8) -> u8
+    requires { ⌜ (classes * CELL_STRIDE ≤ length (now rules)) × (columns ≤ CELL_STRIDE) ⌝ }
     ensures { λ r. ⌜ r ≡ cond (anyBelow classes (λ i. anyBelow columns (λ k. outside classes (getD (now (rules .entry)) (i * CELL_STRIDE + k) 0)))) 7 0 ⌝ }
 {
     let n = classes as usize;
@@ -70,8 +70,8 @@ fn band_bad(lower: u32, upper: u32) -> bool
 }
 
 // Some column's band is bad.
-fn band_out(lowers: &[u32; 8], uppers: &[u32; 8], columns: u8) -> bool
-    requires { ⌜ columns ≤ 8 ⌝ }
+fn band_out(lowers: &[u32], uppers: &[u32], columns: u8) -> bool
+    requires { ⌜ (columns ≤ length (now lowers)) × (columns ≤ length (now uppers)) ⌝ }
     ensures { λ r. ⌜ r ≡ anyBelow columns (λ k. bandTest (getD (now (lowers .entry)) k 0) (getD (now (uppers .entry)) k 0)) ⌝ }
 {
     let n = columns as usize;
@@ -86,8 +86,8 @@ fn band_out(lowers: &[u32; 8], uppers: &[u32; 8], columns: u8) -> bool
 }
 
 // The sum of a band's ends over the columns, in 64 bits.
-fn sum(ends: &[u32; 8], columns: u8) -> u64
-    requires { ⌜ columns ≤ 8 ⌝ }
+fn sum(ends: &[u32], columns: u8) -> u64
+    requires { ⌜ columns ≤ length (now ends) ⌝ }
     ensures { λ r. ⌜ r ≡ sumTo columns (λ k. getD (now (ends .entry)) k 0) ⌝ }
 {
     let n = columns as usize;
@@ -101,16 +101,16 @@ fn sum(ends: &[u32; 8], columns: u8) -> u64
 }
 
 // The lowers sum above ONE, or the uppers below.
-fn sum_out(lowers: &[u32; 8], uppers: &[u32; 8], columns: u8) -> bool
-    requires { ⌜ columns ≤ 8 ⌝ }
+fn sum_out(lowers: &[u32], uppers: &[u32], columns: u8) -> bool
+    requires { ⌜ (columns ≤ length (now lowers)) × (columns ≤ length (now uppers)) ⌝ }
     ensures { λ r. ⌜ r ≡ (ltb ONE (sumTo columns (λ k. getD (now (lowers .entry)) k 0)) || ltb (sumTo columns (λ k. getD (now (uppers .entry)) k 0)) ONE) ⌝ }
 {
     setchain::ONE < sum(lowers, columns) || sum(uppers, columns) < setchain::ONE
 }
 
 // The first of causes 8 and 9, or 0.
-pub fn band_cause<'a>(lowers: &'a [u32; 8], uppers: &'a [u32; 8], columns: u8) -> u8
-    requires { ⌜ columns ≤ 8 ⌝ }
+pub fn band_cause<'a>(lowers: &'a [u32], uppers: &'a [u32], columns: u8) -> u8
+    requires { ⌜ (columns ≤ length (now lowers)) × (columns ≤ length (now uppers)) ⌝ }
     ensures { λ r. ⌜ r ≡ bandCause columns (λ k. getD (now (lowers .entry)) k 0) (λ k. getD (now (uppers .entry)) k 0) ⌝ }
 {
     if band_out(lowers, uppers, columns) {
@@ -123,8 +123,8 @@ pub fn band_cause<'a>(lowers: &'a [u32; 8], uppers: &'a [u32; 8], columns: u8) -
 }
 
 // Cause 10 where some class's premium is above 10,000,000, or 0.
-pub fn premium_cause(premiums: &[u32; 32], classes: u8) -> u8
-    requires { ⌜ classes ≤ 32 ⌝ }
+pub fn premium_cause(premiums: &[u32], classes: u8) -> u8
+    requires { ⌜ classes ≤ length (now premiums) ⌝ }
     ensures { λ r. ⌜ r ≡ limitCause 10000000 (now (premiums .entry)) classes ⌝ }
 {
     let n = classes as usize;

@@ -1,7 +1,7 @@
 // A record written into a lent slice, part by part.
 ghost use mathlib.Core.Path.{_≡_};
 ghost use mathlib.Core.List.{_++_};
-ghost use Prim.Native.Nat.{_+_, _*_, _<_, _≤_};
+ghost use Prim.Native.Nat.{_+_, _*_, _≤_};
 ghost use lib.ListN.{length, getD, drop};
 ghost use lib.Seq.{sets};
 ghost use Rattle.scheme.specs.Access.{CELL_STRIDE};
@@ -32,8 +32,8 @@ fn header(out: &mut [u8], size: usize, s: u8, m: u8, start: u8, horizon: u8)
 }
 
 // Puts the rules of s classes and m columns, class by class, from place `from` on.
-fn rules(out: &mut [u8], from: usize, rules: &[u8; 256], s: usize, m: usize)
-    requires { ⌜ (from + s * m ≤ length (now out)) × (s ≤ 32) × (m ≤ 8) ⌝ }
+fn rules(out: &mut [u8], from: usize, rules: &[u8], s: usize, m: usize)
+    requires { ⌜ (from + s * m ≤ length (now out)) × (s * CELL_STRIDE ≤ length (now rules)) × (m ≤ CELL_STRIDE) ⌝ }
     ensures { λ _. ⌜ now (out .exit) ≡ sets (now (out .entry)) from (joined s (λ i. tab m (λ k. getD (now (rules .entry)) (i * CELL_STRIDE + k) 0))) ⌝ }
 {
     let mut i: usize = 0;
@@ -57,8 +57,8 @@ fn put_band(out: &mut [u8], at: usize, lower: u32, upper: u32)
 }
 
 // Puts m bands, lower and upper, from place `from` on.
-fn bands<'a>(out: &mut [u8], from: usize, lowers: &'a [u32; 8], uppers: &'a [u32; 8], m: usize)
-    requires { ⌜ (from + m * BAND_WIDTH ≤ length (now out)) × (m ≤ 8) ⌝ }
+fn bands<'a>(out: &mut [u8], from: usize, lowers: &'a [u32], uppers: &'a [u32], m: usize)
+    requires { ⌜ (from + m * BAND_WIDTH ≤ length (now out)) × (m ≤ length (now lowers)) × (m ≤ length (now uppers)) ⌝ }
     ensures { λ _. ⌜ now (out .exit) ≡ sets (now (out .entry)) from (joined m (λ k. bandBytes (getD (now (lowers .entry)) k 0) (getD (now (uppers .entry)) k 0))) ⌝ }
 {
     let mut k: usize = 0;
@@ -71,8 +71,8 @@ fn bands<'a>(out: &mut [u8], from: usize, lowers: &'a [u32; 8], uppers: &'a [u32
 }
 
 // Puts s premiums of `width` bytes, from place `from` on.
-fn premiums(out: &mut [u8], from: usize, width: usize, premiums: &[u32; 32], s: usize)
-    requires { ⌜ (from + s * width ≤ length (now out)) × (s ≤ 32) ⌝ }
+fn premiums(out: &mut [u8], from: usize, width: usize, premiums: &[u32], s: usize)
+    requires { ⌜ (from + s * width ≤ length (now out)) × (s ≤ length (now premiums)) ⌝ }
     ensures { λ _. ⌜ now (out .exit) ≡ sets (now (out .entry)) from (joined s (λ i. beBytes width (getD (now (premiums .entry)) i 0))) ⌝ }
 {
     let mut j: usize = 0;

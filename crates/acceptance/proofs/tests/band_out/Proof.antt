@@ -22,14 +22,14 @@ loop-holds c = (omega arith, any-none _)
 mul-band-bad : tie.Need-mul-band-bad Inv-loop μ-loop
 mul-band-bad c = omega arith
 
-element-copy-out-band-bad : tie.Need-element-copy-out-band-bad Inv-loop μ-loop
-element-copy-out-band-bad c = omega arith
+shared-slice-read-band-bad : tie.Need-shared-slice-read-band-bad Inv-loop μ-loop
+shared-slice-read-band-bad c = omega arith
 
 mul-band-bad-2 : tie.Need-mul-band-bad-2 Inv-loop μ-loop
 mul-band-bad-2 c = omega arith
 
-element-copy-out-band-bad-2 : tie.Need-element-copy-out-band-bad-2 Inv-loop μ-loop
-element-copy-out-band-bad-2 c = omega arith
+shared-slice-read-band-bad-2 : tie.Need-shared-slice-read-band-bad-2 Inv-loop μ-loop
+shared-slice-read-band-bad-2 c = omega arith
 
 band-bad-requires : tie.Need-band-bad-requires Inv-loop μ-loop
 band-bad-requires c κs = tt
@@ -63,9 +63,9 @@ band-out-spec =
     μ-loop
     loop-holds
     mul-band-bad
-    element-copy-out-band-bad
+    shared-slice-read-band-bad
     mul-band-bad-2
-    element-copy-out-band-bad-2
+    shared-slice-read-band-bad-2
     band-bad-requires
     returns
     add-k

@@ -22,8 +22,8 @@ loop-holds c = (omega arith, any-none _)
 add-outside : tie.Need-add-outside Inv-loop μ-loop
 add-outside c = omega arith
 
-element-copy-out-outside : tie.Need-element-copy-out-outside Inv-loop μ-loop
-element-copy-out-outside c = omega arith
+shared-slice-read-outside : tie.Need-shared-slice-read-outside Inv-loop μ-loop
+shared-slice-read-outside c = omega arith
 
 outside-requires : tie.Need-outside-requires Inv-loop μ-loop
 outside-requires c κs = tt
@@ -55,7 +55,7 @@ row-out-spec =
     μ-loop
     loop-holds
     add-outside
-    element-copy-out-outside
+    shared-slice-read-outside
     outside-requires
     returns
     add-k

@@ -1,4 +1,4 @@
--- `sum` meets its contract: the total is the sum of the ends before k, and eight 32-bit numbers fit 64 bits.
+-- `sum` meets its contract: the total is the sum of the ends before k, and as many 32-bit numbers as a byte counts fit 64 bits.
 use Prim.Native.Nat.{_≤_, _*_, _-_}
 use mathlib.Core.Path.{_≡_}
 use native.Mathlib.Omega.{arith}
@@ -20,8 +20,8 @@ loop-holds c = (omega arith, total-start _, omega arith)
 mul-wide : tie.Need-mul-wide Inv-loop μ-loop
 mul-wide c = omega arith
 
-element-copy-out-wide : tie.Need-element-copy-out-wide Inv-loop μ-loop
-element-copy-out-wide c = omega arith
+shared-slice-read-wide : tie.Need-shared-slice-read-wide Inv-loop μ-loop
+shared-slice-read-wide c = omega arith
 
 wide-requires : tie.Need-wide-requires Inv-loop μ-loop
 wide-requires c κs = tt
@@ -49,7 +49,7 @@ sum-spec =
     μ-loop
     loop-holds
     mul-wide
-    element-copy-out-wide
+    shared-slice-read-wide
     wide-requires
     add-total
     add-k

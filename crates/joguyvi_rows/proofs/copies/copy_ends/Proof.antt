@@ -1,4 +1,4 @@
--- `copy_ends` copies: the places passed hold what the array has there.
+-- `copy_ends` copies: the places passed hold what the list has there.
 -- Assumes nothing.
 use mathlib.Core.Path.{refl}
 use Prim.Native.Nat.{_-_}
@@ -21,8 +21,8 @@ loop-holds c = copy-none _ _ _ refl
 mul-out : tie.Need-mul-out Inv-loop μ-loop
 mul-out c = omega arith
 
-element-copy-out-out : tie.Need-element-copy-out-out Inv-loop μ-loop
-element-copy-out-out c = omega arith
+shared-slice-read-out : tie.Need-shared-slice-read-out Inv-loop μ-loop
+shared-slice-read-out c = omega arith
 
 mul-out-2 : tie.Need-mul-out-2 Inv-loop μ-loop
 mul-out-2 c = omega arith
@@ -53,7 +53,7 @@ copy-ends-spec =
     μ-loop
     loop-holds
     mul-out
-    element-copy-out-out
+    shared-slice-read-out
     mul-out-2
     slice-write-out
     add-k

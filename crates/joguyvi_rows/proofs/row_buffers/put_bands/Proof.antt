@@ -2,8 +2,8 @@
 -- Assumes nothing.
 use mathlib.Core.Path.{_≡_, ap, sym, _∙_}
 use native.Mathlib.Omega.{arith}
-use lib.ListN.{length}
-use Rattle.scheme.specs.Access.{sharedLower, sharedUpper}
+use lib.ListN.{length, length-map}
+use Rattle.scheme.specs.Access.{CELL_STRIDE, sharedLower, sharedUpper}
 use Rattle.scheme.specs.Tables.{tab}
 use Rattle.joguyvi_spec.specs.Laws.Buffers.{buffer-sizes, unfilled}
 use borrow.Author.Needs.{needs}
@@ -16,33 +16,43 @@ cast-columns c = search needs
 slices-cause-requires : tie.Need-slices-cause-requires
 slices-cause-requires c κs = search needs
 
-sizes : (c : tie.Else1) → let start = c .before .before .before .before .args in
+abbrev begun : tie.Else1 → tie.Start
+begun c = c .before .before .before .before
+
+sizes : (c : tie.Else1) → let start = begun c .args in
     (length (start .lower .now) ≡ start .t1 .columns) × (length (start .upper .now) ≡ start .t1 .columns)
 sizes c =
-    let at-cause = c .before in
-    let start = at-cause .before .before .before .args in
-    buffer-sizes (start .t1 .columns) (start .lower .now) (start .upper .now) (sym (at-cause .slices-cause .ensures) ∙ c .if1 .left)
+    let start = begun c .args in
+    buffer-sizes (start .t1 .columns) (start .lower .now) (start .upper .now) (sym (c .before .slices-cause .ensures) ∙ c .if1 .left)
 
 returns : tie.Need-returns
 returns c = record { answer = c .before .slices-cause .ensures; filled = unfilled _ _ (c .if1 .taken); otherFilled = unfilled _ _ (c .if1 .taken) }
 
+-- Owning the scheme tells how long the arrays in its sixth and seventh field are.
+lowers-stored : (c : tie.Start) → length (c .args .t1 .lowers) ≡ CELL_STRIDE
+lowers-stored c = sym (length-map (c .args .t1 .lowers) (λ v. v)) ∙ c .good .0 .1 .1 .1 .1 .1 .1 .1 .0 .1 .0 .1
+
+uppers-stored : (c : tie.Start) → length (c .args .t1 .uppers) ≡ CELL_STRIDE
+uppers-stored c = sym (length-map (c .args .t1 .uppers) (λ v. v)) ∙ c .good .0 .1 .1 .1 .1 .1 .1 .1 .1 .0 .1 .0 .1
+
 -- The places passed, each from a later one.
-abbrev sized : tie.After-copy-ends → tie.Else1
+abbrev sized : tie.After-copy-ends-arg3 → tie.Else1
 sized c = c .before .before .before .before
 
-abbrev lowered : tie.After-copy-ends2 → tie.After-copy-ends
+abbrev lowered : tie.After-copy-ends-arg6 → tie.After-copy-ends
 lowered c = let lent = c .before .before .before in lent .before .before .before
 
 copy-ends-requires : tie.Need-copy-ends-requires
 copy-ends-requires c κs =
-    let at-sizes = c .before .before .before in
-    omega (arith, sizes at-sizes .0, at-sizes .before .before .before .before .pre)
+    let at-sizes = sized c in
+    let start = begun at-sizes in
+    omega (arith, sizes at-sizes .0, start .pre, lowers-stored start)
 
 copy-ends-requires-2 : tie.Need-copy-ends-requires-2
 copy-ends-requires-2 c κs =
-    let lent = c .before .before in
-    let at-sizes = sized (lent .before .before .before) in
-    omega (arith, sizes at-sizes .1, at-sizes .before .before .before .before .pre)
+    let at-sizes = sized (lowered c .before) in
+    let start = begun at-sizes in
+    omega (arith, sizes at-sizes .1, start .pre, uppers-stored start)
 
 same-length : tie.Need-same-length
 same-length c = search needs
@@ -53,9 +63,9 @@ same-length-2 c = search needs
 returns-2 : tie.Need-returns-2
 returns-2 c =
     let at-uppers = c .before .before in
-    let at-lowers = lowered at-uppers in
-    let at-sizes = sized at-lowers in
-    let s = at-sizes .before .before .before .before .args .t1 in
+    let at-lowers = lowered (at-uppers .before) in
+    let at-sizes = sized (at-lowers .before) in
+    let s = begun at-sizes .args .t1 in
     record {
       answer = sym (at-sizes .if1 .left) ∙ at-sizes .before .slices-cause .ensures;
       filled = at-lowers .copy-ends .ensures ∙ ap (λ n. tab n (sharedLower s)) (sizes at-sizes .0);

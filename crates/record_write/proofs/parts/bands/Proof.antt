@@ -19,8 +19,12 @@ Inv-loop out₀ from lowers uppers m k₀ to₀ out k to =
 abbrev μ-loop : tie.MeasureT-loop
 μ-loop out₀ from lowers uppers m k₀ to₀ out k to = m - k
 
+-- The start, from the place before the loop.
+abbrev begun : tie.After-shared-slice-known2 Inv-loop μ-loop → tie.Start Inv-loop μ-loop
+begun c = c .before .before .before
+
 -- The slice keeps its length.
-size : (c : tie.At-loop Inv-loop μ-loop) → length (c .loop .out) ≡ length (c .before .before .args .out .now)
+size : (c : tie.At-loop Inv-loop μ-loop) → length (c .loop .out) ≡ length (begun (c .before) .args .out .now)
 size c = rw (c .loop .inv .2) (simp length-sets)
 
 loop-holds : tie.Need-loop-holds Inv-loop μ-loop
@@ -29,14 +33,14 @@ loop-holds c = (omega arith, omega arith, join-none _ _ _)
 mul-put-band : tie.Need-mul-put-band Inv-loop μ-loop
 mul-put-band c = omega arith
 
-element-copy-out-put-band : tie.Need-element-copy-out-put-band Inv-loop μ-loop
-element-copy-out-put-band c = omega arith
+shared-slice-read-put-band : tie.Need-shared-slice-read-put-band Inv-loop μ-loop
+shared-slice-read-put-band c = omega arith
 
 mul-put-band-2 : tie.Need-mul-put-band-2 Inv-loop μ-loop
 mul-put-band-2 c = omega arith
 
-element-copy-out-put-band-2 : tie.Need-element-copy-out-put-band-2 Inv-loop μ-loop
-element-copy-out-put-band-2 c = omega arith
+shared-slice-read-put-band-2 : tie.Need-shared-slice-read-put-band-2 Inv-loop μ-loop
+shared-slice-read-put-band-2 c = omega arith
 
 put-band-requires : tie.Need-put-band-requires Inv-loop μ-loop
 put-band-requires c κs = omega (arith, size (c .before .before .before .before))
@@ -54,7 +58,7 @@ loop-again : tie.Need-loop-again Inv-loop μ-loop
 loop-again c =
     let at-put = c .before .before .before in
     let at-loop = at-put .before .before .before .before in
-    let start = at-loop .before .before .args in
+    let start = begun (at-loop .before) .args in
     let turn = at-loop .loop in (
       omega arith,
       omega arith,
@@ -65,7 +69,7 @@ same-length : tie.Need-same-length Inv-loop μ-loop
 same-length c = size (c .before)
 
 returns : tie.Need-returns Inv-loop μ-loop
-returns c = let end : c .before .loop .k ≡ c .before .before .before .args .m = omega arith in rw end at (c .before .loop .inv .2)
+returns c = let end : c .before .loop .k ≡ begun (c .before .before) .args .m = omega arith in rw end at (c .before .loop .inv .2)
 
 pub bands-spec : {M : Type 1} → statement M
 bands-spec =
@@ -75,9 +79,9 @@ bands-spec =
     μ-loop
     loop-holds
     mul-put-band
-    element-copy-out-put-band
+    shared-slice-read-put-band
     mul-put-band-2
-    element-copy-out-put-band-2
+    shared-slice-read-put-band-2
     put-band-requires
     add-to
     add-k

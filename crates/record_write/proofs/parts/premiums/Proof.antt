@@ -20,15 +20,19 @@ Inv-loop out₀ from width premiums s j₀ to₀ out j to =
 abbrev μ-loop : tie.MeasureT-loop
 μ-loop out₀ from width premiums s j₀ to₀ out j to = s - j
 
+-- The start, from the place before the loop.
+abbrev begun : tie.After-shared-slice-known Inv-loop μ-loop → tie.Start Inv-loop μ-loop
+begun c = c .before .before
+
 -- The slice keeps its length.
-size : (c : tie.At-loop Inv-loop μ-loop) → length (c .loop .out) ≡ length (c .before .before .args .out .now)
+size : (c : tie.At-loop Inv-loop μ-loop) → length (c .loop .out) ≡ length (begun (c .before) .args .out .now)
 size c = rw (c .loop .inv .2) (simp length-sets)
 
 -- The slice holds the next premium.
 room : (c : tie.In-loop Inv-loop μ-loop)
-    → c .before .loop .to + c .before .before .before .args .width ≤ length (c .before .loop .out)
+    → c .before .loop .to + begun (c .before .before) .args .width ≤ length (c .before .loop .out)
 room c =
-    let start = c .before .before .before .args in
+    let start = begun (c .before .before) .args in
     let more : suc (c .before .loop .j) ≤ start .s = omega arith in
     omega (arith, size (c .before), mul-le-mul-right (start .width) more)
 
@@ -38,8 +42,8 @@ loop-holds c = (omega arith, omega arith, join-none _ _ _)
 mul-put-number : tie.Need-mul-put-number Inv-loop μ-loop
 mul-put-number c = omega arith
 
-element-copy-out-put-number : tie.Need-element-copy-out-put-number Inv-loop μ-loop
-element-copy-out-put-number c = omega arith
+shared-slice-read-put-number : tie.Need-shared-slice-read-put-number Inv-loop μ-loop
+shared-slice-read-put-number c = omega arith
 
 put-number-requires : tie.Need-put-number-requires Inv-loop μ-loop
 put-number-requires c κs = search needs
@@ -57,7 +61,7 @@ loop-again : tie.Need-loop-again Inv-loop μ-loop
 loop-again c =
     let at-put = c .before .before in
     let at-loop = at-put .before .before .before .before in
-    let start = at-loop .before .before .args in
+    let start = begun (at-loop .before) .args in
     let turn = at-loop .loop in (
       omega arith,
       omega arith,
@@ -69,7 +73,7 @@ same-length : tie.Need-same-length Inv-loop μ-loop
 same-length c = size (c .before)
 
 returns : tie.Need-returns Inv-loop μ-loop
-returns c = let end : c .before .loop .j ≡ c .before .before .before .args .s = omega arith in rw end at (c .before .loop .inv .2)
+returns c = let end : c .before .loop .j ≡ begun (c .before .before) .args .s = omega arith in rw end at (c .before .loop .inv .2)
 
 pub premiums-spec : {M : Type 1} → statement M
 premiums-spec =
@@ -79,7 +83,7 @@ premiums-spec =
     μ-loop
     loop-holds
     mul-put-number
-    element-copy-out-put-number
+    shared-slice-read-put-number
     put-number-requires
     add-to
     add-j

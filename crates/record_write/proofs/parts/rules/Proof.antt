@@ -22,17 +22,21 @@ Inv-loop out₀ from rules s m i₀ at₀ to₀ out i at to =
 abbrev μ-loop : tie.MeasureT-loop
 μ-loop out₀ from rules s m i₀ at₀ to₀ out i at to = s - i
 
+-- The start, from the place before the loop.
+abbrev begun : tie.After-shared-slice-known Inv-loop μ-loop → tie.Start Inv-loop μ-loop
+begun c = c .before .before
+
 -- The slice keeps its length.
-size : (c : tie.At-loop Inv-loop μ-loop) → length (c .loop .out) ≡ length (c .before .before .args .out .now)
+size : (c : tie.At-loop Inv-loop μ-loop) → length (c .loop .out) ≡ length (begun (c .before) .args .out .now)
 size c = rw (c .loop .inv .3) (simp length-sets)
 
 -- The next row is within the slice.
-room : (c : tie.In-loop Inv-loop μ-loop)
-    → c .before .before .before .args .from + c .before .loop .i * c .before .before .before .args .m + c .before .before .before .args .m
-    ≤ length (c .before .before .before .args .out .now)
+room : (c : tie.In-loop Inv-loop μ-loop) → let start = begun (c .before .before) .args in
+    start .from + c .before .loop .i * start .m + start .m ≤ length (start .out .now)
 room c =
-    let more : suc (c .before .loop .i) ≤ c .before .before .before .args .s = omega arith in
-    omega (arith, mul-le-mul-right (c .before .before .before .args .m) more)
+    let start = begun (c .before .before) .args in
+    let more : suc (c .before .loop .i) ≤ start .s = omega arith in
+    omega (arith, mul-le-mul-right (start .m) more)
 
 loop-holds : tie.Need-loop-holds Inv-loop μ-loop
 loop-holds c = (omega arith, omega arith, omega arith, join-none _ _ _)
@@ -46,7 +50,7 @@ add-at c = omega arith
 add-to : tie.Need-add-to Inv-loop μ-loop
 add-to c =
     let at-copy = c .before .before in
-    let in-loop = at-copy .before .before .before in
+    let in-loop = at-copy .before .before in
     omega (arith, size (in-loop .before), room in-loop)
 
 add-i : tie.Need-add-i Inv-loop μ-loop
@@ -58,8 +62,8 @@ loop-less c = omega arith
 loop-again : tie.Need-loop-again Inv-loop μ-loop
 loop-again c =
     let at-copy = c .before .before in
-    let in-loop = at-copy .before .before .before in
-    let start = in-loop .before .before .before .args in
+    let in-loop = at-copy .before .before in
+    let start = begun (in-loop .before .before) .args in
     let turn = in-loop .before .loop in (
       omega arith,
       omega arith,
@@ -74,7 +78,7 @@ same-length : tie.Need-same-length Inv-loop μ-loop
 same-length c = size (c .before)
 
 returns : tie.Need-returns Inv-loop μ-loop
-returns c = let end : c .before .loop .i ≡ c .before .before .before .args .s = omega arith in rw end at (c .before .loop .inv .3)
+returns c = let end : c .before .loop .i ≡ begun (c .before .before) .args .s = omega arith in rw end at (c .before .loop .inv .3)
 
 pub rules-spec : {M : Type 1} → statement M
 rules-spec =
