@@ -3,7 +3,7 @@ use Prim.Native.Nat.{ℕ}
 use mathlib.Core.List.{List, [], _∷_, _++_}
 use Rattle.scheme.specs.declared.Scheme.{Scheme}
 use Rattle.scheme.specs.Tables.{tab}
-use Rattle.scheme.specs.Access.{ruleAt, premiumAt, sharedLower, sharedUpper, cellCount}
+use Rattle.scheme.specs.Access.{ruleAt, premiumAt, lowerAt, upperAt, cellCount}
 use Rattle.big_endian_spec.specs.Numbers.{beBytes}
 use Rattle.record_spec.specs.Joined.{joined}
 use Rattle.record_spec.specs.Layout.{Layout, END_WIDTH, lengthOf}
@@ -24,14 +24,14 @@ rulesOf s = joined (s .classes) (λ i. tab (cellCount s) (ruleAt s i))
 abbrev pub bandBytes : ℕ → ℕ → List ℕ
 bandBytes lower upper = beBytes END_WIDTH lower ++ beBytes END_WIDTH upper
 
--- The bands, column by column.
-abbrev pub bandsOf : Scheme → List ℕ
-bandsOf s = joined (cellCount s) (λ k. bandBytes (sharedLower s k) (sharedUpper s k))
+-- The bands of class i + 1, column by column.
+abbrev pub bandsOf : Scheme → ℕ → List ℕ
+bandsOf s i = joined (cellCount s) (λ k. bandBytes (lowerAt s i k) (upperAt s i k))
 
 -- The premiums, class by class.
 abbrev pub premiumsOf : Layout → Scheme → List ℕ
 premiumsOf y s = joined (s .classes) (λ i. beBytes (y .width) (premiumAt s i))
 
--- The record of a scheme.
+-- The record of a scheme: its bands are those of the first class, which all classes share.
 unfoldable pub bytesOf : Layout → Scheme → List ℕ
-bytesOf y s = headerOf y s ++ rulesOf s ++ bandsOf s ++ premiumsOf y s
+bytesOf y s = headerOf y s ++ rulesOf s ++ bandsOf s 0 ++ premiumsOf y s

@@ -72,7 +72,7 @@ rewritten bytes small e =
     let f = read-framed bytes e in
     let y : Layout = layoutIn bytes in
     let s : Scheme = schemeIn bytes in
-    let split : headerOf y s ++ rulesOf s ++ bandsOf s ++ premiumsOf y s ≡ headerOf y s ++ (rulesOf s ++ bandsOf s ++ premiumsOf y s) = simp append-assoc in
+    let split : headerOf y s ++ rulesOf s ++ bandsOf s 0 ++ premiumsOf y s ≡ headerOf y s ++ (rulesOf s ++ bandsOf s 0 ++ premiumsOf y s) = simp append-assoc in
     split
     ∙ ap₂ (λ a b. a ++ b) (header-put bytes small f) (body-put y bytes (classesIn bytes) (columnsIn bytes) small (f .classes) (f .columns) (f .whole))
     ∙ take-append-drop (headerLength y) bytes
@@ -82,7 +82,7 @@ module _ {y : Layout} (known : Known y) (s : Scheme) (accepted : causeOf s ≡ 0
   ok : Accepted s
   ok = accepted-cause s accepted
 
-  split : bytesOf y s ≡ headerOf y s ++ (rulesOf s ++ (bandsOf s ++ premiumsOf y s))
+  split : bytesOf y s ≡ headerOf y s ++ (rulesOf s ++ (bandsOf s 0 ++ premiumsOf y s))
   unfolding bytesOf
   split = simp append-assoc
 
@@ -111,23 +111,23 @@ module _ {y : Layout} (known : Known y) (s : Scheme) (accepted : causeOf s ≡ 0
 
   -- The values stand where the layout says.
   rule-at : (i k : ℕ) → i < s .classes → k < s .columns → getD (bytesOf y s) (rowPlace y (s .columns) i + k) 0 ≡ ruleAt s i k
-  rule-at i k is ks = ap (λ l. getD l (rowPlace y (s .columns) i + k) 0) split ∙ rule-read y s (headerOf y s) (length-header y s) i k is ks
+  rule-at i k is ks = ap (λ l. getD l (rowPlace y (s .columns) i + k) 0) split ∙ rule-read y s 0 (headerOf y s) (length-header y s) i k is ks
 
   lower-at : (i k : ℕ) → i < s .classes → k < s .columns → beAt END_WIDTH (bytesOf y s) (bandPlace y (s .classes) (s .columns) k) ≡ lowerAt s i k
   lower-at i k is ks =
       ap (λ l. beAt END_WIDTH l (bandPlace y (s .classes) (s .columns) k)) split
-      ∙ lower-read y s (headerOf y s) (length-header y s) k ks
+      ∙ lower-read y s 0 (headerOf y s) (length-header y s) k ks
       (omega (arith, ok .bands .ordered i k is ks, ok .bands .capped i k is ks))
 
   upper-at : (i k : ℕ) → i < s .classes → k < s .columns → beAt END_WIDTH (bytesOf y s) (bandPlace y (s .classes) (s .columns) k + END_WIDTH) ≡ upperAt s i k
   upper-at i k is ks =
       ap (λ l. beAt END_WIDTH l (bandPlace y (s .classes) (s .columns) k + END_WIDTH)) split
-      ∙ upper-read y s (headerOf y s) (length-header y s) k ks (omega (arith, ok .bands .capped i k is ks))
+      ∙ upper-read y s 0 (headerOf y s) (length-header y s) k ks (omega (arith, ok .bands .capped i k is ks))
 
   premium-at : (i : ℕ) → i < s .classes → beAt (y .width) (bytesOf y s) (premiumPlace y (s .classes) (s .columns) i) ≡ premiumAt s i
   premium-at i is =
       ap (λ l. beAt (y .width) l (premiumPlace y (s .classes) (s .columns) i)) split
-      ∙ premium-read y s (headerOf y s) (length-header y s) i is (omega (arith, ok .premiums .within i is, known .roomy))
+      ∙ premium-read y s 0 (headerOf y s) (length-header y s) i is (omega (arith, ok .premiums .within i is, known .roomy))
 
   by-layout : schemeFrom y (bytesOf y s) (s .classes) (s .columns) ≡ cleared s
   unfolding bytesOf headerBytes beBytes

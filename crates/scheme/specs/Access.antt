@@ -13,6 +13,10 @@ CELL_STRIDE = 8
 abbrev pub CELL_PLACES : ℕ
 CELL_PLACES = 256
 
+-- How many bands there is room for.
+abbrev pub BAND_PLACES : ℕ
+BAND_PLACES = 8
+
 -- How many cells a class has.
 abbrev pub cellCount : Scheme → ℕ
 cellCount s = s .columns

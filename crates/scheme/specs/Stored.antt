@@ -5,7 +5,7 @@ use lib.Dec.{ltb}
 use lib.ListN.{replicate}
 use Rattle.scheme.specs.declared.Scheme.{Scheme}
 use Rattle.scheme.specs.Tables.{tab}
-use Rattle.scheme.specs.Access.{CELL_STRIDE, CELL_PLACES, ruleAt, premiumAt, lowerAt, upperAt}
+use Rattle.scheme.specs.Access.{CELL_STRIDE, CELL_PLACES, ruleAt, premiumAt, lowerAt, upperAt, BAND_PLACES}
 
 -- f at an index below n, and 0 beyond.
 unfoldable pub upTo : ℕ → (ℕ → ℕ) → ℕ → ℕ
@@ -27,8 +27,8 @@ schemeOf s m start horizon rule lower upper premium = record {
   start = start;
   horizon = horizon;
   rules = tab CELL_PLACES (rulesUpTo s m rule);
-  lowers = tab CELL_STRIDE (bandsUpTo m lower);
-  uppers = tab CELL_STRIDE (bandsUpTo m upper);
+  lowers = tab BAND_PLACES (bandsUpTo m lower);
+  uppers = tab BAND_PLACES (bandsUpTo m upper);
   premiums = tab 32 (upTo s premium);
 }
 
@@ -44,7 +44,7 @@ noScheme = record {
   start = 0;
   horizon = 0;
   rules = replicate CELL_PLACES 0;
-  lowers = replicate CELL_STRIDE 0;
-  uppers = replicate CELL_STRIDE 0;
+  lowers = replicate BAND_PLACES 0;
+  uppers = replicate BAND_PLACES 0;
   premiums = replicate 32 0;
 }

@@ -2,7 +2,7 @@
 use mathlib.Core.Path.{_≡_, ap₂, sym, _∙_}
 use native.Mathlib.Omega.{arith}
 use lib.ListN.{length, length-map}
-use Rattle.scheme.specs.Access.{CELL_STRIDE, CELL_PLACES}
+use Rattle.scheme.specs.Access.{CELL_PLACES, BAND_PLACES}
 use Rattle.scheme.specs.FirstCause.{orElse}
 use Rattle.scheme.specs.Cause.{ruleOut, premiumOut}
 use Rattle.scheme.specs.Accepted.{SizeFits}
@@ -24,10 +24,10 @@ fits c = size-fits _ (c .before .form-cause .ensures) (c .if1 .left)
 rules-stored : (c : tie.Start) → length (c .args .t1 .rules) ≡ CELL_PLACES
 rules-stored c = sym (length-map (c .args .t1 .rules) (λ v. v)) ∙ c .good .0 .1 .1 .1 .1 .1 .1 .0 .1 .0 .1
 
-lowers-stored : (c : tie.Start) → length (c .args .t1 .lowers) ≡ CELL_STRIDE
+lowers-stored : (c : tie.Start) → length (c .args .t1 .lowers) ≡ BAND_PLACES
 lowers-stored c = sym (length-map (c .args .t1 .lowers) (λ v. v)) ∙ c .good .0 .1 .1 .1 .1 .1 .1 .1 .0 .1 .0 .1
 
-uppers-stored : (c : tie.Start) → length (c .args .t1 .uppers) ≡ CELL_STRIDE
+uppers-stored : (c : tie.Start) → length (c .args .t1 .uppers) ≡ BAND_PLACES
 uppers-stored c = sym (length-map (c .args .t1 .uppers) (λ v. v)) ∙ c .good .0 .1 .1 .1 .1 .1 .1 .1 .1 .0 .1 .0 .1
 
 premiums-stored : (c : tie.Start) → length (c .args .t1 .premiums) ≡ 32

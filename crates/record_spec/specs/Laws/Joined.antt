@@ -33,7 +33,7 @@ module _ (y : Layout) {s s′ : Scheme} (v : SameValues s s′) (some : 0 < s .c
       as-many (v .others .classes) _ _
       (λ i l. tab-eq 0 (s .columns) (ruleAt s i) (ruleAt s′ i) (λ k g. v .others .rules i k l g) ∙ ap (λ m. tab m (ruleAt s′ i)) (v .others .columns))
 
-  bands-same : bandsOf s ≡ bandsOf s′
+  bands-same : bandsOf s 0 ≡ bandsOf s′ 0
   bands-same = as-many (v .others .columns) _ _ (λ k g. ap₂ bandBytes (v .lowers 0 k some g) (v .uppers 0 k some g))
 
   premiums-same : premiumsOf y s ≡ premiumsOf y s′

@@ -8,7 +8,7 @@ use lib.ListN.{length, getD, take, drop, length-drop, List·getD-append}
 use lib.Seq.{take-add, drop-drop, take-all, getD-append-add}
 use Rattle.scheme.specs.declared.Scheme.{Scheme}
 use Rattle.scheme.specs.Tables.{tab}
-use Rattle.scheme.specs.Access.{ruleAt, premiumAt, sharedLower, sharedUpper}
+use Rattle.scheme.specs.Access.{ruleAt, premiumAt, lowerAt, upperAt}
 use Rattle.scheme.specs.Laws.Tab.{length-tab, getD-tab, tab-eq}
 use Rattle.big_endian_spec.specs.Numbers.{beAt, beBytes}
 use Rattle.record_spec.specs.Joined.{joined}
@@ -40,16 +40,16 @@ module _ (y : Layout) (bytes : List ℕ) (s m : ℕ) (small : (k : ℕ) → getD
       ∙ tab-part m (rowPlace y m i) bytes (omega (arith, mul-le-mul-right m is)))
       ∙ joined-parts m (headerLength y) s bytes
 
-  band-put : (k : ℕ) → k < m → bandBytes (sharedLower found k) (sharedUpper found k) ≡ take BAND_WIDTH (drop (bandPlace y s m k) bytes)
+  band-put : (k : ℕ) → k < m → bandBytes (lowerAt found 0 k) (upperAt found 0 k) ≡ take BAND_WIDTH (drop (bandPlace y s m k) bytes)
   band-put k ks =
       let at : ℕ = bandPlace y s m k in
-      let lower : sharedLower found k ≡ beAt END_WIDTH bytes at = lower-made _ _ _ _ _ _ _ _ 0 k few ks in
-      let upper : sharedUpper found k ≡ beAt END_WIDTH bytes (at + END_WIDTH) = upper-made _ _ _ _ _ _ _ _ 0 k few ks in
+      let lower : lowerAt found 0 k ≡ beAt END_WIDTH bytes at = lower-made _ _ _ _ _ _ _ _ 0 k few ks in
+      let upper : upperAt found 0 k ≡ beAt END_WIDTH bytes (at + END_WIDTH) = upper-made _ _ _ _ _ _ _ _ 0 k few ks in
       ap₂ (λ a b. bandBytes a b) lower upper
       ∙ ap₂ (λ a b. a ++ b) (put-read 4 bytes at (omega arith) small) (put-read 4 bytes (at + END_WIDTH) (omega arith) small)
       ∙ sym (take-add 4 4 (drop at bytes) ∙ ap (λ l. take 4 (drop at bytes) ++ take 4 l) (drop-drop 4 at bytes))
 
-  bands-put : joined m (λ k. bandBytes (sharedLower found k) (sharedUpper found k)) ≡ take (m * BAND_WIDTH) (drop (headerLength y + s * m) bytes)
+  bands-put : joined m (λ k. bandBytes (lowerAt found 0 k) (upperAt found 0 k)) ≡ take (m * BAND_WIDTH) (drop (headerLength y + s * m) bytes)
   bands-put = joined-eq m _ (λ k. take BAND_WIDTH (drop (bandPlace y s m k) bytes)) band-put ∙ joined-parts BAND_WIDTH (headerLength y + s * m) m bytes
 
   premiums-put : joined s (λ i. beBytes (y .width) (premiumAt found i)) ≡ take (s * y .width) (drop (headerLength y + s * m + m * BAND_WIDTH) bytes)
@@ -60,7 +60,7 @@ module _ (y : Layout) (bytes : List ℕ) (s m : ℕ) (small : (k : ℕ) → getD
       ∙ put-read (y .width) bytes (premiumPlace y s m i) (omega (arith, mul-le-mul-right (y .width) is)) small)
       ∙ joined-parts (y .width) (headerLength y + s * m + m * BAND_WIDTH) s bytes
 
-  pub body-put : rulesOf found ++ bandsOf found ++ premiumsOf y found ≡ drop (headerLength y) bytes
+  pub body-put : rulesOf found ++ bandsOf found 0 ++ premiumsOf y found ≡ drop (headerLength y) bytes
   unfolding schemeOf
   body-put =
       let h : ℕ = headerLength y in
@@ -77,12 +77,12 @@ module _ (y : Layout) (bytes : List ℕ) (s m : ℕ) (small : (k : ℕ) → getD
       let all : take size (drop h bytes) ≡ drop h bytes = take-all size (drop h bytes) (rw (length-drop h bytes) (omega arith)) in
       rw (rules-put, bands-put, premiums-put, two, three, all)
 
--- Read after put: behind any header, the values of the scheme stand where the layout says.
-module _ (y : Layout) (s : Scheme) (front : List ℕ) (size : length front ≡ headerLength y) where
+-- Read after put: behind any header, the values of the scheme stand where the layout says, with the bands of class c + 1.
+module _ (y : Layout) (s : Scheme) (c : ℕ) (front : List ℕ) (size : length front ≡ headerLength y) where
   abbrev laidOut : List ℕ
-  laidOut = front ++ (rulesOf s ++ (bandsOf s ++ premiumsOf y s))
+  laidOut = front ++ (rulesOf s ++ (bandsOf s c ++ premiumsOf y s))
 
-  behind : (p : ℕ) → getD laidOut (headerLength y + p) 0 ≡ getD (rulesOf s ++ (bandsOf s ++ premiumsOf y s)) p 0
+  behind : (p : ℕ) → getD laidOut (headerLength y + p) 0 ≡ getD (rulesOf s ++ (bandsOf s c ++ premiumsOf y s)) p 0
   behind p = ap (λ n. getD laidOut (n + p) 0) (sym size) ∙ getD-append-add front _ p 0
 
   pub rule-read : (i k : ℕ) → i < s .classes → k < s .columns → getD laidOut (rowPlace y (s .columns) i + k) 0 ≡ ruleAt s i k
@@ -93,49 +93,49 @@ module _ (y : Layout) (s : Scheme) (front : List ℕ) (size : length front ≡ h
       ∙ getD-joined m (s .classes) (λ j. tab m (ruleAt s j)) (λ j lt. length-tab m (ruleAt s j)) i k is ks
       ∙ getD-tab m (ruleAt s i) k 0 ks
 
-  past-rules : (p : ℕ) → getD laidOut (headerLength y + s .classes * s .columns + p) 0 ≡ getD (bandsOf s ++ premiumsOf y s) p 0
+  past-rules : (p : ℕ) → getD laidOut (headerLength y + s .classes * s .columns + p) 0 ≡ getD (bandsOf s c ++ premiumsOf y s) p 0
   past-rules p =
       let n : ℕ = s .classes * s .columns in
       let e : n + p ≡ length (rulesOf s) + p = ap (λ k. k + p) (sym (length-rules y s)) in
       ap (λ q. getD laidOut q 0) (add-assoc (headerLength y) n p) ∙ behind (n + p)
-      ∙ rw e (getD-append-add (rulesOf s) (bandsOf s ++ premiumsOf y s) p 0)
+      ∙ rw e (getD-append-add (rulesOf s) (bandsOf s c ++ premiumsOf y s) p 0)
 
   -- Byte j of the band of column k.
   band-byte : (k j : ℕ) → k < s .columns → j < BAND_WIDTH
-      → getD laidOut (bandPlace y (s .classes) (s .columns) k + j) 0 ≡ getD (bandBytes (sharedLower s k) (sharedUpper s k)) j 0
+      → getD laidOut (bandPlace y (s .classes) (s .columns) k + j) 0 ≡ getD (bandBytes (lowerAt s c k) (upperAt s c k)) j 0
   band-byte k j ks js =
       let from : ℕ = headerLength y + s .classes * s .columns in
       ap (λ q. getD laidOut q 0) (add-assoc from (k * BAND_WIDTH) j) ∙ past-rules (k * BAND_WIDTH + j)
-      ∙ List·getD-append (bandsOf s) _ 0 (k * BAND_WIDTH + j) (omega (arith, length-bands y s, within (s .columns) BAND_WIDTH k j ks js))
-      ∙ getD-joined BAND_WIDTH (s .columns) (λ c. bandBytes (sharedLower s c) (sharedUpper s c)) (λ c lt. length-band (sharedLower s c) (sharedUpper s c)) k j ks js
+      ∙ List·getD-append (bandsOf s c) _ 0 (k * BAND_WIDTH + j) (omega (arith, length-bands y s c, within (s .columns) BAND_WIDTH k j ks js))
+      ∙ getD-joined BAND_WIDTH (s .columns) (λ q. bandBytes (lowerAt s c q) (upperAt s c q)) (λ q lt. length-band (lowerAt s c q) (upperAt s c q)) k j ks js
 
-  pub lower-read : (k : ℕ) → k < s .columns → sharedLower s k < 256 ^ END_WIDTH → beAt END_WIDTH laidOut (bandPlace y (s .classes) (s .columns) k) ≡ sharedLower s k
+  pub lower-read : (k : ℕ) → k < s .columns → lowerAt s c k < 256 ^ END_WIDTH → beAt END_WIDTH laidOut (bandPlace y (s .classes) (s .columns) k) ≡ lowerAt s c k
   lower-read k ks fits =
-      let low : List ℕ = beBytes END_WIDTH (sharedLower s k) in
+      let low : List ℕ = beBytes END_WIDTH (lowerAt s c k) in
       beAt-eq 4 laidOut (bandPlace y (s .classes) (s .columns) k) low 0
       (λ j js.
       band-byte k j ks (omega arith)
-      ∙ List·getD-append low _ 0 j (omega (arith, length-beBytes END_WIDTH (sharedLower s k)))
+      ∙ List·getD-append low _ 0 j (omega (arith, length-beBytes END_WIDTH (lowerAt s c k)))
       ∙ ap (λ n. getD low n 0) (zero-plus j))
-      ∙ read-put 4 (sharedLower s k) fits
+      ∙ read-put 4 (lowerAt s c k) fits
     where
       zero-plus : (j : ℕ) → j ≡ 0 + j
       zero-plus j = omega arith
 
-  pub upper-read : (k : ℕ) → k < s .columns → sharedUpper s k < 256 ^ END_WIDTH → beAt END_WIDTH laidOut (bandPlace y (s .classes) (s .columns) k + END_WIDTH) ≡ sharedUpper s k
+  pub upper-read : (k : ℕ) → k < s .columns → upperAt s c k < 256 ^ END_WIDTH → beAt END_WIDTH laidOut (bandPlace y (s .classes) (s .columns) k + END_WIDTH) ≡ upperAt s c k
   upper-read k ks fits =
-      let low : List ℕ = beBytes END_WIDTH (sharedLower s k) in
-      let high : List ℕ = beBytes END_WIDTH (sharedUpper s k) in
+      let low : List ℕ = beBytes END_WIDTH (lowerAt s c k) in
+      let high : List ℕ = beBytes END_WIDTH (upperAt s c k) in
       let from : ℕ = bandPlace y (s .classes) (s .columns) k in
       beAt-eq 4 laidOut (from + END_WIDTH) high 0
       (λ j js.
       ap (λ q. getD laidOut q 0) (add-assoc from 4 j) ∙ band-byte k (4 + j) ks (omega arith)
       ∙ ap (λ n. getD (low ++ high) n 0) (past j)
       ∙ getD-append-add low high (0 + j) 0)
-      ∙ read-put 4 (sharedUpper s k) fits
+      ∙ read-put 4 (upperAt s c k) fits
     where
-      past : (j : ℕ) → 4 + j ≡ length (beBytes END_WIDTH (sharedLower s k)) + (0 + j)
-      past j = omega (arith, length-beBytes END_WIDTH (sharedLower s k))
+      past : (j : ℕ) → 4 + j ≡ length (beBytes END_WIDTH (lowerAt s c k)) + (0 + j)
+      past j = omega (arith, length-beBytes END_WIDTH (lowerAt s c k))
 
   pub premium-read : (i : ℕ) → i < s .classes → premiumAt s i < 256 ^ y .width
       → beAt (y .width) laidOut (premiumPlace y (s .classes) (s .columns) i) ≡ premiumAt s i
@@ -143,9 +143,9 @@ module _ (y : Layout) (s : Scheme) (front : List ℕ) (size : length front ≡ h
       beAt-eq w laidOut (premiumPlace y (s .classes) (s .columns) i) (beBytes w (premiumAt s i)) 0
       (λ j js.
       ap (λ q. getD laidOut q 0) (place j) ∙ past-rules (m * BAND_WIDTH + (i * w + j))
-      ∙ ap (λ n. getD (bandsOf s ++ premiumsOf y s) n 0) (after j)
-      ∙ getD-append-add (bandsOf s) (premiumsOf y s) (i * w + j) 0
-      ∙ getD-joined w (s .classes) (λ c. beBytes w (premiumAt s c)) (λ c lt. length-beBytes w (premiumAt s c)) i j is js
+      ∙ ap (λ n. getD (bandsOf s c ++ premiumsOf y s) n 0) (after j)
+      ∙ getD-append-add (bandsOf s c) (premiumsOf y s) (i * w + j) 0
+      ∙ getD-joined w (s .classes) (λ q. beBytes w (premiumAt s q)) (λ q lt. length-beBytes w (premiumAt s q)) i j is js
       ∙ ap (λ n. getD (beBytes w (premiumAt s i)) n 0) (zero-plus j))
       ∙ read-put w (premiumAt s i) fits
     where
@@ -161,5 +161,5 @@ module _ (y : Layout) (s : Scheme) (front : List ℕ) (size : length front ≡ h
       place : (j : ℕ) → premiumPlace y (s .classes) m i + j ≡ headerLength y + s .classes * m + (m * BAND_WIDTH + (i * w + j))
       place j = omega arith
 
-      after : (j : ℕ) → m * BAND_WIDTH + (i * w + j) ≡ length (bandsOf s) + (i * w + j)
-      after j = omega (arith, length-bands y s)
+      after : (j : ℕ) → m * BAND_WIDTH + (i * w + j) ≡ length (bandsOf s c) + (i * w + j)
+      after j = omega (arith, length-bands y s c)

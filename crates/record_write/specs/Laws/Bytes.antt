@@ -6,7 +6,7 @@ use native.Mathlib.Omega.{arith}
 use lib.ListN.{length, getD, drop, length-append, List·getD-append}
 use lib.Seq.{sets, getD-append-add}
 use Rattle.scheme.specs.declared.Scheme.{Scheme}
-use Rattle.scheme.specs.Access.{CELL_STRIDE, ruleAt, premiumAt, sharedLower, sharedUpper}
+use Rattle.scheme.specs.Access.{CELL_STRIDE, ruleAt, premiumAt, lowerAt, upperAt}
 use Rattle.big_endian_spec.specs.Numbers.{beBytes}
 use Rattle.record_spec.specs.Joined.{joined}
 use Rattle.record_spec.specs.Write.{recordOf, recordLength}
@@ -36,8 +36,8 @@ module _ (y : Layout) (s : Scheme) where
   pub length-rules : length (rulesOf s) ≡ s .classes * s .columns
   length-rules = length-joined (s .columns) (s .classes) _ (λ i lt. length-tab (s .columns) (ruleAt s i))
 
-  pub length-bands : length (bandsOf s) ≡ s .columns * BAND_WIDTH
-  length-bands = length-joined BAND_WIDTH (s .columns) _ (λ k lt. length-band (sharedLower s k) (sharedUpper s k))
+  pub length-bands : (i : ℕ) → length (bandsOf s i) ≡ s .columns * BAND_WIDTH
+  length-bands i = length-joined BAND_WIDTH (s .columns) _ (λ k lt. length-band (lowerAt s i k) (upperAt s i k))
 
   pub length-premiums : length (premiumsOf y s) ≡ s .classes * y .width
   length-premiums = length-joined (y .width) (s .classes) _ (λ i lt. length-beBytes (y .width) (premiumAt s i))
@@ -46,18 +46,18 @@ module _ (y : Layout) (s : Scheme) where
   pub length-bytes : length (bytesOf y s) ≡ lengthOf y (s .classes) (s .columns)
   unfolding bytesOf
   length-bytes =
-      let whole : length (bytesOf y s) ≡ length (headerOf y s) + length (rulesOf s) + length (bandsOf s) + length (premiumsOf y s) = simp length-append in
-      omega (arith, whole, length-header, length-rules, length-bands, length-premiums)
+      let whole : length (bytesOf y s) ≡ length (headerOf y s) + length (rulesOf s) + length (bandsOf s 0) + length (premiumsOf y s) = simp length-append in
+      omega (arith, whole, length-header, length-rules, length-bands 0, length-premiums)
 
   -- The parts laid one by one, each where the last one ends.
   pub laid : (l : List ℕ) → lengthOf y (s .classes) (s .columns) ≤ length l
-      → sets (sets (sets (sets l 0 (headerOf y s)) (headerLength y) (rulesOf s)) (headerLength y + s .classes * s .columns) (bandsOf s))
+      → sets (sets (sets (sets l 0 (headerOf y s)) (headerLength y) (rulesOf s)) (headerLength y + s .classes * s .columns) (bandsOf s 0))
       (headerLength y + s .classes * s .columns + s .columns * BAND_WIDTH) (premiumsOf y s)
       ≡ bytesOf y s ++ drop (lengthOf y (s .classes) (s .columns)) l
   unfolding bytesOf
   laid l fits =
-      sets-4 l (headerOf y s) (rulesOf s) (bandsOf s) (premiumsOf y s) (headerLength y) _ _ length-header (ap (λ n. headerLength y + n) length-rules)
-      (ap (λ n. headerLength y + s .classes * s .columns + n) length-bands)
+      sets-4 l (headerOf y s) (rulesOf s) (bandsOf s 0) (premiumsOf y s) (headerLength y) _ _ length-header (ap (λ n. headerLength y + n) length-rules)
+      (ap (λ n. headerLength y + s .classes * s .columns + n) (length-bands 0))
       ∙ sets-front l (bytesOf y s) (omega (arith, length-bytes))
       ∙ ap (λ n. bytesOf y s ++ drop n l) length-bytes
 

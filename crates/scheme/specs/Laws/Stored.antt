@@ -8,7 +8,7 @@ use lib.ListN.{getD}
 use borrow.Author.Tests.{lt-ltb, le-ltb}
 use Rattle.scheme.specs.declared.Scheme.{Scheme}
 use Rattle.scheme.specs.Tables.{tab}
-use Rattle.scheme.specs.Access.{CELL_STRIDE, CELL_PLACES, ruleAt, lowerAt, upperAt, premiumAt}
+use Rattle.scheme.specs.Access.{CELL_STRIDE, CELL_PLACES, ruleAt, lowerAt, upperAt, premiumAt, BAND_PLACES}
 use Rattle.scheme.specs.Stored.{upTo, rulesUpTo, bandsUpTo, schemeOf, cleared, noScheme}
 use Rattle.scheme.specs.Laws.Tab.{getD-tab, tab-eq}
 
@@ -68,11 +68,11 @@ module _ (s m start horizon : ℕ) (rule lower upper : ℕ → ℕ → ℕ) (pre
 
   pub lower-made : (i k : ℕ) → m ≤ 8 → k < m → lowerAt made i k ≡ lower 0 k
   unfolding schemeOf
-  lower-made i k few ks = stored-at CELL_STRIDE m (lower 0) k (omega arith) ks
+  lower-made i k few ks = stored-at BAND_PLACES m (lower 0) k (omega arith) ks
 
   pub upper-made : (i k : ℕ) → m ≤ 8 → k < m → upperAt made i k ≡ upper 0 k
   unfolding schemeOf
-  upper-made i k few ks = stored-at CELL_STRIDE m (upper 0) k (omega arith) ks
+  upper-made i k few ks = stored-at BAND_PLACES m (upper 0) k (omega arith) ks
 
   pub premium-made : (i : ℕ) → s ≤ 32 → i < s → premiumAt made i ≡ premium i
   unfolding schemeOf
@@ -81,7 +81,7 @@ module _ (s m start horizon : ℕ) (rule lower upper : ℕ → ℕ → ℕ) (pre
   -- "every operation that makes a scheme sets them to 0".
   pub made-cleared : cleared made ≡ made
   unfolding schemeOf
-  made-cleared = rw (rules-again s m rule, stored-again CELL_STRIDE m (lower 0), stored-again CELL_STRIDE m (upper 0), stored-again 32 s premium)
+  made-cleared = rw (rules-again s m rule, stored-again BAND_PLACES m (lower 0), stored-again BAND_PLACES m (upper 0), stored-again 32 s premium)
 
   -- Schemes made from values that are equal up to s and m are equal.
   pub made-eq : (rule′ lower′ upper′ : ℕ → ℕ → ℕ) (premium′ : ℕ → ℕ) → 0 < s
@@ -95,8 +95,8 @@ module _ (s m start horizon : ℕ) (rule lower upper : ℕ → ℕ → ℕ) (pre
       let rules : tab CELL_PLACES (rulesUpTo s m rule) ≡ tab CELL_PLACES (rulesUpTo s m rule′) =
       tab-eq 0 CELL_PLACES _ _ (λ q lt. upTo-eq s _ _ (q / CELL_STRIDE) (λ is. upTo-eq m _ _ (q % CELL_STRIDE) (λ ks. er (q / CELL_STRIDE) (q % CELL_STRIDE) is ks)))
       in
-      let lowers : tab CELL_STRIDE (bandsUpTo m lower) ≡ tab CELL_STRIDE (bandsUpTo m lower′) = tab-eq 0 CELL_STRIDE _ _ (λ k lt. upTo-eq m _ _ k (el 0 k some)) in
-      let uppers : tab CELL_STRIDE (bandsUpTo m upper) ≡ tab CELL_STRIDE (bandsUpTo m upper′) = tab-eq 0 CELL_STRIDE _ _ (λ k lt. upTo-eq m _ _ k (eu 0 k some)) in
+      let lowers : tab BAND_PLACES (bandsUpTo m lower) ≡ tab BAND_PLACES (bandsUpTo m lower′) = tab-eq 0 BAND_PLACES _ _ (λ k lt. upTo-eq m _ _ k (el 0 k some)) in
+      let uppers : tab BAND_PLACES (bandsUpTo m upper) ≡ tab BAND_PLACES (bandsUpTo m upper′) = tab-eq 0 BAND_PLACES _ _ (λ k lt. upTo-eq m _ _ k (eu 0 k some)) in
       let premiums : tab 32 (upTo s premium) ≡ tab 32 (upTo s premium′) = tab-eq 0 32 _ _ (λ i lt. upTo-eq s _ _ i (ep i)) in
       rw (rules, lowers, uppers, premiums)
 

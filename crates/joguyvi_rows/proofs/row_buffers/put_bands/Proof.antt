@@ -3,7 +3,7 @@
 use mathlib.Core.Path.{_≡_, ap, sym, _∙_}
 use native.Mathlib.Omega.{arith}
 use lib.ListN.{length, length-map}
-use Rattle.scheme.specs.Access.{CELL_STRIDE, sharedLower, sharedUpper}
+use Rattle.scheme.specs.Access.{sharedLower, sharedUpper, BAND_PLACES}
 use Rattle.scheme.specs.Tables.{tab}
 use Rattle.joguyvi_spec.specs.Laws.Buffers.{buffer-sizes, unfilled}
 use borrow.Author.Needs.{needs}
@@ -29,10 +29,10 @@ returns : tie.Need-returns
 returns c = record { answer = c .before .slices-cause .ensures; filled = unfilled _ _ (c .if1 .taken); otherFilled = unfilled _ _ (c .if1 .taken) }
 
 -- Owning the scheme tells how long the arrays in its sixth and seventh field are.
-lowers-stored : (c : tie.Start) → length (c .args .t1 .lowers) ≡ CELL_STRIDE
+lowers-stored : (c : tie.Start) → length (c .args .t1 .lowers) ≡ BAND_PLACES
 lowers-stored c = sym (length-map (c .args .t1 .lowers) (λ v. v)) ∙ c .good .0 .1 .1 .1 .1 .1 .1 .1 .0 .1 .0 .1
 
-uppers-stored : (c : tie.Start) → length (c .args .t1 .uppers) ≡ CELL_STRIDE
+uppers-stored : (c : tie.Start) → length (c .args .t1 .uppers) ≡ BAND_PLACES
 uppers-stored c = sym (length-map (c .args .t1 .uppers) (λ v. v)) ∙ c .good .0 .1 .1 .1 .1 .1 .1 .1 .1 .0 .1 .0 .1
 
 -- The places passed, each from a later one.

@@ -5,7 +5,7 @@ use mathlib.Core.List.{List}
 use native.Mathlib.Omega.{arith}
 use native.Mathlib.Nat.{mul-le-mul}
 use lib.ListN.{length, getD}
-use Rattle.scheme.specs.Access.{CELL_STRIDE, CELL_PLACES}
+use Rattle.scheme.specs.Access.{CELL_PLACES, BAND_PLACES}
 use Rattle.scheme.specs.declared.Scheme.{Scheme}
 use Rattle.scheme.specs.Tables.{tab}
 use Rattle.big_endian_spec.specs.Numbers.{beAt}
@@ -29,15 +29,15 @@ places c =
 
 -- An upper end stands behind the lower end.
 upper-places : (bytes : List ℕ) (p n : ℕ)
-    → tab CELL_STRIDE (upTo n (λ k. beAt END_WIDTH bytes (p + END_WIDTH + k * BAND_WIDTH))) ≡ tab CELL_STRIDE (upTo n (λ k. beAt END_WIDTH bytes (p + k * BAND_WIDTH + END_WIDTH)))
+    → tab BAND_PLACES (upTo n (λ k. beAt END_WIDTH bytes (p + END_WIDTH + k * BAND_WIDTH))) ≡ tab BAND_PLACES (upTo n (λ k. beAt END_WIDTH bytes (p + k * BAND_WIDTH + END_WIDTH)))
 upper-places bytes p n =
-    tab-eq 0 CELL_STRIDE _ _ (λ k lt. upTo-eq n _ _ k (λ less. let e : p + END_WIDTH + k * BAND_WIDTH ≡ p + k * BAND_WIDTH + END_WIDTH = omega arith in ap (beAt END_WIDTH bytes) e))
+    tab-eq 0 BAND_PLACES _ _ (λ k lt. upTo-eq n _ _ k (λ less. let e : p + END_WIDTH + k * BAND_WIDTH ≡ p + k * BAND_WIDTH + END_WIDTH = omega arith in ap (beAt END_WIDTH bytes) e))
 
 -- The scheme of the parts that were read.
 made : (bytes : List ℕ) {rules lowers uppers premiums : List ℕ}
     → rules ≡ tab CELL_PLACES (rulesUpTo (classesIn bytes) (columnsIn bytes) (λ i k. getD bytes (HEADER + i * columnsIn bytes + k) 0))
-    → lowers ≡ tab CELL_STRIDE (upTo (columnsIn bytes) (λ k. beAt END_WIDTH bytes (HEADER + classesIn bytes * columnsIn bytes + k * BAND_WIDTH)))
-    → uppers ≡ tab CELL_STRIDE (upTo (columnsIn bytes) (λ k. beAt END_WIDTH bytes (HEADER + classesIn bytes * columnsIn bytes + END_WIDTH + k * BAND_WIDTH)))
+    → lowers ≡ tab BAND_PLACES (upTo (columnsIn bytes) (λ k. beAt END_WIDTH bytes (HEADER + classesIn bytes * columnsIn bytes + k * BAND_WIDTH)))
+    → uppers ≡ tab BAND_PLACES (upTo (columnsIn bytes) (λ k. beAt END_WIDTH bytes (HEADER + classesIn bytes * columnsIn bytes + END_WIDTH + k * BAND_WIDTH)))
     → premiums ≡ tab 32 (upTo (classesIn bytes) (λ i. beAt 4 bytes (HEADER + classesIn bytes * columnsIn bytes + columnsIn bytes * BAND_WIDTH + i * 4)))
     → _≡_ {A = Scheme}
     record { classes = classesIn bytes; columns = columnsIn bytes; start = getD bytes 5 0; horizon = getD bytes 6 0; rules = rules; lowers = lowers; uppers = uppers; premiums = premiums }

@@ -4,7 +4,7 @@ use mathlib.Core.Path.{_≡_, sym, _∙_}
 use native.Mathlib.Omega.{arith}
 use native.Mathlib.Nat.{mul-le-mul}
 use lib.ListN.{length, length-map}
-use Rattle.scheme.specs.Access.{CELL_STRIDE, CELL_PLACES}
+use Rattle.scheme.specs.Access.{CELL_PLACES, BAND_PLACES}
 use Rattle.record_spec.specs.Layout.{HEADER, BAND_WIDTH, version1, lengthOf}
 use Rattle.record_write.specs.Laws.Bytes.{wrote}
 use borrow.Author.Needs.{needs}
@@ -27,10 +27,10 @@ places c =
 rules-stored : (c : tie.Start) → length (c .args .t1 .rules) ≡ CELL_PLACES
 rules-stored c = sym (length-map (c .args .t1 .rules) (λ v. v)) ∙ c .good .0 .1 .1 .1 .1 .1 .1 .0 .1 .0 .1
 
-lowers-stored : (c : tie.Start) → length (c .args .t1 .lowers) ≡ CELL_STRIDE
+lowers-stored : (c : tie.Start) → length (c .args .t1 .lowers) ≡ BAND_PLACES
 lowers-stored c = sym (length-map (c .args .t1 .lowers) (λ v. v)) ∙ c .good .0 .1 .1 .1 .1 .1 .1 .1 .0 .1 .0 .1
 
-uppers-stored : (c : tie.Start) → length (c .args .t1 .uppers) ≡ CELL_STRIDE
+uppers-stored : (c : tie.Start) → length (c .args .t1 .uppers) ≡ BAND_PLACES
 uppers-stored c = sym (length-map (c .args .t1 .uppers) (λ v. v)) ∙ c .good .0 .1 .1 .1 .1 .1 .1 .1 .1 .0 .1 .0 .1
 
 premiums-stored : (c : tie.Start) → length (c .args .t1 .premiums) ≡ 32
