@@ -6,7 +6,7 @@ ghost use Rattle.scheme.specs.Cause.{causeOf};
 
 mod tests;
 
-// The first cause that applies to the scheme, tests in number order, or 0.
+// The first cause that applies to the scheme, tests in their order, or 0.
 pub fn cause(scheme: Scheme) -> u8
     ensures { λ r. ⌜ r ≡ causeOf scheme ⌝ }
 {

@@ -1,6 +1,6 @@
 // The tests of acceptance, each over the numbers that it is about.
 ghost use mathlib.Core.Path.{_≡_};
-ghost use mathlib.Core.Bool.{cond, _||_};
+ghost use mathlib.Core.Bool.{_||_};
 ghost use Prim.Native.Nat.{_+_, _*_, _≤_};
 ghost use lib.Dec.{ltb};
 ghost use lib.ListN.{getD, length};
@@ -8,6 +8,7 @@ ghost use Rattle.scheme.specs.Access.{CELL_STRIDE};
 ghost use Rattle.setchain.specs.Sums.{sumTo};
 ghost use Rattle.setchain.specs.Rows.{ONE};
 ghost use Rattle.scheme.specs.Tables.{anyBelow};
+ghost use Rattle.scheme.specs.FirstCause.{_when_};
 ghost use Rattle.scheme.specs.Cause.{outside, bandTest};
 ghost use Rattle.scheme.specs.Stages.{formCause, bandCause, limitCause};
 use scheme::outside;
@@ -49,7 +50,7 @@ fn row_out(rules: &[u8], from: usize, classes: u8, columns: u8) -> bool
 // Some rule of some class is outside 1 to s.
 pub fn rule_cause(rules: &[u8], classes: u8, columns: u8) -> u8
     requires { ⌜ (classes * CELL_STRIDE ≤ length (now rules)) × (columns ≤ CELL_STRIDE) ⌝ }
-    ensures { λ r. ⌜ r ≡ cond (anyBelow classes (λ i. anyBelow columns (λ k. outside classes (getD (now (rules .entry)) (i * CELL_STRIDE + k) 0)))) 7 0 ⌝ }
+    ensures { λ r. ⌜ r ≡ 7 when anyBelow classes (λ i. anyBelow columns (λ k. outside classes (getD (now (rules .entry)) (i * CELL_STRIDE + k) 0))) ⌝ }
 {
     let n = classes as usize;
     let mut i: usize = 0;

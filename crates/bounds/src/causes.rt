@@ -1,17 +1,17 @@
-// The causes for which a query of a scheme is declined, tests in number order (document 01, "When a call is declined").
+// The causes for which a query of a scheme is declined, tests in their order (document 01, "When a call is declined").
 use crate::table_size;
 use scheme::Scheme;
 use scheme::or_else;
 use scheme::slices_cause;
 ghost use mathlib.Core.Path.{_≡_};
-ghost use mathlib.Core.Bool.{cond};
 ghost use lib.Dec.{ltb};
+ghost use Rattle.scheme.specs.FirstCause.{_when_};
 ghost use Rattle.scheme.specs.Cause.{outside};
 ghost use Rattle.bounds_spec.specs.Causes.{moneyCause, shareCause, sheetLengthsCause, tableLengthsCause};
 
 // Cause 11: a class that is not one of 1 to s.
 fn class_cause(classes: u8, class: u64) -> u8
-    ensures { λ r. ⌜ r ≡ cond (outside classes class) 11 0 ⌝ }
+    ensures { λ r. ⌜ r ≡ 11 when outside classes class ⌝ }
 {
     if scheme::class_out(classes, class) {
         return scheme::CLASS_OUT;
@@ -21,7 +21,7 @@ fn class_cause(classes: u8, class: u64) -> u8
 
 // Cause 12: a year above the horizon.
 fn year_cause(horizon: u8, year: u64) -> u8
-    ensures { λ r. ⌜ r ≡ cond (ltb horizon year) 12 0 ⌝ }
+    ensures { λ r. ⌜ r ≡ 12 when ltb horizon year ⌝ }
 {
     if (horizon as u64) < year {
         return scheme::YEAR_OUT;

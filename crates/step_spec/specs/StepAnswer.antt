@@ -29,7 +29,7 @@ classRow s class = chainOf s .row (class - 1)
 
 -- What the low step answers (`high` is false), and the high step (`high` is true).
 pub record StepAnswered (high : Bool) (s : Scheme) (payoff : List ℕ) (class : ℕ) (r : StepAnswer) : Type 0 where
-  -- The first cause that applies, tests in number order, or 0.
+  -- The first cause that applies, tests in their order, or 0.
   pub number : r .number ≡ stepCause s payoff class
   -- The low figure of the class (for the high step: the high figure); 0 where the call is declined.
   pub figure : r .figure ≡ cond (eqb (stepCause s payoff class) 0) (stepFigure high (s .classes) (classRow s class) (at payoff)) 0
