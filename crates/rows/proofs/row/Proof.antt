@@ -44,7 +44,7 @@ rules-stored c = sym (length-map (c .args .t1 .rules) (λ v. v)) ∙ c .good .0 
 
 -- The place of the second test, from the call that follows it.
 abbrev tested : tie.After-answered-arg6 → tie.Else2
-tested c = let lent = c .before .before .before .before .before in lent .before .before
+tested c = let numbered = c .before .before .before in let lent = numbered .before .before .before in lent .before
 
 answered-requires : tie.Need-answered-requires
 answered-requires c κs =

@@ -20,7 +20,7 @@ cast-n c = search needs
 
 -- The start, from the call.
 abbrev begun : tie.After-list-rows-arg8 → tie.Start
-begun c = let lent = c .before .before .before .before in lent .before .before .before .before .before
+begun c = let numbered = c .before .before .before .before in let lent = numbered .before .before .before in lent .before .before
 
 list-rows-requires : tie.Need-list-rows-requires
 list-rows-requires c κs = let start = begun c in scheme-lists (start .args .t1) (start .pre .0) (rules-stored start) (start .pre .1)

@@ -49,7 +49,7 @@ put-number-requires : tie.Need-put-number-requires Inv-loop μ-loop
 put-number-requires c κs = search needs
 
 add-to : tie.Need-add-to Inv-loop μ-loop
-add-to c = let in-loop = c .before .before .before .before .before in omega (arith, room in-loop, size (in-loop .before))
+add-to c = let at-put = c .before .before in let in-loop = at-put .before .before .before in omega (arith, room in-loop, size (in-loop .before))
 
 add-j : tie.Need-add-j Inv-loop μ-loop
 add-j c = omega arith

@@ -41,7 +41,8 @@ returns c =
     let at-uppers = c .before in
     let at-entries = at-uppers .before in
     let at-lowers = at-entries .before in
-    let start = at-lowers .before .before .before .before .before in
+    let at-own = at-lowers .before in
+    let start = at-own .before .before .before .before in
     let a = start .args in
     row-made (a .rules .now) (a .lowers .now) (a .uppers .now) (a .columns) (a .classes) (a .class - 1)
     (at-lowers .class-bands .ensures) (at-uppers .class-bands2 .ensures) (at-entries .entries .ensures) (c .entries2 .ensures)
