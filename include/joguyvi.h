@@ -74,8 +74,9 @@ uint8_t joguyvi_ready(uint64_t number, uint64_t base,
 
 /* ---- libjoguyvi_rows.a: what a record says of one year. ---- */
 
-/* The interval row of a class, 1 to s, in parts of 1,000,000,000: `lower` and
- * `upper` are of 32 numbers each, with 0 beyond s. Another length is 13. */
+/* The tight row of a class, 1 to s, in parts of 1,000,000,000: the least and
+ * the greatest share that one year can bring from it to each class. `lower`
+ * and `upper` are of 32 numbers each, with 0 beyond s. Another length is 13. */
 uint8_t joguyvi_row(const uint8_t *bytes, size_t bytes_length,
                     uint64_t class_number,
                     uint64_t *lower, size_t lower_length,

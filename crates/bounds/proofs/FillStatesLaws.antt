@@ -11,7 +11,7 @@ use native.Mathlib.Omega.{arith}
 use lib.ListN.{length, set, length-set}
 use lib.Seq.{getD-set-same, getD-set-other, ext-getD}
 use Rattle.setchain.specs.Sums.{at, sumTo, dot}
-use Rattle.setchain.specs.Rows.{ONE, IntervalRow, SoundRow}
+use Rattle.setchain.specs.Rows.{ONE, IntervalRow, SoundRow, listsRow}
 use Rattle.setchain.specs.Rounding.{rounded}
 use Rattle.setchain.specs.Step.{capacity, stepFigure}
 use Rattle.setchain.specs.Laws.Sums.{sumTo-eq, sumTo-front, sumTo-change}
@@ -19,7 +19,6 @@ use Rattle.scheme.specs.Tables.{tab}
 use Rattle.scheme.specs.Laws.Tab.{length-tab, getD-tab}
 use Rattle.order.specs.Order.{along, Occurs, Permutation, SortedPermutation}
 use Rattle.order.specs.Laws.Along.{along-permutation, sum-along}
-use Rattle.step.specs.Lists.{listsRow}
 use Rattle.setchain.specs.Laws.Agreeing.{Agree, sound-agrees, step-agrees}
 use Rattle.step.specs.Fill.{FillPost, FillSlackPre}
 use Rattle.step.specs.Step.{StepPre}

@@ -7,13 +7,12 @@ use native.Mathlib.Omega.{arith}
 use lib.Dec.{eqb}
 use lib.ListN.{length, take, drop}
 use Rattle.setchain.specs.Sums.{at, sumTo, onlyIf}
-use Rattle.setchain.specs.Rows.{ONE}
+use Rattle.setchain.specs.Rows.{ONE, listsRow}
 use Rattle.setchain.specs.Laws.Sums.{sumTo-eq}
 use Rattle.setchain.specs.Laws.Agreeing.{Agree, agree-sym, sound-agrees}
 use Rattle.scheme.specs.Tables.{tab}
 use Rattle.scheme.specs.SumByTarget.{sumByTarget, slackOf}
 use Rattle.scheme.specs.Laws.Tab.{length-tab, getD-tab}
-use Rattle.step.specs.Lists.{listsRow}
 use Rattle.bounds.specs.Entries.{rulesRow, lowerEnds, capacities, listSum, AddRowPre, AddRowPost}
 use Rattle.bounds.proofs.FrontLaws.{zeros, front-made}
 

@@ -9,10 +9,9 @@ ghost use mathlib.Core.Path.{_≡_};
 ghost use Prim.Native.Nat.{_+_};
 ghost use lib.ListN.{length};
 ghost use Rattle.setchain.specs.Sums.{sumTo};
-ghost use Rattle.setchain.specs.Rows.{ONE};
+ghost use Rattle.setchain.specs.Rows.{ONE, listsRow};
 ghost use Rattle.scheme.specs.Accepted.{Accepted};
 ghost use Rattle.scheme.specs.Rows.{chainOf};
-ghost use Rattle.step.specs.Lists.{listsRow};
 ghost use Rattle.bounds.specs.Entries.{rulesRow, AddRowPost, AddRowPre, EmptyLists, ListRowsPost, ListRowsPre, rulesChain};
 
 // Where the lower ends begin.

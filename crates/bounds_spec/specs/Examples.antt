@@ -20,6 +20,7 @@ use Rattle.scheme.specs.FirstCause.{orElse}
 use Rattle.scheme.specs.Cause.{outside, sizeOut, startOut, horizonOut, ruleOut, bandOut, sumOut, premiumOut, causeOf, classCause, yearCause}
 use Rattle.scheme.specs.Rows.{chainOf}
 use Rattle.scheme.specs.Examples.{padded, schemeA, RowsA, rows-a}
+use Rattle.scheme.specs.RowExamples.{RowAnswersA, row-answers-a}
 use Rattle.scheme.specs.Laws.FirstCause.{answered, second-cause, cond-false}
 use Rattle.scheme.specs.Laws.Cause.{inside-outside}
 use Rattle.scheme.specs.Laws.Judged.{cause-accepted}
@@ -130,6 +131,10 @@ document-examples =
       horizonZero = horizon-zero;
       thirds = refl;
     }
+
+-- Beside document 01's interval rows, the rows that are answered for Example A: its tight rows (document 02, item 2).
+pub tight-rows-a : RowAnswersA
+tight-rows-a = row-answers-a
 
 -- Example A's share sheet of year 1, and all figures of its sheet: "YEAR 0 …" to "TOTAL 25500 26000".
 pub record SheetsA : Type 0 where

@@ -1,6 +1,6 @@
 -- Read in this order: the causes for which a query is declined, what the calls for bounds answer, tables of all figures, what the answers promise,
 -- worked cases, document 01's examples, what the promises forbid, that values beyond s and m are ignored,
--- then that narrower bands move bounds inward.
+-- then that narrower bands move bounds inward, and that tight rows change none.
 pub mod Causes
 pub mod Answers
 pub mod Table
@@ -12,3 +12,4 @@ pub mod Laws
 pub mod Ignored
 pub mod Inward
 pub mod InwardExamples
+pub mod Tight

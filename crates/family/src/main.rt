@@ -4,6 +4,7 @@
 use bounds::Bounds;
 use record_parts::Band;
 use record_write::WriteAnswer;
+use scheme::RowAnswer;
 use scheme::Scheme;
 
 // The most bytes of a record, and five more.
@@ -154,13 +155,19 @@ fn write(scheme: Scheme, n: usize) {
     }
 }
 
-// The interval row of a class.
-fn row(scheme: Scheme, class: u64) {
-    console::word(b"ROW", class);
-    let answer = rows::row(scheme, class);
+// The entries of a row by their checksums.
+fn entries(answer: RowAnswer) {
     let lower = answer.lower;
     let upper = answer.upper;
     pair(answer.number, checksum_of(&lower), checksum_of(&upper));
+}
+
+// The interval row of a class, and its tight row.
+fn row(scheme: Scheme, class: u64) {
+    console::word(b"INTERVAL", class);
+    entries(rows::interval_row(scheme, class));
+    console::word(b"ROW", class);
+    entries(rows::row(scheme, class));
 }
 
 // The payoff of a class, by the kinds of the format.

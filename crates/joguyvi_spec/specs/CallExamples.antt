@@ -12,7 +12,7 @@ use Rattle.scheme.specs.Tables.{tab, anyBelow}
 use Rattle.scheme.specs.Cause.{sizeOut, startOut, horizonOut, ruleOut, bandOut, sumOut, premiumOut, causeOf}
 use Rattle.scheme.specs.Stored.{upTo, schemeOf}
 use Rattle.scheme.specs.Examples.{padded}
-use Rattle.scheme.specs.RowAnswer.{rowAt}
+use Rattle.scheme.specs.RowAnswer.{rowAnswered}
 use Rattle.big_endian_spec.specs.Numbers.{beAt, beBytes}
 use Rattle.record_spec.specs.Layout.{layoutIn}
 use Rattle.record_spec.specs.Joined.{joined}
@@ -49,21 +49,23 @@ pub check-calls : CheckCall exampleA 0 × CheckCall [] 1 × ¬ CheckCall [] 0
 unfolding layoutIn frameCause
 check-calls = (record { answer = sym read-a }, record { answer = refl }, λ w. omega (arith, w .answer))
 
--- Example A's class 2: its lower and upper entries, each in its own buffer; where the record is declined, neither.
+-- Example A's class 2: the lower and upper entries of its tight row, each in its own buffer, and not those of its interval row; where the record is declined, neither.
 abbrev lowers : List ℕ
 lowers = padded 30 (800000000 ∷ 100000000 ∷ [])
 
 abbrev uppers : List ℕ
-uppers = padded 30 (900000000 ∷ 250000000 ∷ [])
+uppers = padded 30 (900000000 ∷ 200000000 ∷ [])
 
 pub row-calls :
     RowCall exampleA 2 long long 0 lowers uppers × ¬ RowCall exampleA 2 long long 0 uppers uppers × ¬ RowCall exampleA 2 long long 0 lowers lowers
+    × ¬ RowCall exampleA 2 long long 0 lowers (padded 30 (900000000 ∷ 250000000 ∷ []))
     × RowCall [] 2 long long 1 long long × ¬ RowCall [] 2 long long 1 lowers long × ¬ RowCall [] 2 long long 0 lowers uppers
-unfolding layoutIn rowAt onlyIf frameCause beAt schemeOf upTo tab causeOf sizeOut startOut horizonOut ruleOut bandOut sumOut premiumOut anyBelow sumTo
+unfolding layoutIn rowAnswered onlyIf frameCause beAt schemeOf upTo tab causeOf sizeOut startOut horizonOut ruleOut bandOut sumOut premiumOut anyBelow sumTo
 row-calls = (
   record { answer = sym (after-a _); lowers = refl; uppers = refl },
   λ w. let e : _≡_ {A = ℕ} 900000000 800000000 = ap (λ l. getD l 0 0) (w .lowers) in omega arith,
   λ w. let e : _≡_ {A = ℕ} 800000000 900000000 = ap (λ l. getD l 0 0) (w .uppers) in omega arith,
+  λ w. let e : _≡_ {A = ℕ} 250000000 200000000 = ap (λ l. getD l 1 0) (w .uppers) in omega arith,
   record { answer = refl; lowers = refl; uppers = refl },
   λ w. let e : _≡_ {A = ℕ} 800000000 7 = ap (λ l. getD l 0 0) (w .lowers) in omega arith,
   λ w. omega (arith, w .answer),

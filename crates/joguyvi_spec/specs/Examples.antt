@@ -18,7 +18,7 @@ use Rattle.record_spec.specs.Layout.{layoutIn, schemeIn}
 use Rattle.record_spec.specs.Read.{frameCause, readCause}
 use Rattle.record_spec.specs.Examples.{exampleA, read-a}
 use Rattle.scheme.specs.declared.RowAnswer.{RowAnswer}
-use Rattle.scheme.specs.RowAnswer.{rowAt}
+use Rattle.scheme.specs.RowAnswer.{rowAnswered}
 use Rattle.scheme.specs.RowExamples.{answerOf}
 use Rattle.record_spec.specs.Write.{writeAnswer}
 use Rattle.ready_spec.specs.Scales.{scale1}
@@ -106,11 +106,11 @@ pub row-buffers :
     (putRowNumber (rowWith 0) long long ≡ 0) × (putRowNumber (rowWith 0) long longer ≡ 13) × (putRowNumber (rowWith 0) longer long ≡ 13) × (putRowNumber (rowWith 11) longer long ≡ 11)
 row-buffers = (refl, refl, refl, refl)
 
--- Example A, "Class 2: lower 800000000, 100000000; upper 900000000, 250000000."; a record is declined before the class.
+-- Example A, "in its class 2 row only the last upper entry changes, to 200000000"; a record is declined before the class.
 pub row-a :
     (rowNumber [] 3 long long ≡ 1) × (rowNumber exampleA 2 long longer ≡ 13) × (rowNumber exampleA 2 longer long ≡ 13)
-    × (rowOfRecord exampleA 2 ≡ answerOf (800000000 ∷ 100000000 ∷ []) (900000000 ∷ 250000000 ∷ []))
-unfolding layoutIn rowAt onlyIf frameCause beAt schemeOf upTo tab causeOf sizeOut startOut horizonOut ruleOut bandOut sumOut premiumOut anyBelow sumTo
+    × (rowOfRecord exampleA 2 ≡ answerOf (800000000 ∷ 100000000 ∷ []) (900000000 ∷ 200000000 ∷ []))
+unfolding layoutIn rowAnswered onlyIf frameCause beAt schemeOf upTo tab causeOf sizeOut startOut horizonOut ruleOut bandOut sumOut premiumOut anyBelow sumTo
 row-a = (refl, after-a _, after-a _, refl)
 
 -- A rule row takes m bytes; a class that there is not is declined before the buffer.

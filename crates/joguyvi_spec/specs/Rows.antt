@@ -1,4 +1,4 @@
--- The interval row of a class, the rule row of a class, and the bands of all columns.
+-- The tight row of a class, the rule row of a class, and the bands of all columns.
 use Prim.Native.Nat.{ℕ}
 use mathlib.Core.Path.{_≡_}
 use mathlib.Core.List.{List, [], _∷_}
@@ -23,7 +23,7 @@ putRowNumber answer lower upper = firstOf (answer .number ∷ buffersCause 32 lo
 abbrev pub RowPost : RowAnswer → (lower upper : List ℕ) (number : ℕ) (lower′ upper′ : List ℕ) → Type 0
 RowPost answer lower upper = BuffersPost (putRowNumber answer lower upper) (answer .lower) (answer .upper) lower upper
 
--- The row of a class of a record (document 01, "Interval rows").
+-- The row of a class of a record (document 01, "Interval rows"; document 02, item 2).
 abbrev pub rowOfRecord : List ℕ → (class : ℕ) → RowAnswer
 rowOfRecord bytes class = rowAnswer (schemeIn bytes) class
 

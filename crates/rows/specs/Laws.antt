@@ -5,3 +5,4 @@ pub mod SumByTarget
 pub mod Front
 pub mod Entries
 pub mod Copy
+pub mod Tight

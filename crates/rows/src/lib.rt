@@ -1,8 +1,8 @@
-// The interval rows of document 01.
+// The interval rows of document 01, and the tight rows of document 02, item 2.
 pub use scheme::RowAnswer;
 use scheme::Scheme;
 ghost use mathlib.Core.Path.{_≡_};
-ghost use Rattle.scheme.specs.RowAnswer.{rowAnswer};
+ghost use Rattle.scheme.specs.RowAnswer.{intervalAnswer, rowAnswer};
 ghost use Prim.Native.Nat.{min, _+_, _-_, _≤_};
 ghost use lib.ListN.{length, replicate};
 ghost use Rattle.setchain.specs.Rows.{ONE};
@@ -11,10 +11,22 @@ ghost use Rattle.scheme.specs.Tables.{tab};
 ghost use Rattle.scheme.specs.SumByTarget.{sumByTarget, addedToTarget, slackOf, Capped};
 
 mod rows;
+mod tight;
 
-// The interval row of a class.
+// The row of a class: its interval row made tight.
 pub fn row(scheme: Scheme, class: u64) -> RowAnswer
     ensures { λ r. ⌜ r ≡ rowAnswer scheme class ⌝ }
+{
+    let interval = interval_row(scheme, class);
+    if interval.number != 0 {
+        return interval;
+    }
+    tight::tightened(interval, scheme.classes)
+}
+
+// The interval row of a class, on which all figures rest.
+pub fn interval_row(scheme: Scheme, class: u64) -> RowAnswer
+    ensures { λ r. ⌜ r ≡ intervalAnswer scheme class ⌝ }
 {
     let number = acceptance::cause(scheme);
     if number != 0 {

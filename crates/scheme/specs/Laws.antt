@@ -8,6 +8,7 @@ pub mod Judged
 pub mod Sound
 pub mod Tab
 pub mod Filled
+pub mod RowAnswer
 pub mod Stored
 pub mod Values
 pub mod Trimmed

@@ -1,7 +1,7 @@
 -- Read in this order: tables, the scheme's parts, what acceptance asks, the first cause of a list, the causes, the code's stages, interval rows,
--- the row operation's answer, what the cells of one class come to, what a made scheme holds, when two schemes have the same values or one is trimmed,
+-- what the row operations answer, what the cells of one class come to, what a made scheme holds, when two schemes have the same values or one is trimmed,
 -- worked cases.
--- Ignored proves that values beyond s and m are ignored.
+-- Ignored proves that values beyond s and m are ignored, Inward that narrower bands move the row that is answered inward.
 pub mod Tables
 pub mod Access
 pub mod Accepted
@@ -21,3 +21,5 @@ pub mod BeyondExamples
 pub mod Laws
 pub mod TrimmedExamples
 pub mod Ignored
+pub mod Inward
+pub mod InwardExamples

@@ -1,4 +1,4 @@
--- Worked figures, computed: document 01's two examples of the step, Example A's figures on its interval rows, and exact figures of small picks.
+-- Worked figures, computed: document 01's two examples of the step, Example A's figures on its interval rows, exact figures of small picks, and tight rows.
 use Prim.Native.Nat.{ℕ, zero, suc, _*_}
 use mathlib.Core.Path.{_≡_, refl}
 use mathlib.Core.Bool.{true, false}
@@ -10,6 +10,7 @@ use Rattle.setchain.specs.Cells.{Cells, rowOf}
 use Rattle.setchain.specs.Rounding.{rounded}
 use Rattle.setchain.specs.Step.{capacityBefore, fillRow, stepFigure, lowStep, highStep}
 use Rattle.setchain.specs.Years.{yearsFigure, lowShare, highShare, lowMean, highMean, lowTotal, highTotal}
+use Rattle.setchain.specs.Tight.{tightRow, tightChain}
 use Rattle.setchain.specs.Picks.{Matrix, product, exactMean, exactTotal}
 
 -- "Row lower .1 .2 .3, upper .5 .6 .4 of ONE, payoff 30 10 20".
@@ -114,3 +115,48 @@ pub record FiguresA : Type 0 where
 pub figures-a : FiguresA
 unfolding yearsFigure stepFigure fillRow capacityBefore sumTo onlyIf
 figures-a = record { share1 = (refl, refl); share2 = (refl, refl); mean = (refl, refl); total = (refl, refl) }
+
+-- A row over two states with these ends.
+abbrev pub rowOfTwo : (lower lower′ upper upper′ : ℕ) → IntervalRow
+rowOfTwo lower lower′ upper upper′ = record { lower = at (lower ∷ lower′ ∷ []); upper = at (upper ∷ upper′ ∷ []) }
+
+-- One state, with a band from 0 to ONE.
+abbrev oneState : IntervalRow
+oneState = record { lower = at (0 ∷ []); upper = at (1000000000 ∷ []) }
+
+pub record TightRows : Type 0 where
+  -- "Example A's class 1 row becomes lower 950000000, 0 and upper 1000000000, 50000000".
+  pub lowersA1 : (tightChain chainA .row 0 .lower 0 ≡ 950000000) × (tightChain chainA .row 0 .lower 1 ≡ 0)
+  pub uppersA1 : (tightChain chainA .row 0 .upper 0 ≡ 1000000000) × (tightChain chainA .row 0 .upper 1 ≡ 50000000)
+  -- "in its class 2 row only the last upper entry changes, to 200000000".
+  pub lowersA2 : (tightChain chainA .row 1 .lower 0 ≡ 800000000) × (tightChain chainA .row 1 .lower 1 ≡ 100000000)
+  pub uppersA2 : (tightChain chainA .row 1 .upper 0 ≡ 900000000) × (tightChain chainA .row 1 .upper 1 ≡ 200000000)
+  -- Lower ends that rise from 0, since the other state takes .7 or .6 at most.
+  pub rising : (tightRow 2 (rowOfTwo 0 0 600000000 700000000) .lower 0 ≡ 300000000) × (tightRow 2 (rowOfTwo 0 0 600000000 700000000) .lower 1 ≡ 400000000)
+  pub risingUppers : (tightRow 2 (rowOfTwo 0 0 600000000 700000000) .upper 0 ≡ 600000000) × (tightRow 2 (rowOfTwo 0 0 600000000 700000000) .upper 1 ≡ 700000000)
+  -- Of a row that has entries for three states, over two: entries from 2 on are 0.
+  pub beyond : (tightRow 2 exampleRow .lower 2 ≡ 0) × (tightRow 2 exampleRow .upper 2 ≡ 0)
+  -- Both ends of one entry move, each by the old entries: from .1 to .9 to .5 to .8.
+  pub bothMove : (tightRow 2 (rowOfTwo 100000000 200000000 900000000 500000000) .lower 0 ≡ 500000000) × (tightRow 2 (rowOfTwo 100000000 200000000 900000000 500000000) .upper 0 ≡ 800000000)
+  -- The row of document 01's first step: nothing changes.
+  pub keptLowers : (tightRow 3 exampleRow .lower 0 ≡ 100000000) × (tightRow 3 exampleRow .lower 1 ≡ 200000000) × (tightRow 3 exampleRow .lower 2 ≡ 300000000)
+  pub keptUppers : (tightRow 3 exampleRow .upper 0 ≡ 500000000) × (tightRow 3 exampleRow .upper 1 ≡ 600000000) × (tightRow 3 exampleRow .upper 2 ≡ 400000000)
+  -- One state: ONE and ONE.
+  pub single : (tightRow 1 oneState .lower 0 ≡ 1000000000) × (tightRow 1 oneState .upper 0 ≡ 1000000000)
+
+pub tight-rows : TightRows
+unfolding sumTo onlyIf
+tight-rows =
+    record {
+      lowersA1 = (refl, refl);
+      uppersA1 = (refl, refl);
+      lowersA2 = (refl, refl);
+      uppersA2 = (refl, refl);
+      rising = (refl, refl);
+      risingUppers = (refl, refl);
+      beyond = (refl, refl);
+      bothMove = (refl, refl);
+      keptLowers = (refl, refl, refl);
+      keptUppers = (refl, refl, refl);
+      single = (refl, refl);
+    }

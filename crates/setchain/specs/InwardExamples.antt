@@ -8,7 +8,7 @@ use Rattle.setchain.specs.Rows.{IntervalRow, Covers, ofParts}
 use Rattle.setchain.specs.Step.{capacityBefore, fillRow, stepFigure, lowStep, highStep, Parts}
 use Rattle.setchain.specs.Laws.Sums.{below-two}
 use Rattle.setchain.specs.Laws.Cells.{entries-cover}
-use Rattle.setchain.specs.Examples.{exampleRow, payoff}
+use Rattle.setchain.specs.Examples.{exampleRow, payoff, rowOfTwo}
 
 -- The row of document 01's first step, its first lower entry .1 trimmed to .2: the low figure moves from 15 to 17, the high figure stays 23.
 abbrev trimmedRow : IntervalRow
@@ -21,10 +21,6 @@ pub record TrimmedSteps : Type 0 where
 pub trimmed-steps : TrimmedSteps
 unfolding stepFigure fillRow capacityBefore sumTo onlyIf
 trimmed-steps = record { low = (refl, refl); high = (refl, refl) }
-
--- A row over two states with these ends.
-abbrev rowOfTwo : (lower lower′ upper upper′ : ℕ) → IntervalRow
-rowOfTwo lower lower′ upper upper′ = record { lower = at (lower ∷ lower′ ∷ []); upper = at (upper ∷ upper′ ∷ []) }
 
 -- Example A's row of class 2; with its first upper entry trimmed; and with its second, which leaves the same rows inside.
 pub record CoversA : Type 0 where

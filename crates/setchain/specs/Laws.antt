@@ -12,3 +12,4 @@ pub mod Cells
 pub mod Mean
 pub mod Obeys
 pub mod Follows
+pub mod Tight

@@ -11,11 +11,14 @@ pub mod Years
 pub mod Picks
 pub mod Turns
 pub mod Promise
+pub mod Tight
 pub mod Laws
 pub mod Theorems
 pub mod Kept
 pub mod Inward
+pub mod Tightened
 pub mod Examples
 pub mod PromiseExamples
 pub mod TurnExamples
 pub mod InwardExamples
+pub mod TightExamples

@@ -1,7 +1,8 @@
 -- Interval rows, and the stochastic rows inside them (document 01, "Interval rows"). States are numbered from 0: class 1 is state 0.
 use Prim.Native.Nat.{ℕ, _*_, _≤_, _<_}
 use mathlib.Core.Path.{_≡_}
-use Rattle.setchain.specs.Sums.{sumTo}
+use mathlib.Core.List.{List}
+use Rattle.setchain.specs.Sums.{at, sumTo}
 
 -- ONE, a billion parts: the whole of a share (document 01, "Units and the scheme").
 abbrev pub ONE : ℕ
@@ -11,6 +12,10 @@ ONE = 1000000000
 pub record IntervalRow : Type 0 where
   pub lower : ℕ → ℕ
   pub upper : ℕ → ℕ
+
+-- The interval row that two lists hold.
+abbrev pub listsRow : (lower upper : List ℕ) → IntervalRow
+listsRow lower upper = record { lower = at lower; upper = at upper }
 
 -- A row over n states that some stochastic row can lie inside: entries in order, at most ONE, and sums that enclose ONE.
 pub record SoundRow (n : ℕ) (r : IntervalRow) : Type 0 where

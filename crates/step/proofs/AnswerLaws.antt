@@ -1,4 +1,4 @@
--- The one-year step's cause from the row operation's, and its whole answer from the class's interval row.
+-- The one-year step's cause from that of the class's interval row, and its whole answer from the class's interval row.
 -- Assumes nothing.
 use Prim.Native.Nat.{ℕ, _-_, _≤_, _<_}
 use mathlib.Core.Path.{_≡_, refl, ap, sym, _∙_, subst}
@@ -9,11 +9,10 @@ use native.Mathlib.Omega.{arith}
 use lib.Dec.{ltb}
 use lib.ListN.{length, take, drop, replicate, length-replicate}
 use lib.Seq.{take-at, length-take-le, getD-take}
-use borrow.Author.Tests.{ltb-false, lt-ltb, ne-eqb}
-use Rattle.setchain.specs.Sums.{at, onlyIf}
-use Rattle.setchain.specs.Rows.{SoundRow}
+use borrow.Author.Tests.{ltb-false, ne-eqb}
+use Rattle.setchain.specs.Sums.{at}
+use Rattle.setchain.specs.Rows.{SoundRow, listsRow}
 use Rattle.setchain.specs.Step.{stepFigure, Reaches}
-use Rattle.setchain.specs.Laws.Sums.{onlyIf-true}
 use Rattle.setchain.specs.Laws.Agreeing.{Agree, agree-sym, sound-agrees, reaches-agree}
 use Rattle.setchain.specs.Laws.Step.{reached-figure}
 use Rattle.scheme.specs.declared.Scheme.{Scheme}
@@ -21,20 +20,18 @@ use Rattle.scheme.specs.declared.RowAnswer.{RowAnswer}
 use Rattle.scheme.specs.Accepted.{Accepted}
 use Rattle.scheme.specs.FirstCause.{_when_, orElse}
 use Rattle.scheme.specs.Cause.{outside, causeOf, classCause}
-use Rattle.scheme.specs.Tables.{tab}
 use Rattle.scheme.specs.Stages.{limitCause}
-use Rattle.scheme.specs.RowAnswer.{rowCause, rowRefused, rowAt, rowAnswer}
+use Rattle.scheme.specs.RowAnswer.{rowCause, rowRefused, intervalAt, intervalAnswer}
 use Rattle.scheme.specs.Laws.FirstCause.{first-cause, second-cause, declined, answered, first-none, second-none, test-none, cause-first}
 use Rattle.scheme.specs.Laws.Cause.{class-fits}
 use Rattle.scheme.specs.Laws.Judged.{accepted-cause, cause-most}
 use Rattle.scheme.specs.Laws.Sound.{accepted-sound}
+use Rattle.scheme.specs.Laws.RowAnswer.{interval-number, answered-size, answered-agrees}
 use Rattle.scheme.specs.Laws.Tables.{any-false}
-use Rattle.scheme.specs.Laws.Tab.{length-tab, getD-tab}
 use Rattle.rows.specs.Laws.Front.{front-lent, whole-size, whole-front, whole-beyond}
 use Rattle.order.specs.Order.{SortedPermutation}
 use Rattle.step_spec.specs.declared.StepAnswer.{StepAnswer}
 use Rattle.step_spec.specs.StepAnswer.{payoffOut, stepCause, classRow, StepAnswered}
-use Rattle.step.specs.Lists.{listsRow}
 use Rattle.step.specs.Answer.{schemeCause, stepRefused}
 use Rattle.step.specs.Step.{StepPre, StepPost}
 
@@ -68,15 +65,10 @@ module _ (s : Scheme) (payoff : List ℕ) (class : ℕ) where
         reaches = λ z. absurd (some z);
       })
 
-  -- Over the row operation's answer.
-  module _ {interval : RowAnswer} (is : interval ≡ rowAnswer s class) where
+  -- Over the answer for the class's interval row.
+  module _ {interval : RowAnswer} (is : interval ≡ intervalAnswer s class) where
     number-is : interval .number ≡ rowCause s class
-    unfolding rowAt
-    number-is = ap (λ r. r .number) is ∙ by (ℕ-discrete (rowCause s class) 0)
-      where
-        by : Dec (rowCause s class ≡ 0) → rowAnswer s class .number ≡ rowCause s class
-        by (yes z) = ap (λ r. r .number) (answered (rowCause s class) (rowAt s (class - 1)) (rowRefused (rowCause s class)) z) ∙ sym z
-        by (no h) = ap (λ r. r .number) (declined (rowCause s class) (rowAt s (class - 1)) (rowRefused (rowCause s class)) h)
+    number-is = interval-number s class is
 
     module _ {own : ℕ} (owns : own ≡ schemeCause (interval .number)) where
       -- The scheme's own cause.
@@ -132,42 +124,33 @@ module _ (s : Scheme) (payoff : List ℕ) (class : ℕ) where
       sound : SoundRow (s .classes) (classRow s class)
       sound = accepted-sound s ok (class - 1) (omega (arith, range))
 
-      -- And is the one that the row operation answers.
-      entries-are : interval ≡ rowAt s (class - 1)
+      -- And is the one that is answered.
+      entries-are : interval ≡ intervalAt s (class - 1)
       entries-are =
           is
-          ∙ answered (rowCause s class) (rowAt s (class - 1)) (rowRefused (rowCause s class))
+          ∙ answered (rowCause s class) (intervalAt s (class - 1)) (rowRefused (rowCause s class))
           (second-cause (causeOf s) (classCause s class) scheme-none ∙ class-none)
 
       -- With a lower and an upper entry for each class.
       pub entries-fit : (s .classes ≤ length (interval .lower)) × (s .classes ≤ length (interval .upper))
-      unfolding rowAt
       entries-fit =
+          let size = answered-size (s .classes) (classRow s class) in
           omega (
             arith,
             ap (λ r. length (r .lower)) entries-are,
             ap (λ r. length (r .upper)) entries-are,
-            length-tab 32 (λ j. onlyIf (ltb j (s .classes)) (classRow s class .lower j)),
-            length-tab 32 (λ j. onlyIf (ltb j (s .classes)) (classRow s class .upper j)),
+            size .0,
+            size .1,
             ok .size .classes,
           )
 
-      -- An entry of the 32, which is 0 beyond s, is that of the class.
-      entry-is : (f : ℕ → ℕ) (entries : List ℕ) → entries ≡ tab 32 (λ j. onlyIf (ltb j (s .classes)) (f j)) → (j : ℕ) → j < s .classes
-          → at (take (s .classes) entries) j ≡ f j
-      entry-is f entries e j l =
-          getD-take (s .classes) entries j 0 l
-          ∙ ap (λ x. at x j) e
-          ∙ getD-tab 32 (λ j. onlyIf (ltb j (s .classes)) (f j)) j 0 (omega (arith, ok .size .classes))
-          ∙ onlyIf-true (ltb j (s .classes)) (f j) (lt-ltb j (s .classes) l)
-
       -- So the entries that are lent are the class's interval row.
       same : Agree (s .classes) (listsRow (take (s .classes) (interval .lower)) (take (s .classes) (interval .upper))) (classRow s class)
-      unfolding rowAt
       same =
+          let agree = answered-agrees (s .classes) (classRow s class) (ok .size .classes) in
           record {
-            lower = entry-is (classRow s class .lower) (interval .lower) (ap (λ r. r .lower) entries-are);
-            upper = entry-is (classRow s class .upper) (interval .upper) (ap (λ r. r .upper) entries-are);
+            lower = λ j l. getD-take (s .classes) (interval .lower) j 0 l ∙ ap (λ r. at (r .lower) j) entries-are ∙ agree .lower j l;
+            upper = λ j l. getD-take (s .classes) (interval .upper) j 0 l ∙ ap (λ r. at (r .upper) j) entries-are ∙ agree .upper j l;
           }
 
       -- Of which as many are lent as there are classes.

@@ -5,10 +5,9 @@ use mathlib.Core.Logic.{_⊎_}
 use mathlib.Core.List.{List}
 use lib.ListN.{length}
 use Rattle.setchain.specs.Sums.{at, sumTo}
-use Rattle.setchain.specs.Rows.{ONE, SoundRow}
+use Rattle.setchain.specs.Rows.{ONE, SoundRow, listsRow}
 use Rattle.setchain.specs.Step.{Parts}
 use Rattle.order.specs.Order.{Occurs, Permutation}
-use Rattle.step.specs.Lists.{listsRow}
 
 -- What a fill takes: lists of one length, a sound row, and an order of its classes, as it is read.
 pub record FillPre (lower upper order row : List ℕ) : Type 0 where

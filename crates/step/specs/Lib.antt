@@ -1,5 +1,4 @@
--- Read in this order, after crates `order` and `step_spec`: lists as rows and payoffs, the fill along an order, the figure, the whole step, parts of the answer.
-pub mod Lists
+-- Read in this order, after crates `order` and `step_spec`: the fill along an order, the figure, the whole step, parts of the answer.
 pub mod Fill
 pub mod Figure
 pub mod Step

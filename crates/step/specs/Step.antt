@@ -4,10 +4,9 @@ use mathlib.Core.Path.{_≡_}
 use mathlib.Core.Bool.{Bool}
 use mathlib.Core.List.{List}
 use lib.ListN.{length}
-use Rattle.setchain.specs.Rows.{SoundRow}
+use Rattle.setchain.specs.Rows.{SoundRow, listsRow}
 use Rattle.setchain.specs.Step.{Reaches}
 use Rattle.order.specs.Order.{SortedPermutation}
-use Rattle.step.specs.Lists.{listsRow}
 use Rattle.step.specs.Figure.{LARGEST}
 use Rattle.setchain.specs.Sums.{at}
 

@@ -54,7 +54,7 @@ pub fn answer(scheme: Scheme, payoff: &[u64], class: u64, high: bool) -> StepAns
     requires { ⌜ length (now payoff) ≡ 32 ⌝ }
     ensures { λ r. ⌜ StepAnswered high scheme (now (payoff .entry)) class r ⌝ }
 {
-    let interval = rows::row(scheme, class);
+    let interval = rows::interval_row(scheme, class);
     let own = scheme_cause(interval.number);
     if own != 0 {
         return refused(own);

@@ -69,8 +69,9 @@ mod archive {
     }
 }
 
-/// The interval row of a class, lower and upper entries, into two slices of 32
-/// numbers; 0 beyond s.
+/// The tight row of a class, lower and upper entries, into two slices of 32
+/// numbers; 0 beyond s. Each end is the least or the greatest entry that some
+/// stochastic row inside the class's interval row has.
 pub fn row(record: &[u8], class: u64, lower: &mut [u64], upper: &mut [u64]) -> Result<(), u8> {
     // SAFETY: the pointers and lengths are those of slices; `lower` and
     // `upper` are lent alone.

@@ -74,6 +74,19 @@ impl Moves {
         }
     }
 
+    /// The lower and the upper ends of a class's row.
+    fn row(&mut self, pair: &Pair, class: u64) {
+        let row = |record: &[u8]| {
+            let (mut lower, mut upper) = ([0; 32], [0; 32]);
+            library::row(record, class, &mut lower, &mut upper).map(|()| (lower, upper))
+        };
+        if let Some((wide, narrow)) = self.call(pair, row) {
+            for j in 0..pair.s as usize {
+                self.inward([wide.0[j], wide.1[j]], [narrow.0[j], narrow.1[j]]);
+            }
+        }
+    }
+
     /// The low and the high step of one payoff.
     fn steps(&mut self, pair: &Pair, payoff: &[u64], class: u64) {
         self.bounds(pair, |record, out| {
@@ -139,6 +152,7 @@ fn trimmed_bands_move_bounds_inward() {
         moves.bounds(&pair, |record, out| library::mean(record, year, out));
         moves.bounds(&pair, |record, out| library::total(record, year, out));
         moves.share_sheet(&pair, year);
+        moves.row(&pair, class);
         let payoff = made::payoff(&mut rng, scheme.classes);
         moves.steps(&pair, &payoff, class);
         if pair.s > 1 && pair.s * pair.s * pair.horizon <= 1_000 {

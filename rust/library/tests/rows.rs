@@ -20,7 +20,7 @@ fn asked<T>(record: &[u8], ask: impl FnOnce(&Scheme) -> Result<T, u8>) -> Result
     ask(&plain::read(record)?)
 }
 
-/// The interval row into slices of a and b numbers.
+/// The tight row into slices of a and b numbers.
 fn check_row(record: &[u8], class: u64, a: usize, b: usize) {
     let rows = asked(record, |scheme| plain::row(scheme, class));
     let wanted = of_length(a == 32 && b == 32, rows);
@@ -41,7 +41,7 @@ fn worth(row: &[u64], payoff: &Figures) -> u128 {
 fn check_step_row(record: &[u8], class: u64, row: &[u64], plain_row: &Figures, payoff: &Figures) {
     let scheme = plain::read(record).expect("a record");
     let s = usize::from(scheme.classes);
-    let (lower, upper) = plain::row(&scheme, class).expect("a row");
+    let (lower, upper) = plain::interval_row(&scheme, class).expect("a row");
     let parts = row[..s].to_vec();
     assert!(inside(&lower, &upper, &Row { parts, over: ONE }));
     assert!(row[s..].iter().all(|&part| part == 0));

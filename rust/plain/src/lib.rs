@@ -1,5 +1,5 @@
-//! Bonus-malus bounds: schemes, interval rows, the one-year step, bounds over
-//! years, the record, the ready schemes and the sheet.
+//! Bonus-malus bounds: schemes, interval rows and tight rows, the one-year
+//! step, bounds over years, the record, the ready schemes and the sheet.
 //!
 //! Every operation that can be declined answers the number of the first cause
 //! that applies, and then leaves all lent slices as they were.
@@ -19,7 +19,7 @@ pub use record::{
     bands, layout_of, number_at, open, places, put_number, read, rule_row, write, Bands, Layout,
     END_WIDTH, LAYOUTS, LENGTH_WIDTH, MAX_RECORD, VERSION_1,
 };
-pub use rows::row;
+pub use rows::{interval_row, row};
 pub use scheme::{
     cause, Figures, Scheme, MAX_BASE, MAX_CLASSES, MAX_COLUMNS, MAX_HORIZON, MAX_PAYOFF,
     MAX_PREMIUM, ONE,

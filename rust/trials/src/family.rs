@@ -263,9 +263,13 @@ fn report_scheme(out: &mut String, number: u64, record: &[u8], scheme: &Scheme) 
 }
 
 fn report_class(out: &mut String, number: u64, scheme: &Scheme, class: u64, years: &[u64]) {
-    let row = plain::row(scheme, class)
-        .map(|(lower, upper)| (checksum(lower.into_iter()), checksum(upper.into_iter())));
-    put!(out, "ROW {class} {}\n", answer(row.map(pair)));
+    let sums = |(lower, upper): (Figures, Figures)| {
+        pair((checksum(lower.into_iter()), checksum(upper.into_iter())))
+    };
+    let interval = plain::interval_row(scheme, class).map(sums);
+    put!(out, "INTERVAL {class} {}\n", answer(interval));
+    let row = plain::row(scheme, class).map(sums);
+    put!(out, "ROW {class} {}\n", answer(row));
     for kind in 0..4 {
         let payoff = payoff(scheme, number, kind);
         let low = plain::low_step(scheme, &payoff, class).map(|(figure, _)| figure);

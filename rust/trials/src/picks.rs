@@ -28,7 +28,7 @@ pub fn inside(lower: &Figures, upper: &Figures, row: &Row) -> bool {
 
 /// A random row over `over` inside the interval of a class, where there is one.
 pub fn random_row(rng: &mut Rng, scheme: &Scheme, class: u64, over: u64) -> Option<Row> {
-    let (lower, upper) = plain::row(scheme, class).expect("a class of the scheme");
+    let (lower, upper) = plain::interval_row(scheme, class).expect("a class of the scheme");
     let s = usize::from(scheme.classes);
     let scaled = |end: u64| u128::from(end) * u128::from(over);
     let least: Vec<u64> = lower[..s]

@@ -1,8 +1,8 @@
 //! The examples of the scope.
 
 use plain::{
-    bands, cause, high_step, low_step, mean, open, read, ready, row, rule_row, share, share_sheet,
-    sheet, total, write, Scheme, MAX_RECORD, ONE,
+    bands, cause, high_step, interval_row, low_step, mean, open, read, ready, row, rule_row, share,
+    share_sheet, sheet, total, write, Scheme, MAX_RECORD, ONE,
 };
 use trials::family::EXAMPLE_A;
 use trials::made::{cleared, record_of};
@@ -116,7 +116,7 @@ fn example_a_record() {
 }
 
 #[test]
-fn example_a_rows() {
+fn example_a_interval_rows() {
     let a = example_a();
     let row_1 = (
         padded(&[900_000_000, 0]),
@@ -125,6 +125,23 @@ fn example_a_rows() {
     let row_2 = (
         padded(&[800_000_000, 100_000_000]),
         padded(&[900_000_000, 250_000_000]),
+    );
+    assert_eq!(interval_row(&a, 1), Ok(row_1));
+    assert_eq!(interval_row(&a, 2), Ok(row_2));
+    assert_eq!(interval_row(&a, 0), Err(11));
+    assert_eq!(interval_row(&a, 3), Err(11));
+}
+
+#[test]
+fn example_a_rows() {
+    let a = example_a();
+    let row_1 = (
+        padded(&[950_000_000, 0]),
+        padded(&[1_000_000_000, 50_000_000]),
+    );
+    let row_2 = (
+        padded(&[800_000_000, 100_000_000]),
+        padded(&[900_000_000, 200_000_000]),
     );
     assert_eq!(row(&a, 1), Ok(row_1));
     assert_eq!(row(&a, 2), Ok(row_2));
@@ -192,6 +209,32 @@ fn one_year() {
     three.lowers = [0; 8];
     assert_eq!(low_step(&three, &payoff, 1).unwrap().0, 14);
     assert_eq!(high_step(&three, &payoff, 1).unwrap().0, 24);
+}
+
+#[test]
+fn tight_rows() {
+    let tenth = 100_000_000;
+    let tenths = |entries: &[u64]| padded(&entries.iter().map(|t| t * tenth).collect::<Vec<_>>());
+    let of_bands = |rules: &[u8], ends: &[(u32, u32)]| {
+        let bands: Vec<_> = ends
+            .iter()
+            .map(|(a, b)| (a * tenth as u32, b * tenth as u32))
+            .collect();
+        let rules = vec![rules; rules.len()];
+        row(&scheme(1, 1, &rules, &bands, &vec![0; rules.len()]), 1)
+    };
+    // Lower ends that rise from 0.
+    let rising = of_bands(&[1, 2], &[(0, 6), (0, 7)]);
+    assert_eq!(rising, Ok((tenths(&[3, 4]), tenths(&[6, 7]))));
+    // Both ends of one entry move, each by the old entries.
+    let both = of_bands(&[1, 2], &[(1, 9), (2, 5)]);
+    assert_eq!(both, Ok((tenths(&[5, 2]), tenths(&[8, 5]))));
+    // The row of the first step: nothing changes.
+    let kept = of_bands(&[1, 2, 3], &[(1, 5), (2, 6), (3, 4)]);
+    assert_eq!(kept, Ok((tenths(&[1, 2, 3]), tenths(&[5, 6, 4]))));
+    // One class: ONE and ONE.
+    let one = of_bands(&[1], &[(0, 10)]);
+    assert_eq!(one, Ok((tenths(&[10]), tenths(&[10]))));
 }
 
 #[test]

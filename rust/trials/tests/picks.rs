@@ -89,9 +89,13 @@ fn rows_inside() {
     for _ in 0..4_000 {
         let scheme = made::scheme(&mut rng);
         let class = rng.between(1, u64::from(scheme.classes));
-        let (lower, upper) = plain::row(&scheme, class).unwrap();
         let picked = any_row(&mut rng, &scheme, class);
-        assert!(inside(&lower, &upper, &picked));
+        for (lower, upper) in [
+            plain::interval_row(&scheme, class).unwrap(),
+            plain::row(&scheme, class).unwrap(),
+        ] {
+            assert!(inside(&lower, &upper, &picked));
+        }
         small += u64::from(picked.over < 100);
     }
     assert!(small > 400);

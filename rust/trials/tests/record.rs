@@ -1,8 +1,8 @@
 //! Reading, writing and refusals on random records and schemes.
 
 use plain::{
-    bands, cause, high_step, low_step, mean, open, read, row, rule_row, share, share_sheet, sheet,
-    total, write, Scheme, ONE,
+    bands, cause, high_step, interval_row, low_step, mean, open, read, row, rule_row, share,
+    share_sheet, sheet, total, write, Scheme, ONE,
 };
 use trials::made::{self, Shape};
 use trials::rng::Rng;
@@ -94,6 +94,7 @@ fn junk_is_ignored() {
         let year = u64::from(scheme.horizon.min(5));
         let class = u64::from(scheme.start);
         let payoff = made::payoff(&mut rng, scheme.classes);
+        assert_eq!(interval_row(&scheme, class), interval_row(&clear, class));
         assert_eq!(row(&scheme, class), row(&clear, class));
         assert_eq!(
             low_step(&scheme, &payoff, class),
@@ -232,6 +233,7 @@ fn declined_schemes() {
         let class = rng.pick(&[0, 1, 33, u64::MAX]);
         let year = rng.pick(&[0, 1, 101, u64::MAX]);
         let payoff = rng.pick(&[[0; 32], [u64::MAX; 32]]);
+        assert_eq!(interval_row(&scheme, class), Err(number));
         assert_eq!(row(&scheme, class), Err(number));
         assert_eq!(low_step(&scheme, &payoff, class), Err(number));
         assert_eq!(high_step(&scheme, &payoff, class), Err(number));
@@ -261,6 +263,7 @@ fn declined_queries() {
         for class in [0, s + 1, s + (1 << 32), u64::MAX] {
             let payoff = made::payoff(&mut rng, scheme.classes);
             let excess = made::excess_payoff(&mut rng, scheme.classes);
+            assert_eq!(interval_row(&scheme, class), Err(11));
             assert_eq!(row(&scheme, class), Err(11));
             assert_eq!(low_step(&scheme, &payoff, class), Err(11));
             assert_eq!(high_step(&scheme, &payoff, class), Err(11));

@@ -2,7 +2,8 @@
 //! years against steps put one on another.
 
 use plain::{
-    high_step, low_step, mean, row, share, share_sheet, sheet, total, Figures, Scheme, ONE,
+    high_step, interval_row, low_step, mean, row, share, share_sheet, sheet, total, Figures,
+    Scheme, ONE,
 };
 use trials::made::{self, Shape};
 use trials::picks::{inside, premiums, Row};
@@ -23,13 +24,13 @@ fn summed_row(scheme: &Scheme, class: usize) -> (Figures, Figures) {
 }
 
 #[test]
-fn rows() {
+fn interval_rows() {
     let mut rng = Rng::new(11);
     for _ in 0..2_000 {
         let scheme = made::scheme(&mut rng);
         for class in 1..=usize::from(scheme.classes) {
             let (lower, upper) = summed_row(&scheme, class);
-            assert_eq!(row(&scheme, class as u64), Ok((lower, upper)));
+            assert_eq!(interval_row(&scheme, class as u64), Ok((lower, upper)));
             assert!(lower.iter().sum::<u64>() <= ONE && ONE <= upper.iter().sum());
         }
     }
@@ -70,10 +71,42 @@ fn by_vertices(lower: &Figures, upper: &Figures, s: usize, payoff: &Figures) -> 
     (*worths.iter().min().unwrap(), *worths.iter().max().unwrap())
 }
 
+/// Every end of a tight row is the least or the greatest of its entry over the
+/// vertices of the interval row.
+#[test]
+fn tight_rows_against_vertices() {
+    let mut rng = Rng::new(14);
+    let mut moved = [0; 2];
+    for _ in 0..3_000 {
+        let shape = Shape::up_to(&mut rng, 6, 8);
+        let scheme = made::scheme_of(&mut rng, shape);
+        let s = usize::from(shape.classes);
+        for class in 1..=s as u64 {
+            let (lower, upper) = interval_row(&scheme, class).unwrap();
+            let (tight_lower, tight_upper) = row(&scheme, class).unwrap();
+            for j in 0..s {
+                let mut at_j = [0; 32];
+                at_j[j] = 1;
+                let (least, most) = by_vertices(&lower, &upper, s, &at_j);
+                assert_eq!(u128::from(tight_lower[j]), least);
+                assert_eq!(u128::from(tight_upper[j]), most);
+                moved[0] += u64::from(tight_lower[j] != lower[j]);
+                moved[1] += u64::from(tight_upper[j] != upper[j]);
+            }
+            let beyond = tight_lower[s..].iter().chain(&tight_upper[s..]);
+            assert!(beyond.into_iter().all(|&end| end == 0));
+        }
+    }
+    assert!(
+        moved[0] > 1_000 && moved[1] > 1_000,
+        "ends moved: {moved:?}"
+    );
+}
+
 /// Checks that a handed row is inside, 0 beyond s, and reaches the worth.
 fn check_row(scheme: &Scheme, class: u64, handed: &Figures, payoff: &Figures, reached: u128) {
     let s = usize::from(scheme.classes);
-    let (lower, upper) = row(scheme, class).unwrap();
+    let (lower, upper) = interval_row(scheme, class).unwrap();
     assert!(inside(
         &lower,
         &upper,
@@ -95,7 +128,7 @@ fn steps_against_vertices() {
         let s = shape.classes;
         let class = rng.between(1, u64::from(s));
         let payoff = made::payoff(&mut rng, s);
-        let (lower, upper) = row(&scheme, class).unwrap();
+        let (lower, upper) = interval_row(&scheme, class).unwrap();
         let (least, most) = by_vertices(&lower, &upper, usize::from(s), &payoff);
         let one = u128::from(ONE);
 
@@ -131,7 +164,7 @@ fn steps_of_any_size() {
         check_row(&scheme, class, &high_row, &payoff, most);
 
         // The row is best: no pair of classes lets parts move for the better.
-        let (lower, upper) = row(&scheme, class).unwrap();
+        let (lower, upper) = interval_row(&scheme, class).unwrap();
         for a in 0..s {
             for b in 0..s {
                 if payoff[a] > payoff[b] {

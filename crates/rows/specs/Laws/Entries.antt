@@ -4,13 +4,10 @@ use mathlib.Core.Path.{_≡_, ap, ap₂, sym, _∙_}
 use mathlib.Core.Bool.{true, false}
 use mathlib.Core.List.{List, _++_}
 use lib.Dec.{ltb}
-use lib.ListN.{length, getD, take, drop, replicate}
-use native.Mathlib.Decide.{decLt}
+use lib.ListN.{length, take, drop, replicate}
 use native.Mathlib.Omega.{arith}
-use borrow.Author.Tests.{lt-ltb, le-ltb}
 use Rattle.scheme.specs.Access.{CELL_STRIDE, classBands}
 use Rattle.setchain.specs.Sums.{onlyIf}
-use Rattle.setchain.specs.Laws.Sums.{onlyIf-true, onlyIf-false}
 use Rattle.scheme.specs.declared.Scheme.{Scheme}
 use Rattle.scheme.specs.declared.RowAnswer.{RowAnswer}
 use Rattle.scheme.specs.Tables.{tab}
@@ -22,10 +19,10 @@ use Rattle.scheme.specs.Laws.Cause.{outside-false}
 use Rattle.scheme.specs.Laws.Judged.{accepted-cause}
 use Rattle.scheme.specs.SumByTarget.{sumByTarget}
 use Rattle.rows.specs.Laws.SumByTarget.{lower-is, upper-is}
-use Rattle.scheme.specs.RowAnswer.{rowCause, rowRefused, rowAt, rowAnswer}
+use Rattle.scheme.specs.RowAnswer.{rowCause, rowRefused, rowAnswered, intervalAt, intervalAnswer}
 use Rattle.rows.specs.Rows.{entriesOf, classRules, rowFrom}
-use Rattle.rows.specs.Laws.Front.{front-lent, whole-size, whole-front, whole-beyond}
-use Rattle.scheme.specs.Laws.Tab.{length-tab, getD-tab, as-tab, tab-eq}
+use Rattle.rows.specs.Laws.Front.{front-lent, joined-rule, zeros}
+use Rattle.scheme.specs.Laws.Tab.{tab-eq}
 
 -- Summed entries followed by what stood beyond them.
 pub entries-joined : (rules ends : List ℕ) (classes : ℕ) (g : List ℕ) → classes ≤ 32
@@ -33,28 +30,12 @@ pub entries-joined : (rules ends : List ℕ) (classes : ℕ) (g : List ℕ) → 
     → g ++ drop classes (replicate 32 0) ≡ entriesOf rules ends classes
 unfolding entriesOf
 entries-joined rules ends classes g h e =
-    as-tab 0 (g ++ drop classes (replicate 32 0)) 32 (λ j. onlyIf (ltb j classes) (sumByTarget rules ends j)) (whole-size classes g h size) (λ j l. at j (decLt j classes))
-  where
-    is : g ≡ tab classes (sumByTarget rules ends)
-    is = e ∙ ap (λ n. tab n (sumByTarget rules ends)) (front-lent classes h)
-
-    size : length g ≡ classes
-    size = ap length is ∙ length-tab classes (sumByTarget rules ends)
-
-    at : (j : ℕ) → Dec (j < classes) → getD (g ++ drop classes (replicate 32 0)) j 0 ≡ onlyIf (ltb j classes) (sumByTarget rules ends j)
-    at j (yes k) =
-        whole-front classes g h size j k
-        ∙ ap (λ x. getD x j 0) is
-        ∙ getD-tab classes (sumByTarget rules ends) j 0 k
-        ∙ sym (onlyIf-true (ltb j classes) (sumByTarget rules ends j) (lt-ltb j classes k))
-    at j (no k) =
-        whole-beyond classes g h size j (omega arith)
-        ∙ sym (onlyIf-false (ltb j classes) (sumByTarget rules ends j) (le-ltb j classes (omega arith)))
+    joined-rule classes (sumByTarget rules ends) (replicate 32 0) g h (λ j l. zeros j) (e ∙ ap (λ n. tab n (sumByTarget rules ends)) (front-lent classes h))
 
 -- For an accepted scheme they are those of its interval row.
 module _ (s : Scheme) (ok : Accepted s) (i : ℕ) (l : i < s .classes) where
-  pub row-is : rowFrom (s .rules) (s .lowers) (s .uppers) (s .columns) (s .classes) i ≡ rowAt s i
-  unfolding rowAt entriesOf
+  pub row-is : rowFrom (s .rules) (s .lowers) (s .uppers) (s .columns) (s .classes) i ≡ intervalAt s i
+  unfolding rowAnswered entriesOf
   row-is =
       λ k.
       record {
@@ -78,26 +59,26 @@ row-made rules lowers uppers columns classes i el eu e g =
     size : i * CELL_STRIDE + columns - i * CELL_STRIDE ≡ columns
     size = omega arith
 
--- The row operation's answer in each of its cases.
+-- The answer for a class's interval row in each of its cases.
 module _ (s : Scheme) (class : ℕ) where
-  pub row-declined : (n : ℕ) → n ≡ causeOf s → (n ≡ 0 → ⊥) → rowRefused n ≡ rowAnswer s class
+  pub row-declined : (n : ℕ) → n ≡ causeOf s → (n ≡ 0 → ⊥) → rowRefused n ≡ intervalAnswer s class
   row-declined n e h =
       let whole : rowCause s class ≡ n = ap (λ x. orElse x (classCause s class)) (sym e) ∙ first-cause n (classCause s class) h in
-      sym (declined (rowCause s class) (rowAt s (class - 1)) (rowRefused (rowCause s class)) (λ z. h (sym whole ∙ z)) ∙ ap rowRefused whole)
+      sym (declined (rowCause s class) (intervalAt s (class - 1)) (rowRefused (rowCause s class)) (λ z. h (sym whole ∙ z)) ∙ ap rowRefused whole)
 
   module _ (n : ℕ) (e : n ≡ causeOf s) (none : n ≡ 0) where
     whole-is : rowCause s class ≡ classCause s class
     whole-is = second-cause (causeOf s) (classCause s class) (sym e ∙ none)
 
-    pub row-no-class : outside (s .classes) class ≡ true → rowRefused 11 ≡ rowAnswer s class
+    pub row-no-class : outside (s .classes) class ≡ true → rowRefused 11 ≡ intervalAnswer s class
     row-no-class h =
         let whole : rowCause s class ≡ 11 = whole-is ∙ cond-true (outside (s .classes) class) 11 0 h in
-        sym (declined (rowCause s class) (rowAt s (class - 1)) (rowRefused (rowCause s class)) (λ z. omega (arith, whole, z)) ∙ ap rowRefused whole)
+        sym (declined (rowCause s class) (intervalAt s (class - 1)) (rowRefused (rowCause s class)) (λ z. omega (arith, whole, z)) ∙ ap rowRefused whole)
 
     pub row-answered : outside (s .classes) class ≡ false
-        → rowFrom (s .rules) (s .lowers) (s .uppers) (s .columns) (s .classes) (class - 1) ≡ rowAnswer s class
+        → rowFrom (s .rules) (s .lowers) (s .uppers) (s .columns) (s .classes) (class - 1) ≡ intervalAnswer s class
     row-answered h =
         let whole : rowCause s class ≡ 0 = whole-is ∙ cond-false (outside (s .classes) class) 11 0 h in
         let range : (1 ≤ class) × (class ≤ s .classes) = outside-false (s .classes) class h in
         row-is s (accepted-cause s (sym e ∙ none)) (class - 1) (omega arith)
-        ∙ sym (answered (rowCause s class) (rowAt s (class - 1)) (rowRefused (rowCause s class)) whole)
+        ∙ sym (answered (rowCause s class) (intervalAt s (class - 1)) (rowRefused (rowCause s class)) whole)

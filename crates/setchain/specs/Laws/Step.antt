@@ -1,7 +1,7 @@
 -- The step: its rows lie inside and carry certificates, its figures are document 01's, and any certified row reaches them.
 use Prim.Native.Nat.{ℕ, zero, suc, _+_, _*_, _≤_, _<_}
 use mathlib.Core.Path.{_≡_, refl, ap, _∙_}
-use mathlib.Core.Bool.{Bool, true, false}
+use mathlib.Core.Bool.{Bool, true}
 use native.Mathlib.Omega.{arith}
 use native.Mathlib.Nat.{mul-le-mul-left}
 use Rattle.setchain.specs.Sums.{sumTo, dot}
@@ -11,7 +11,7 @@ use Rattle.setchain.specs.Step.{NotAfter, capacity, slack, before, capac
 use Rattle.setchain.specs.Certificate.{Certificate}
 use Rattle.setchain.specs.Years.{yearsFigure}
 use Rattle.setchain.specs.Laws.Sums.{sumTo-le, sumTo-add, sumTo-scale}
-use Rattle.setchain.specs.Laws.NotAfter.{not-after-both}
+use Rattle.setchain.specs.Laws.NotAfter.{not-after-both, not-after-cancel}
 use Rattle.setchain.specs.Laws.Rounding.{rounded-bounds, rounded-at-most}
 use Rattle.setchain.specs.Laws.Certificate.{certified}
 use Rattle.setchain.specs.Laws.Fill.{Strict, Pivot, ahead, pivot, given, given-before, given-after, given-all, positive-count}
@@ -23,11 +23,6 @@ record Filled (n : ℕ) (r : IntervalRow) (order : ℕ → ℕ → Bool) : Type 
   pivotAt : ℕ
   full : (j : ℕ) → j < n → order j pivotAt ≡ true → fillRow n r order j ≡ r .upper j
   bare : (j : ℕ) → j < n → order pivotAt j ≡ true → fillRow n r order j ≡ r .lower j
-
--- A common factor taken away.
-not-after-parts : (high : Bool) (a b : ℕ) → NotAfter high (a * ONE) (b * ONE) → NotAfter high a b
-not-after-parts false a b h = omega arith
-not-after-parts true a b h = omega arith
 
 module _ (n : ℕ) (r : IntervalRow) (sound : SoundRow n r) where
   slack-le : slack n r ≤ sumTo n (capacity r)
@@ -83,7 +78,7 @@ module _ (n : ℕ) (r : IntervalRow) (sound : SoundRow n r) where
     certified-reaches p inside cert =
         record {
           inside = inside;
-          extreme = λ q h. not-after-parts high (dot n p f) (dot n q f) (certified high n r f p inside cert (ofParts q) h);
+          extreme = λ q h. not-after-cancel high (dot n p f) (dot n q f) ONE (omega arith) (certified high n r f p inside cert (ofParts q) h);
           rounded = refl;
         }
 

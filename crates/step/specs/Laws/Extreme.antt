@@ -9,7 +9,7 @@ use native.Mathlib.Decide.{ℕ-discrete, decLt}
 use native.Mathlib.Omega.{arith}
 use lib.ListN.{length}
 use Rattle.setchain.specs.Sums.{at, dot}
-use Rattle.setchain.specs.Rows.{ONE}
+use Rattle.setchain.specs.Rows.{ONE, listsRow}
 use Rattle.setchain.specs.Rounding.{rounded}
 use Rattle.setchain.specs.Step.{stepFigure, Reaches, NotAfter}
 use Rattle.setchain.specs.Certificate.{Ahead, Certificate}
@@ -17,7 +17,6 @@ use Rattle.setchain.specs.Laws.Step.{certified-reaches, reached-figure}
 use Rattle.order.specs.Order.{payoffAt, along, Occurs}
 use Rattle.setchain.specs.Laws.NotAfter.{not-after-same}
 use Rattle.order.specs.Laws.Along.{along-permutation, along-sorted}
-use Rattle.step.specs.Lists.{listsRow}
 use Rattle.step.specs.Fill.{FillPre, FillPost}
 use Rattle.step.specs.Figure.{WeighPre}
 use Rattle.step.specs.Step.{StepPre, StepPost}

@@ -4,8 +4,7 @@ use Prim.Native.Nat.{_+_, _-_, _≤_, _<_}
 use mathlib.Core.Logic.{⊎-elim}
 use native.Mathlib.Omega.{arith}
 use lib.ListN.{length}
-use Rattle.setchain.specs.Rows.{ONE}
-use Rattle.step.specs.Lists.{listsRow}
+use Rattle.setchain.specs.Rows.{ONE, listsRow}
 use Rattle.bounds.specs.Entries.{counts}
 use Rattle.bounds.proofs.AddRowLaws.{Adding, adding-none, adding-here, adding-skip, adding-more, adding-as, adding-all}
 use Rattle.bounds.proofs.entries.add_row.Statement.{statement}

@@ -14,8 +14,8 @@ use borrow.Author.Needs.{needs}
 use Rattle.step.proofs.answer.answer.Statement.{statement}
 use Rattle.step.proofs.answer.answer.Tie as tie
 
-row-requires : tie.Need-row-requires
-row-requires c κs = search needs
+interval-row-requires : tie.Need-interval-row-requires
+interval-row-requires c κs = search needs
 
 scheme-cause-requires : tie.Need-scheme-cause-requires
 scheme-cause-requires c κs = search needs
@@ -26,18 +26,18 @@ refused-requires c κs = search needs
 returns : tie.Need-returns
 returns c =
     let at-scheme-cause = c .before .before in
-    let at-row = at-scheme-cause .before in
-    let a = at-row .before .before .args in
+    let at-interval = at-scheme-cause .before in
+    let a = at-interval .before .before .args in
     step-declined (a .scheme) (a .payoff .now) (a .class) _ (c .refused .ensures)
-    (cause-scheme (a .scheme) (a .payoff .now) (a .class) (at-row .row .ensures) (at-scheme-cause .scheme-cause .ensures) (c .before .if1 .taken)) (c .before .if1 .taken)
+    (cause-scheme (a .scheme) (a .payoff .now) (a .class) (at-interval .interval-row .ensures) (at-scheme-cause .scheme-cause .ensures) (c .before .if1 .taken)) (c .before .if1 .taken)
 
 -- A scheme without a cause of its own has 32 classes at most.
 few : (c : tie.Else1) → let start = c .before .before .before .before in
     start .args .scheme .classes ≤ 32
 few c =
-    let at-row = c .before .before in
-    let a = at-row .before .before .args in
-    classes-fit (a .scheme) (a .payoff .now) (a .class) (at-row .row .ensures) (c .before .scheme-cause .ensures) (c .if1 .left)
+    let at-interval = c .before .before in
+    let a = at-interval .before .before .args in
+    classes-fit (a .scheme) (a .payoff .now) (a .class) (at-interval .interval-row .ensures) (c .before .scheme-cause .ensures) (c .if1 .left)
 
 -- Each with a payoff.
 enough : (c : tie.Else1) → let start = c .before .before .before .before in
@@ -57,11 +57,11 @@ cause : (c : tie.After-or-else) → let start = c .before .before .before .befor
     c .or-else .result ≡ stepCause (start .args .scheme) (start .args .payoff .now) (start .args .class)
 cause c =
     let at-else1 = c .before .before in
-    let at-row = at-else1 .before .before in
-    let a = at-row .before .before .args in
+    let at-interval = at-else1 .before .before in
+    let a = at-interval .before .before .args in
     c .or-else .ensures
-    ∙ ap (λ n. orElse n (at-row .row .result .number)) (c .before .payoff-cause .ensures)
-    ∙ cause-later (a .scheme) (a .payoff .now) (a .class) (at-row .row .ensures) (at-else1 .before .scheme-cause .ensures) (at-else1 .if1 .left)
+    ∙ ap (λ n. orElse n (at-interval .interval-row .result .number)) (c .before .payoff-cause .ensures)
+    ∙ cause-later (a .scheme) (a .payoff .now) (a .class) (at-interval .interval-row .ensures) (at-else1 .before .scheme-cause .ensures) (at-else1 .if1 .left)
 
 refused-requires-2 : tie.Need-refused-requires-2
 refused-requires-2 c κs = search needs
@@ -94,14 +94,18 @@ slice-aggregate-rank c =
 rank-requires : tie.Need-rank-requires
 rank-requires c κs = tt
 
+-- The call for the interval row, from the second test.
+abbrev asked : tie.Else2 → tie.After-interval-row
+asked c = let at-else1 = c .before .before .before in at-else1 .before .before
+
 -- Without a cause the row has entries for each class.
-entries : (c : tie.Else2) → let at-row = c .before .before .before .before .before in
-    let classes = at-row .before .before .args .scheme .classes in
-    (classes ≤ length (at-row .row .result .lower)) × (classes ≤ length (at-row .row .result .upper))
+entries : (c : tie.Else2) → let at-interval = asked c in
+    let classes = at-interval .before .before .args .scheme .classes in
+    (classes ≤ length (at-interval .interval-row .result .lower)) × (classes ≤ length (at-interval .interval-row .result .upper))
 entries c =
-    let at-row = c .before .before .before .before .before in
-    let a = at-row .before .before .args in
-    entries-fit (a .scheme) (a .payoff .now) (a .class) (at-row .row .ensures) (cause (c .before)) (c .if2 .left)
+    let at-interval = asked c in
+    let a = at-interval .before .before .args in
+    entries-fit (a .scheme) (a .payoff .now) (a .class) (at-interval .interval-row .ensures) (cause (c .before)) (c .if2 .left)
 
 array-share-prefix-lower : tie.Need-array-share-prefix-lower
 array-share-prefix-lower c =
@@ -166,9 +170,9 @@ step-requires c κs =
     let at-rank = c .before .before .before .before .before in
     let at-else2 = at-rank .before .before .before .before .before .before in
     let at-else1 = at-else2 .before .before .before in
-    let at-row = at-else1 .before .before in
-    let a = at-row .before .before .args in
-    answer-steps (a .scheme) (a .payoff .now) (a .class) (at-row .row .ensures) (cause (at-else2 .before)) (at-else2 .if2 .left) (enough at-else1) _ _
+    let at-interval = at-else1 .before .before in
+    let a = at-interval .before .before .args in
+    answer-steps (a .scheme) (a .payoff .now) (a .class) (at-interval .interval-row .ensures) (cause (at-else2 .before)) (at-else2 .if2 .left) (enough at-else1) _ _
     (sorted at-rank)
 
 returns-3 : tie.Need-returns-3
@@ -177,15 +181,15 @@ returns-3 c =
     let at-rank = at-step .before .before .before .before .before .before in
     let at-else2 = at-rank .before .before .before .before .before .before in
     let at-else1 = at-else2 .before .before .before in
-    let at-row = at-else1 .before .before in
-    let a = at-row .before .before .args in
-    answer-made (a .scheme) (a .payoff .now) (a .class) (at-row .row .ensures) (cause (at-else2 .before)) (at-else2 .if2 .left) (enough at-else1) _ (at-step .step .ensures)
+    let at-interval = at-else1 .before .before in
+    let a = at-interval .before .before .args in
+    answer-made (a .scheme) (a .payoff .now) (a .class) (at-interval .interval-row .ensures) (cause (at-else2 .before)) (at-else2 .if2 .left) (enough at-else1) _ (at-step .step .ensures)
 
 pub answer-spec : {M : Type 1} → statement M
 answer-spec =
     tie.close
     (tie.spec
-    row-requires
+    interval-row-requires
     scheme-cause-requires
     refused-requires
     returns

@@ -1,0 +1,75 @@
+-- "All share and money bounds keep their figures" (document 02, item 2): those of an accepted scheme are the figures of its tight rows,
+-- and what is promised over picks inside the interval rows is promised over picks inside the tight ones.
+use Prim.Native.Nat.{ℕ, _-_}
+use mathlib.Core.Path.{_≡_, ap₂, sym}
+use mathlib.Core.Bool.{Bool, true, false}
+use mathlib.Core.List.{List}
+use native.Mathlib.Omega.{arith}
+use Rattle.setchain.specs.Fractions.{Fraction, whole}
+use Rattle.setchain.specs.Rows.{SetChain}
+use Rattle.setchain.specs.Years.{yearsFigure, nothing, sharePayoff, shareFigure, meanFigure, totalFigure}
+use Rattle.setchain.specs.Picks.{Matrix}
+use Rattle.setchain.specs.Promise.{NoFurther, KeptBy}
+use Rattle.setchain.specs.Tight.{tightChain}
+use Rattle.setchain.specs.Tightened.{chain-covers, covers-chain, years-tight, kept-same}
+use Rattle.scheme.specs.declared.Scheme.{Scheme}
+use Rattle.scheme.specs.Tables.{tab}
+use Rattle.scheme.specs.Access.{premiumAt}
+use Rattle.scheme.specs.Accepted.{Accepted}
+use Rattle.scheme.specs.Rows.{chainOf}
+use Rattle.scheme.specs.Laws.Sound.{accepted-sound}
+use Rattle.bounds_spec.specs.Causes.{shareCause, moneyCause, tableSize}
+use Rattle.bounds_spec.specs.Answers.{answerBy, startOf, shareAnswer, meanAnswer, totalAnswer, figureShares}
+use Rattle.bounds_spec.specs.Table.{tableEntry, figureTable}
+use Rattle.bounds_spec.specs.Promises.{Kept}
+
+-- The chain of a scheme with its rows made tight.
+abbrev pub tightChainOf : Scheme → SetChain
+tightChainOf s = tightChain (chainOf s)
+
+-- The three figures of the start class over the tight rows.
+abbrev tightShare : (high : Bool) → Scheme → (t j : ℕ) → ℕ
+tightShare high s t j = shareFigure high (tightChainOf s) j t (startOf s)
+
+abbrev tightMean : (high : Bool) → Scheme → (t : ℕ) → ℕ
+tightMean high s t = meanFigure high (tightChainOf s) (premiumAt s) t (startOf s)
+
+abbrev tightTotal : (high : Bool) → Scheme → (t : ℕ) → ℕ
+tightTotal high s t = totalFigure high (tightChainOf s) (premiumAt s) t (startOf s)
+
+-- Every answer for bounds, and the numbers of share sheets and tables, are those of the tight rows; so is demand 3, both ways.
+pub record TightBounds (s : Scheme) : Type 0 where
+  pub share : (class year : ℕ) → shareAnswer s class year ≡ answerBy (shareCause s class year) (tightShare false s year (class - 1)) (tightShare true s year (class - 1))
+  pub mean : (year : ℕ) → meanAnswer s year ≡ answerBy (moneyCause s year) (tightMean false s year) (tightMean true s year)
+  pub total : (year : ℕ) → totalAnswer s year ≡ answerBy (moneyCause s year) (tightTotal false s year) (tightTotal true s year)
+  pub shares : (high : Bool) (year : ℕ) → figureShares high s year ≡ tab (s .classes) (tightShare high s year)
+  pub table : (high : Bool) → figureTable high s ≡ tab (tableSize s) (tableEntry s (tightShare high s) (tightMean high s) (tightTotal high s (s .horizon)))
+  pub kept : (t low high : ℕ) (exact : List Matrix → Fraction) → Kept s t exact low high → KeptBy (tightChainOf s) t (NoFurther (whole t)) exact low high
+  pub keptBack : (t low high : ℕ) (exact : List Matrix → Fraction) → KeptBy (tightChainOf s) t (NoFurther (whole t)) exact low high → Kept s t exact low high
+
+module _ (s : Scheme) (ok : Accepted s) where
+  -- Any payoff and gain.
+  figure-tight : (high : Bool) (payoff gain : ℕ → ℕ) (t : ℕ) → yearsFigure high (chainOf s) payoff gain t (startOf s) ≡ yearsFigure high (tightChainOf s) payoff gain t (startOf s)
+  figure-tight high payoff gain t = sym (years-tight (accepted-sound s ok) high payoff gain t (startOf s) (omega (arith, ok .start .positive, ok .start .within)))
+
+  share-tight : (high : Bool) (t j : ℕ) → shareFigure high (chainOf s) j t (startOf s) ≡ tightShare high s t j
+  share-tight high t j = figure-tight high (sharePayoff j) nothing t
+
+  mean-tight : (high : Bool) (t : ℕ) → meanFigure high (chainOf s) (premiumAt s) t (startOf s) ≡ tightMean high s t
+  mean-tight high t = figure-tight high (premiumAt s) nothing t
+
+  total-tight : (high : Bool) (t : ℕ) → totalFigure high (chainOf s) (premiumAt s) t (startOf s) ≡ tightTotal high s t
+  total-tight high t = figure-tight high nothing (premiumAt s) t
+
+  pub tight-bounds : TightBounds s
+  unfolding shareAnswer meanAnswer totalAnswer figureShares figureTable
+  tight-bounds =
+      record {
+        share = λ class year. ap₂ (answerBy (shareCause s class year)) (share-tight false year (class - 1)) (share-tight true year (class - 1));
+        mean = λ year. ap₂ (answerBy (moneyCause s year)) (mean-tight false year) (mean-tight true year);
+        total = λ year. ap₂ (answerBy (moneyCause s year)) (total-tight false year) (total-tight true year);
+        shares = λ high year k. tab (s .classes) (λ j. share-tight high year j k);
+        table = λ high k. tab (tableSize s) (tableEntry s (λ t j. share-tight high t j k) (λ t. mean-tight high t k) (total-tight high (s .horizon) k));
+        kept = λ t low high exact. kept-same (covers-chain (accepted-sound s ok)) (chain-covers (accepted-sound s ok));
+        keptBack = λ t low high exact. kept-same (chain-covers (accepted-sound s ok)) (covers-chain (accepted-sound s ok));
+      }
