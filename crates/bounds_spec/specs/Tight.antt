@@ -11,7 +11,7 @@ use Rattle.setchain.specs.Years.{yearsFigure, nothing, sharePayoff, shareFigure
 use Rattle.setchain.specs.Picks.{Matrix}
 use Rattle.setchain.specs.Promise.{NoFurther, KeptBy}
 use Rattle.setchain.specs.Tight.{tightChain}
-use Rattle.setchain.specs.Tightened.{chain-covers, covers-chain, years-tight, kept-same}
+use Rattle.setchain.specs.Tightened.{chain-covers, covers-chain, years-tight, kept-same, kept-tight}
 use Rattle.scheme.specs.declared.Scheme.{Scheme}
 use Rattle.scheme.specs.Tables.{tab}
 use Rattle.scheme.specs.Access.{premiumAt}
@@ -28,13 +28,13 @@ abbrev pub tightChainOf : Scheme → SetChain
 tightChainOf s = tightChain (chainOf s)
 
 -- The three figures of the start class over the tight rows.
-abbrev tightShare : (high : Bool) → Scheme → (t j : ℕ) → ℕ
+abbrev pub tightShare : (high : Bool) → Scheme → (t j : ℕ) → ℕ
 tightShare high s t j = shareFigure high (tightChainOf s) j t (startOf s)
 
-abbrev tightMean : (high : Bool) → Scheme → (t : ℕ) → ℕ
+abbrev pub tightMean : (high : Bool) → Scheme → (t : ℕ) → ℕ
 tightMean high s t = meanFigure high (tightChainOf s) (premiumAt s) t (startOf s)
 
-abbrev tightTotal : (high : Bool) → Scheme → (t : ℕ) → ℕ
+abbrev pub tightTotal : (high : Bool) → Scheme → (t : ℕ) → ℕ
 tightTotal high s t = totalFigure high (tightChainOf s) (premiumAt s) t (startOf s)
 
 -- Every answer for bounds, and the numbers of share sheets and tables, are those of the tight rows; so is demand 3, both ways.
@@ -70,6 +70,6 @@ module _ (s : Scheme) (ok : Accepted s) where
         total = λ year. ap₂ (answerBy (moneyCause s year)) (total-tight false year) (total-tight true year);
         shares = λ high year k. tab (s .classes) (λ j. share-tight high year j k);
         table = λ high k. tab (tableSize s) (tableEntry s (λ t j. share-tight high t j k) (λ t. mean-tight high t k) (total-tight high (s .horizon) k));
-        kept = λ t low high exact. kept-same (covers-chain (accepted-sound s ok)) (chain-covers (accepted-sound s ok));
+        kept = λ t low high exact. kept-tight (accepted-sound s ok);
         keptBack = λ t low high exact. kept-same (chain-covers (accepted-sound s ok)) (covers-chain (accepted-sound s ok));
       }

@@ -222,7 +222,7 @@ fn share(scheme: Scheme, class: u64, year: u64) {
     answer(bounds::share(scheme, class, year));
 }
 
-// What is asked of a class: its interval row, its steps at all kinds of payoff, and its shares.
+// What is asked of a class: its interval row and its tight row, its steps at all kinds of payoff, and its shares.
 fn of_class(scheme: Scheme, number: u64, class: u64) {
     let horizon = scheme.horizon as u64;
     row(scheme, class);

@@ -1,4 +1,4 @@
--- Interval rows, rule rows and bands of a record: with a cause of reading, and without.
+-- Tight rows, rule rows and bands of a record: with a cause of reading, and without.
 -- Assumes nothing.
 use Prim.Native.Nat.{ℕ, _-_, _≤_}
 use mathlib.Core.Path.{_≡_, ap, sym, _∙_, subst}
@@ -25,7 +25,7 @@ use Rattle.joguyvi_spec.specs.Laws.Causes.{cause-only, stopped-number, passed-n
 use Rattle.joguyvi_spec.specs.Rows.{rowOfRecord, partNumber, ruleRowNumber, RowPost, PartPost, BandsPost, RowCall, RuleRowCall, BandsCall}
 use Rattle.joguyvi_rows.proofs.RowBuffersLaws.{eleven, part-empty, part-some}
 
--- An interval row.
+-- A tight row.
 module _ (bytes : List ℕ) (class : ℕ) (lower upper : List ℕ) {a : ReadAnswer} (is : a ≡ readAnswer bytes) where
   pub row-stopped : (a .number ≡ 0 → ⊥) → RowCall bytes class lower upper (a .number) lower upper
   row-stopped some = record { answer = stopped-number bytes is _ some; lowers = unfilled _ _ some; uppers = unfilled _ _ some }

@@ -1,10 +1,10 @@
-// Interval rows, rule rows and bands of a record, for C and for Rust: each function answers 0 or the cause's number, and fills the lent buffers only where it answers 0.
+// Tight rows, rule rows and bands of a record, for C and for Rust: each function answers 0 or the cause's number, and fills the lent buffers only where it answers 0.
 ghost use Rattle.joguyvi_spec.specs.Rows.{BandsCall, RowCall, RuleRowCall};
 
 mod copies;
 mod row_buffers;
 
-// The interval row of a class, in parts, into two buffers of 32 numbers, with 0 beyond the classes.
+// The tight row of a class, in parts, into two buffers of 32 numbers, with 0 beyond the classes.
 #[no_mangle]
 pub extern "C" fn joguyvi_row(bytes: &[u8], class: u64, lower: &mut [u64], upper: &mut [u64]) -> u8
     ensures { λ r. ⌜ RowCall (now (bytes .entry)) class (now (lower .entry)) (now (upper .entry)) r (now (lower .exit)) (now (upper .exit)) ⌝ }

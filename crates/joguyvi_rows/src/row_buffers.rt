@@ -6,7 +6,7 @@ use scheme::or_else;
 ghost use Prim.Native.Nat.{_≤_};
 ghost use Rattle.joguyvi_spec.specs.Rows.{BandsPost, PartPost, RowPost};
 
-// Puts an interval row into two buffers of 32 numbers, and answers the cause, or 0.
+// Puts a row into two buffers of 32 numbers, and answers the cause, or 0.
 pub fn put_row(answer: RowAnswer, lower: &mut [u64], upper: &mut [u64]) -> u8
     ensures { λ r. ⌜ RowPost answer (now (lower .entry)) (now (upper .entry)) r (now (lower .exit)) (now (upper .exit)) ⌝ }
 {

@@ -1,4 +1,4 @@
-// The row operation's parts.
+// The parts of an interval row's answer.
 ghost use mathlib.Core.Path.{_≡_};
 ghost use Prim.Native.Nat.{_-_, _≤_};
 ghost use lib.ListN.{length};

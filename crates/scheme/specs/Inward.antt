@@ -2,16 +2,12 @@
 use Prim.Native.Nat.{ℕ, _-_, _≤_, _<_}
 use mathlib.Core.Path.{_≡_, refl, sym, subst}
 use mathlib.Core.Bool.{true, false}
-use lib.Dec.{ltb}
-use native.Mathlib.Decide.{decLt}
 use native.Mathlib.Omega.{arith}
 use native.Mathlib.Nat.{le-refl}
-use borrow.Author.Tests.{le-ltb}
-use Rattle.setchain.specs.Sums.{at, onlyIf}
+use Rattle.setchain.specs.Sums.{at}
 use Rattle.setchain.specs.Rows.{IntervalRow, SoundRow, Covers}
 use Rattle.setchain.specs.Tight.{tightRow}
 use Rattle.setchain.specs.Tightened.{tight-inward}
-use Rattle.setchain.specs.Laws.Sums.{onlyIf-false, onlyIf-mono}
 use Rattle.scheme.specs.declared.Scheme.{Scheme}
 use Rattle.scheme.specs.declared.RowAnswer.{RowAnswer}
 use Rattle.scheme.specs.Accepted.{Accepted}
@@ -21,6 +17,7 @@ use Rattle.scheme.specs.RowAnswer.{rowCause, rowAnswered, rowAt, rowAnsw
 use Rattle.scheme.specs.Values.{Trimmed}
 use Rattle.scheme.specs.Laws.FirstCause.{second-none, cause-related}
 use Rattle.scheme.specs.Laws.Cause.{class-fits}
+use Rattle.scheme.specs.Laws.RowAnswer.{entry-related}
 use Rattle.scheme.specs.Laws.Sound.{accepted-sound}
 use Rattle.scheme.specs.Laws.Tab.{tab-related}
 use Rattle.scheme.specs.Laws.Trimmed.{trimmed-covers, trimmed-cause}
@@ -37,15 +34,13 @@ answered-inward : (n : ℕ) (wide narrow : IntervalRow) → SoundRow n wide → 
     → RowInward (rowAnswered n (tightRow n wide)) (rowAnswered n (tightRow n narrow))
 unfolding rowAnswered
 answered-inward n wide narrow soundWide soundNarrow covers =
-    record {
-      number = refl;
-      lower = tab-related _≤_ (le-refl 0) refl _ _ (λ j l. within (tightRow n wide .lower) (tightRow n narrow .lower) (tight-inward false soundWide soundNarrow covers) j (decLt j n));
-      upper = tab-related (λ a b. b ≤ a) (le-refl 0) refl _ _ (λ j l. within (tightRow n narrow .upper) (tightRow n wide .upper) (tight-inward true soundWide soundNarrow covers) j (decLt j n));
-    }
+    record { number = refl; lower = λ j. omega (arith, lowers j); upper = λ j. omega (arith, uppers j) }
   where
-    within : (f g : ℕ → ℕ) → ((j : ℕ) → j < n → f j ≤ g j) → (j : ℕ) → Dec (j < n) → onlyIf (ltb j n) (f j) ≤ onlyIf (ltb j n) (g j)
-    within f g h j (yes l) = onlyIf-mono (ltb j n) (f j) (g j) (h j l)
-    within f g h j (no l) = omega (arith, onlyIf-false (ltb j n) (f j) (le-ltb j n (omega arith)))
+    lowers : (j : ℕ) → at (rowAnswered n (tightRow n wide) .lower) j ≤ at (rowAnswered n (tightRow n narrow) .lower) j
+    lowers = tab-related _≤_ (le-refl 0) refl _ _ (λ j l. entry-related _≤_ (le-refl 0) n _ _ (tight-inward false soundWide soundNarrow covers) j)
+
+    uppers : (j : ℕ) → at (rowAnswered n (tightRow n narrow) .upper) j ≤ at (rowAnswered n (tightRow n wide) .upper) j
+    uppers = tab-related _≤_ (le-refl 0) refl _ _ (λ j l. entry-related _≤_ (le-refl 0) n _ _ (tight-inward true soundWide soundNarrow covers) j)
 
 module _ {wide narrow : Scheme} (okWide : Accepted wide) (okNarrow : Accepted narrow) (trimmed : Trimmed wide narrow) (class : ℕ) where
   cause : rowCause wide class ≡ rowCause narrow class

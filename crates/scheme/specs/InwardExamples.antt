@@ -11,7 +11,7 @@ use Rattle.scheme.specs.RowAnswer.{rowRefused, rowAnswered, rowAnswer}
 use Rattle.scheme.specs.RowExamples.{answerOf}
 use Rattle.scheme.specs.Inward.{RowInward}
 
--- The last column's band trimmed to .01 to .04: from class 1 every end but the last moves. The second column's trimmed to .1 to .15: no end of class 2 moves.
+-- The last column's band trimmed to .01 to .04: from class 1 every end moves. The second column's trimmed to .1 to .15: no end of class 2 moves.
 pub record TrimmedRows : Type 0 where
   pub narrow : rowAnswer narrowA 1 ≡ answerOf (960000000 ∷ 10000000 ∷ []) (990000000 ∷ 40000000 ∷ [])
   pub unchanged : rowAnswer unchangedA 2 ≡ rowAnswer schemeA 2

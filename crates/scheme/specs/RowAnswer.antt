@@ -42,6 +42,6 @@ intervalAnswer s class = rowBy (rowCause s class) (intervalAt s (class - 1))
 abbrev pub rowAt : Scheme → ℕ → RowAnswer
 rowAt s i = rowAnswered (s .classes) (tightRow (s .classes) (chainOf s .row i))
 
--- The row of a queried class, which is public: the tight row.
+-- "The row of a queried class is public, lower and upper, with 0 beyond s" (document 01): the tight row.
 abbrev pub rowAnswer : Scheme → ℕ → RowAnswer
 rowAnswer s class = rowBy (rowCause s class) (rowAt s (class - 1))

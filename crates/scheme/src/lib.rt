@@ -62,7 +62,7 @@ pub struct Scheme {
     pub premiums: [u32; 32],
 }
 
-// The answer of the row operation: a refusal number or 0, and the lower and upper entries.
+// The answer of the row operations: a refusal number or 0, and the lower and upper entries.
 pub struct RowAnswer {
     pub number: u8,
     pub lower: [u64; 32],

@@ -136,7 +136,7 @@ pub record TightRows : Type 0 where
   pub risingUppers : (tightRow 2 (rowOfTwo 0 0 600000000 700000000) .upper 0 ≡ 600000000) × (tightRow 2 (rowOfTwo 0 0 600000000 700000000) .upper 1 ≡ 700000000)
   -- Of a row that has entries for three states, over two: entries from 2 on are 0.
   pub beyond : (tightRow 2 exampleRow .lower 2 ≡ 0) × (tightRow 2 exampleRow .upper 2 ≡ 0)
-  -- Both ends of one entry move, each by the old entries: from .1 to .9 to .5 to .8.
+  -- Both ends of one entry move, each by the old entries: .1 and .9 become .5 and .8.
   pub bothMove : (tightRow 2 (rowOfTwo 100000000 200000000 900000000 500000000) .lower 0 ≡ 500000000) × (tightRow 2 (rowOfTwo 100000000 200000000 900000000 500000000) .upper 0 ≡ 800000000)
   -- The row of document 01's first step: nothing changes.
   pub keptLowers : (tightRow 3 exampleRow .lower 0 ≡ 100000000) × (tightRow 3 exampleRow .lower 1 ≡ 200000000) × (tightRow 3 exampleRow .lower 2 ≡ 300000000)

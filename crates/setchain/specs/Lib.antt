@@ -1,4 +1,5 @@
--- Read in this order: what a bound means (Sums to Promise), then that it holds (Theorems), for answers too (Kept), and moves inward with narrower rows (Inward), then worked figures.
+-- Read in this order: what a bound means (Sums to Promise), then that it holds (Theorems), for answers too (Kept), and moves inward with narrower rows (Inward),
+-- what a tight row is (Tight) and that it changes no figure and no promise (Tightened), then worked figures.
 -- Laws has the lemmas by which the theorems are proved.
 pub mod Sums
 pub mod Fractions

@@ -11,7 +11,7 @@ ghost use Rattle.scheme.specs.Stages.{limitCause};
 ghost use Rattle.step.specs.Answer.{schemeCause, stepRefused};
 ghost use Rattle.step_spec.specs.StepAnswer.{StepAnswered};
 
-// The scheme's own cause in the row operation's number: any but that of the class.
+// The scheme's own cause in the number of a class's interval row: any but that of the class.
 fn scheme_cause(number: u8) -> u8
     ensures { λ r. ⌜ r ≡ schemeCause number ⌝ }
 {

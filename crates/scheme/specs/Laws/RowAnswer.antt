@@ -1,6 +1,6 @@
 -- What the row operations answer: the number, and the entries of a row that is answered.
 use Prim.Native.Nat.{ℕ, _-_, _≤_, _<_}
-use mathlib.Core.Path.{_≡_, refl, ap, sym, _∙_}
+use mathlib.Core.Path.{_≡_, refl, ap, sym, _∙_, subst₂}
 use lib.Dec.{ltb}
 use lib.ListN.{length, List·getD-eq-default}
 use native.Mathlib.Decide.{decLt, ℕ-discrete}
@@ -17,7 +17,7 @@ use Rattle.scheme.specs.RowAnswer.{rowCause, rowRefused, rowAnswered, ro
 use Rattle.scheme.specs.Laws.FirstCause.{declined, answered}
 use Rattle.scheme.specs.Laws.Tab.{length-tab, getD-tab, tab-eq}
 
--- The number is the cause.
+-- The number of a row by its cause is the cause,
 by-number : (n : ℕ) (row : RowAnswer) → row .number ≡ 0 → rowBy n row .number ≡ n
 by-number n row is = by (ℕ-discrete n 0)
   where
@@ -25,6 +25,7 @@ by-number n row is = by (ℕ-discrete n 0)
     by (yes z) = ap (λ r. r .number) (answered n row (rowRefused n) z) ∙ is ∙ sym z
     by (no h) = ap (λ r. r .number) (declined n row (rowRefused n) h)
 
+-- and so is that of a class's interval row.
 pub interval-number : (s : Scheme) (class : ℕ) {interval : RowAnswer} → interval ≡ intervalAnswer s class → interval .number ≡ rowCause s class
 unfolding rowAnswered
 interval-number s class is = ap (λ r. r .number) is ∙ by-number (rowCause s class) (intervalAt s (class - 1)) refl
@@ -55,14 +56,18 @@ module _ (n : ℕ) (r : IntervalRow) where
   unfolding rowAnswered
   answered-beyond j l = (entry-beyond n (r .lower) j l, entry-beyond n (r .upper) j l)
 
+-- Entries that are related below n, and are 0 from there on, are related everywhere.
+pub entry-related : (R : ℕ → ℕ → Type 0) → R 0 0 → (n : ℕ) (f g : ℕ → ℕ) → ((j : ℕ) → j < n → R (f j) (g j)) → (j : ℕ) → R (onlyIf (ltb j n) (f j)) (onlyIf (ltb j n) (g j))
+entry-related R none n f g h j = by (decLt j n)
+  where
+    by : Dec (j < n) → R (onlyIf (ltb j n) (f j)) (onlyIf (ltb j n) (g j))
+    by (yes l) = subst₂ R (sym (onlyIf-true (ltb j n) (f j) (lt-ltb j n l))) (sym (onlyIf-true (ltb j n) (g j) (lt-ltb j n l))) (h j l)
+    by (no l) = subst₂ R (sym (onlyIf-false (ltb j n) (f j) (le-ltb j n (omega arith)))) (sym (onlyIf-false (ltb j n) (g j) (le-ltb j n (omega arith)))) none
+
 -- Rows with the same entries below n are answered alike.
 pub answered-same : {n : ℕ} {r q : IntervalRow} → Agree n r q → rowAnswered n r ≡ rowAnswered n q
 unfolding rowAnswered
 answered-same {n} {r} {q} same = λ k. record { number = 0; lower = entries (r .lower) (q .lower) (same .lower) k; upper = entries (r .upper) (q .upper) (same .upper) k }
   where
     entries : (f g : ℕ → ℕ) → ((j : ℕ) → j < n → f j ≡ g j) → tab 32 (λ j. onlyIf (ltb j n) (f j)) ≡ tab 32 (λ j. onlyIf (ltb j n) (g j))
-    entries f g h = tab-eq 0 32 (λ j. onlyIf (ltb j n) (f j)) (λ j. onlyIf (ltb j n) (g j)) (λ j l. by j (decLt j n))
-      where
-        by : (j : ℕ) → Dec (j < n) → onlyIf (ltb j n) (f j) ≡ onlyIf (ltb j n) (g j)
-        by j (yes l) = ap (onlyIf (ltb j n)) (h j l)
-        by j (no l) = onlyIf-false (ltb j n) (f j) (le-ltb j n (omega arith)) ∙ sym (onlyIf-false (ltb j n) (g j) (le-ltb j n (omega arith)))
+    entries f g h = tab-eq 0 32 (λ j. onlyIf (ltb j n) (f j)) (λ j. onlyIf (ltb j n) (g j)) (λ j l. entry-related _≡_ refl n f g h j)

@@ -10,7 +10,7 @@ use Rattle.setchain.specs.Rounding.{rounded}
 use Rattle.setchain.specs.Step.{NotAfter, capacity, slack, before, capacityBefore, fillRow, extremeRow, stepFigure, Parts, Reaches, ExtremeFigure}
 use Rattle.setchain.specs.Certificate.{Certificate}
 use Rattle.setchain.specs.Years.{yearsFigure}
-use Rattle.setchain.specs.Laws.Sums.{sumTo-le, sumTo-add, sumTo-scale}
+use Rattle.setchain.specs.Laws.Sums.{sumTo-eq, sumTo-le, sumTo-add, sumTo-scale}
 use Rattle.setchain.specs.Laws.NotAfter.{not-after-both, not-after-cancel}
 use Rattle.setchain.specs.Laws.Rounding.{rounded-bounds, rounded-at-most}
 use Rattle.setchain.specs.Laws.Certificate.{certified}
@@ -25,14 +25,16 @@ record Filled (n : ℕ) (r : IntervalRow) (order : ℕ → ℕ → Bool) : Type 
   bare : (j : ℕ) → j < n → order pivotAt j ≡ true → fillRow n r order j ≡ r .lower j
 
 module _ (n : ℕ) (r : IntervalRow) (sound : SoundRow n r) where
-  slack-le : slack n r ≤ sumTo n (capacity r)
-  slack-le =
+  pub capacities : sumTo n (capacity r) + sumTo n (r .lower) ≡ sumTo n (r .upper)
+  capacities =
       omega (
         arith,
-        sound .uppers,
-        sumTo-add n (r .lower) (capacity r),
-        sumTo-le n (r .upper) (λ j. r .lower j + capacity r j) (λ j l. omega arith),
+        sumTo-add n (capacity r) (r .lower),
+        sumTo-eq n (λ k. capacity r k + r .lower k) (r .upper) (λ k l. omega (arith, sound .ordered k l)),
       )
+
+  slack-le : slack n r ≤ sumTo n (capacity r)
+  slack-le = omega (arith, sound .uppers, capacities)
 
   filled : (order : ℕ → ℕ → Bool) → Strict order → Filled n r order
   unfolding fillRow capacityBefore given ahead

@@ -15,7 +15,7 @@ use Rattle.setchain.specs.Laws.NotAfter.{not-after-cancel}
 use Rattle.setchain.specs.Laws.Agreeing.{Agree}
 use Rattle.setchain.specs.Laws.Order.{before-strict, before-ahead}
 use Rattle.setchain.specs.Laws.Certificate.{certified}
-use Rattle.setchain.specs.Laws.Step.{extreme-parts, extreme-certificate}
+use Rattle.setchain.specs.Laws.Step.{capacities, extreme-parts, extreme-certificate}
 
 -- A number counts where a test passes or where it fails.
 only-either : (b : Bool) (x : ℕ) → onlyIf (not b) x + onlyIf b x ≡ x
@@ -93,14 +93,6 @@ own-first j k = by (ℕ-discrete k j)
 
 -- So the extreme rows for this payoff have the ends of the tight row at state j.
 module _ (n : ℕ) (r : IntervalRow) (sound : SoundRow n r) (j : ℕ) (l : j < n) where
-  capacities : sumTo n (capacity r) + sumTo n (r .lower) ≡ sumTo n (r .upper)
-  capacities =
-      omega (
-        arith,
-        sumTo-add n (capacity r) (r .lower),
-        sumTo-eq n (λ k. capacity r k + r .lower k) (r .upper) (λ k m. omega (arith, sound .ordered k m)),
-      )
-
   all-others : capacityBefore n r (before false (point j)) j ≡ sumOthers n (capacity r) j
   unfolding capacityBefore
   all-others =
@@ -118,7 +110,7 @@ module _ (n : ℕ) (r : IntervalRow) (sound : SoundRow n r) (j : ℕ) (l : j < n
       omega (
         arith,
         all-others,
-        capacities,
+        capacities n r sound,
         sound .ordered j l,
         sound .lowers,
         sound .uppers,

@@ -1,4 +1,4 @@
--- `answer` takes the class's interval row and its cause from the row operation, and the step over the row's entries.
+-- `answer` takes the class's interval row and its cause from `interval_row`, and the step over the row's entries.
 -- Assumes nothing.
 use Prim.Native.Nat.{_≤_}
 use mathlib.Core.Path.{_≡_, ap, sym, _∙_}
