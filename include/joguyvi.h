@@ -7,7 +7,8 @@
  * 3 s or m out of range, 4 a wrong length, 5 start, 6 horizon, 7 a rule,
  * 8 a band, 9 the bands' sums, 10 a premium or a payoff, 11 the class asked
  * for, 12 the year asked for, 13 a lent buffer, 14 the ready scheme's number,
- * 15 the base. Cause 13 is tested last, also after 14 and 15.
+ * 15 the base, 16 no count of years to 1,024 that mixes. Cause 13 is tested
+ * last, also after 14, 15 and 16.
  *
  * Lent buffers are filled only where the answer is 0, and otherwise left as
  * they were. A buffer passes as a pointer and its length in elements. A
@@ -72,7 +73,8 @@ uint8_t joguyvi_ready(uint64_t number, uint64_t base,
                       uint8_t *out, size_t out_length,
                       uint64_t *length, size_t length_length);
 
-/* ---- libjoguyvi_rows.a: what a record says of one year. ---- */
+/* ---- libjoguyvi_rows.a: what a record says of one year, and what follows for
+ * long contracts. ---- */
 
 /* The tight row of a class, 1 to s, in parts of 1,000,000,000: the least and
  * the greatest share that one year can bring from it to each class. `lower`
@@ -93,6 +95,13 @@ uint8_t joguyvi_rule_row(const uint8_t *bytes, size_t bytes_length,
 uint8_t joguyvi_bands(const uint8_t *bytes, size_t bytes_length,
                       uint32_t *lower, size_t lower_length,
                       uint32_t *upper, size_t upper_length);
+
+/* A count of years, 1 to 1,024, in which every class can go to every class,
+ * each step having a tight lower entry above 0 (see joguyvi_row), into
+ * `count`, of 1 number. Any such count may be answered; every later one has
+ * the property too. Where there is none the answer is 16. */
+uint8_t joguyvi_mixing(const uint8_t *bytes, size_t bytes_length,
+                       uint64_t *count, size_t count_length);
 
 /* ---- libjoguyvi_steps.a: one year of any payoff. ---- */
 

@@ -1,7 +1,7 @@
 -- Worked cases, computed: the causes of queries of Example A, which has 2 classes and a horizon of 2 years, and their order.
 use mathlib.Core.Path.{_≡_, refl}
 use Rattle.setchain.specs.Sums.{sumTo}
-use Rattle.scheme.specs.Tables.{anyBelow}
+use Rattle.setchain.specs.Tests.{anyBelow}
 use Rattle.scheme.specs.Cause.{sizeOut, startOut, horizonOut, ruleOut, bandOut, sumOut, premiumOut, causeOf}
 use Rattle.scheme.specs.Examples.{schemeA, single}
 use Rattle.bounds_spec.specs.declared.Bounds.the-variants.{Answered, Refused}

@@ -7,6 +7,7 @@ use native.Mathlib.Omega.{arith}
 use native.Mathlib.Nat.{le-refl}
 use borrow.Author.Tests.{le-ltb}
 use Rattle.setchain.specs.Sums.{sumTo, onlyIf, dot}
+use Rattle.setchain.specs.Tests.{anyBelow}
 use Rattle.setchain.specs.Rows.{ONE, IntervalRow, SoundRow, SetChain, SoundChain}
 use Rattle.setchain.specs.Rounding.{rounded}
 use Rattle.setchain.specs.Step.{capacityBefore, fillRow, extremeRow, stepFigure}
@@ -14,7 +15,7 @@ use Rattle.setchain.specs.Years.{yearsFigure, shareFigure}
 use Rattle.setchain.specs.Examples.{StepExamples, step-examples}
 use Rattle.setchain.specs.Laws.Step.{extreme-parts}
 use Rattle.scheme.specs.declared.Scheme.{Scheme}
-use Rattle.scheme.specs.Tables.{anyBelow, tab}
+use Rattle.scheme.specs.Tables.{tab}
 use Rattle.scheme.specs.Accepted.{Accepted}
 use Rattle.scheme.specs.FirstCause.{orElse}
 use Rattle.scheme.specs.Cause.{outside, sizeOut, startOut, horizonOut, ruleOut, bandOut, sumOut, premiumOut, causeOf, classCause, yearCause}

@@ -7,7 +7,8 @@ use native.Mathlib.Nat.{le-refl}
 use Rattle.setchain.specs.Sums.{at, sumTo, onlyIf}
 use Rattle.setchain.specs.Step.{capacityBefore, fillRow, stepFigure}
 use Rattle.setchain.specs.Years.{yearsFigure}
-use Rattle.scheme.specs.Tables.{anyBelow, tab}
+use Rattle.setchain.specs.Tests.{anyBelow}
+use Rattle.scheme.specs.Tables.{tab}
 use Rattle.scheme.specs.Cause.{sizeOut, startOut, horizonOut, ruleOut, bandOut, sumOut, premiumOut, causeOf}
 use Rattle.scheme.specs.Examples.{schemeA, rows-a}
 use Rattle.scheme.specs.TrimmedExamples.{narrowA, unchangedA, trimmed-a}

@@ -280,6 +280,14 @@ fn writes(scheme: Scheme, length: usize) {
     write(scheme, length - 1);
 }
 
+// The number of the mixing check.
+fn mixing_check(scheme: Scheme) {
+    console::bytes(b"MIXING");
+    let answer = mixing::mixing(scheme);
+    show_cause(answer.number);
+    console::end();
+}
+
 // What is asked of an accepted record.
 fn accepted(scheme: Scheme, number: u64, bytes: &[u8]) {
     let s = scheme.classes as u64;
@@ -291,6 +299,7 @@ fn accepted(scheme: Scheme, number: u64, bytes: &[u8]) {
     rules(bytes, s);
     rules(bytes, beyond);
     writes(scheme, bytes.len());
+    mixing_check(scheme);
     of_class(scheme, number, 0);
     of_class(scheme, number, 1);
     of_class(scheme, number, start);

@@ -1,5 +1,6 @@
-// Tight rows, rule rows and bands of a record, for C and for Rust: each function answers 0 or the cause's number, and fills the lent buffers only where it answers 0.
+// Tight rows, rule rows and bands of a record, and its mixing check, for C and for Rust: each function answers 0 or the cause's number, and fills the lent buffers only where it answers 0.
 ghost use Rattle.joguyvi_spec.specs.Rows.{BandsCall, RowCall, RuleRowCall};
+ghost use Rattle.joguyvi_spec.specs.Mixing.{MixingCall};
 
 mod copies;
 mod row_buffers;
@@ -40,4 +41,17 @@ pub extern "C" fn joguyvi_bands(bytes: &[u8], lower: &mut [u32], upper: &mut [u3
         return number;
     }
     row_buffers::put_bands(answer.scheme, lower, upper)
+}
+
+// A count of years, 1 to 1,024, in which every class can go to every class, into a buffer of 1 number.
+#[no_mangle]
+pub extern "C" fn joguyvi_mixing(bytes: &[u8], count: &mut [u64]) -> u8
+    ensures { λ r. ⌜ MixingCall (now (bytes .entry)) (now (count .entry)) r (now (count .exit)) ⌝ }
+{
+    let answer = record::read(bytes);
+    let number = answer.number;
+    if number != 0 {
+        return number;
+    }
+    row_buffers::put_count(mixing::mixing(answer.scheme), count)
 }

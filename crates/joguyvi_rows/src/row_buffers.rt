@@ -1,10 +1,12 @@
-// Rows and bands put into lent buffers.
+// Rows, bands and counts put into lent buffers.
 use crate::copies;
+use mixing::MixingAnswer;
 use scheme::RowAnswer;
 use scheme::Scheme;
 use scheme::or_else;
 ghost use Prim.Native.Nat.{_≤_};
 ghost use Rattle.joguyvi_spec.specs.Rows.{BandsPost, PartPost, RowPost};
+ghost use Rattle.joguyvi_spec.specs.Mixing.{PutCountPost};
 
 // Puts a row into two buffers of 32 numbers, and answers the cause, or 0.
 pub fn put_row(answer: RowAnswer, lower: &mut [u64], upper: &mut [u64]) -> u8
@@ -48,5 +50,18 @@ pub fn put_bands(scheme: Scheme, lower: &mut [u32], upper: &mut [u32]) -> u8
     }
     copies::copy_ends(&scheme.lowers, lower);
     copies::copy_ends(&scheme.uppers, upper);
+    0
+}
+
+// Puts a count of years into a buffer of 1 number, and answers the cause, or 0.
+pub fn put_count(answer: MixingAnswer, out: &mut [u64]) -> u8
+    ensures { λ r. ⌜ PutCountPost answer (now (out .entry)) r (now (out .exit)) ⌝ }
+{
+    let size = scheme::slice_cause(1, out.len());
+    let number = or_else(answer.number, size);
+    if number != 0 {
+        return number;
+    }
+    out[0] = answer.count;
     0
 }

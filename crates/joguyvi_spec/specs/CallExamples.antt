@@ -6,9 +6,10 @@ use mathlib.Core.List.{List, [], _∷_, _++_}
 use lib.ListN.{length, getD, replicate}
 use native.Mathlib.Omega.{arith}
 use Rattle.setchain.specs.Sums.{sumTo, onlyIf}
+use Rattle.setchain.specs.Tests.{anyBelow}
 use Rattle.setchain.specs.Step.{capacityBefore, fillRow, stepFigure}
 use Rattle.scheme.specs.declared.Scheme.{Scheme}
-use Rattle.scheme.specs.Tables.{tab, anyBelow}
+use Rattle.scheme.specs.Tables.{tab}
 use Rattle.scheme.specs.Cause.{sizeOut, startOut, horizonOut, ruleOut, bandOut, sumOut, premiumOut, causeOf}
 use Rattle.scheme.specs.Stored.{upTo, schemeOf}
 use Rattle.scheme.specs.Examples.{padded}
@@ -25,6 +26,8 @@ use Rattle.ready_spec.specs.Ready.{readyScheme}
 use Rattle.ready_spec.specs.Answer.{readyAnswer}
 use Rattle.step_spec.specs.StepAnswer.{payoffOut}
 use Rattle.step_spec.specs.Examples.{step-answers}
+use Rattle.setchain.specs.Mixing.{path}
+use Rattle.mixing_spec.specs.MixingAnswer.{mixesScheme}
 use Rattle.bounds_spec.specs.declared.Bounds.{Bounds}
 use Rattle.bounds_spec.specs.declared.Bounds.the-variants.{Answered}
 use Rattle.bounds_spec.specs.Answers.{sheetCause, lowShares, highShares, shareAnswer, meanAnswer, totalAnswer}
@@ -41,7 +44,8 @@ use Rattle.joguyvi_spec.specs.Texts.{SheetCall}
 use Rattle.joguyvi_spec.specs.Rows.{RowCall, RuleRowCall, BandsCall}
 use Rattle.joguyvi_spec.specs.Records.{CheckCall, RewriteCall, ReadyCall}
 use Rattle.joguyvi_spec.specs.Steps.{payoffRead, StepCall}
-use Rattle.joguyvi_spec.specs.Examples.{one, two, three, long, inA, after-a}
+use Rattle.joguyvi_spec.specs.Mixing.{MixingCall}
+use Rattle.joguyvi_spec.specs.Examples.{one, two, three, long, inA, after-a, oneClassRecord, edgelessRecord, mixing-numbers}
 use Rattle.joguyvi_spec.specs.Laws.Figures.{RecordBoundsPost, share-call, mean-call, total-call}
 
 -- The number of Example A's record and of no bytes, and not another.
@@ -254,4 +258,31 @@ step-calls =
       },
       λ w. let e : _≡_ {A = ℕ} 800000000 7 = ap (λ l. getD l 0 0) (w .left (λ z. omega arith)) in omega arith,
       λ w. omega (arith, w .answer),
+    )
+
+-- One class: 1 year mixes, and 1,024 do, not 0, and one number alone is put; without edges the buffer stays, as with a wrong length.
+pub mixing-calls :
+    MixingCall oneClassRecord one 0 (1 ∷ [])
+    × MixingCall oneClassRecord one 0 (1024 ∷ [])
+    × ¬ MixingCall oneClassRecord one 0 (0 ∷ [])
+    × ¬ MixingCall oneClassRecord one 0 (1 ∷ 7 ∷ [])
+    × MixingCall oneClassRecord two 13 two
+    × MixingCall edgelessRecord one 16 one
+    × ¬ MixingCall edgelessRecord one 16 (1 ∷ [])
+    × ¬ MixingCall edgelessRecord one 0 (1 ∷ [])
+    × MixingCall [] one 1 one
+    × ¬ MixingCall [] one 1 (1 ∷ [])
+unfolding mixesScheme path onlyIf layoutIn frameCause beAt schemeOf upTo tab anyBelow sumTo
+mixing-calls =
+    let m = mixing-numbers in (
+      record { answer = sym (m .0); filled = refl; count = λ z. record { from = omega arith; to = omega arith; mixing = refl } },
+      record { answer = sym (m .0); filled = refl; count = λ z. record { from = omega arith; to = omega arith; mixing = refl } },
+      λ w. omega (arith, w .count refl .from),
+      λ w. let e : _≡_ {A = ℕ} 2 1 = ap length (w .filled) in omega arith,
+      record { answer = sym (m .1); filled = refl; count = λ z. absurd (omega arith) },
+      record { answer = sym (m .2); filled = refl; count = λ z. absurd (omega arith) },
+      λ w. let e : _≡_ {A = ℕ} 1 7 = ap (λ l. getD l 0 0) (w .filled) in omega arith,
+      λ w. omega (arith, w .answer, m .2),
+      record { answer = sym (m .4); filled = refl; count = λ z. absurd (omega arith) },
+      λ w. let e : _≡_ {A = ℕ} 1 7 = ap (λ l. getD l 0 0) (w .filled) in omega arith,
     )

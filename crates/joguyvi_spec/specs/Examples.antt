@@ -5,9 +5,10 @@ use mathlib.Core.Bool.{true, false}
 use mathlib.Core.List.{List, [], _∷_}
 use lib.ListN.{length, replicate}
 use Rattle.setchain.specs.Sums.{at, sumTo, onlyIf}
+use Rattle.setchain.specs.Tests.{anyBelow}
 use Rattle.setchain.specs.Step.{capacityBefore, fillRow, stepFigure}
 use Rattle.scheme.specs.declared.Scheme.{Scheme}
-use Rattle.scheme.specs.Tables.{tab, anyBelow}
+use Rattle.scheme.specs.Tables.{tab}
 use Rattle.scheme.specs.FirstCause.{orElse}
 use Rattle.scheme.specs.Cause.{sizeOut, startOut, horizonOut, ruleOut, bandOut, sumOut, premiumOut, causeOf}
 use Rattle.scheme.specs.Stored.{upTo, schemeOf}
@@ -25,6 +26,8 @@ use Rattle.ready_spec.specs.Scales.{scale1}
 use Rattle.ready_spec.specs.Ready.{readyScheme}
 use Rattle.ready_spec.specs.Answer.{readyAnswer}
 use Rattle.step_spec.specs.StepAnswer.{payoffOut}
+use Rattle.setchain.specs.Mixing.{path}
+use Rattle.mixing_spec.specs.MixingAnswer.{mixesScheme, mixingCause}
 use Rattle.bounds_spec.specs.declared.Bounds.{Bounds}
 use Rattle.bounds_spec.specs.declared.Bounds.the-variants.{Answered, Refused}
 use Rattle.bounds_spec.specs.Answers.{sheetCause}
@@ -37,6 +40,7 @@ use Rattle.joguyvi_spec.specs.Texts.{sheetNumber, sheetLength}
 use Rattle.joguyvi_spec.specs.Rows.{putRowNumber, rowOfRecord, rowNumber, partNumber, ruleRowNumber, bandsNumber, lowerBands, upperBands}
 use Rattle.joguyvi_spec.specs.Records.{checkNumber, lengthAlone, rewriteNumber, readyNumber}
 use Rattle.joguyvi_spec.specs.Steps.{payoffRead, stepBuffers, stepNumber, figureOf}
+use Rattle.joguyvi_spec.specs.Mixing.{putCountNumber, mixingCallNumber}
 
 -- Buffers of one, two, three, 32 and 33 numbers.
 abbrev pub one : List ℕ
@@ -169,3 +173,24 @@ step-a = (refl, after-a _, after-a _)
 pub figures-a : (figureOf false inA thirtyTen 2 ≡ 26 ∷ []) × (figureOf true inA thirtyTen 2 ≡ 28 ∷ [])
 unfolding layoutIn payoffRead stepFigure fillRow capacityBefore sumTo onlyIf beAt schemeOf upTo tab
 figures-a = (refl, refl)
+
+-- A count takes a buffer of one number, after its own cause.
+pub count-buffers :
+    (putCountNumber (record { number = 0; count = 4 }) one ≡ 0) × (putCountNumber (record { number = 0; count = 4 }) two ≡ 13)
+    × (putCountNumber (record { number = 16; count = 0 }) two ≡ 16)
+count-buffers = (refl, refl, refl)
+
+-- The records of one class, and of two whose bands from 0 to ONE leave no lower entry above 0.
+abbrev pub oneClassRecord : List ℕ
+oneClassRecord = 1 ∷ 0 ∷ 20 ∷ 1 ∷ 1 ∷ 1 ∷ 0 ∷ 1 ∷ 0 ∷ 0 ∷ 0 ∷ 0 ∷ 59 ∷ 154 ∷ 202 ∷ 0 ∷ padded 4 []
+
+abbrev pub edgelessRecord : List ℕ
+edgelessRecord =
+    1 ∷ 0 ∷ 35 ∷ 2 ∷ 2 ∷ 1 ∷ 0 ∷ 1 ∷ 2 ∷ 1 ∷ 2 ∷ 0 ∷ 0 ∷ 0 ∷ 0 ∷ 59 ∷ 154 ∷ 202 ∷ 0 ∷ 0 ∷ 0 ∷ 0 ∷ 0 ∷ 59 ∷ 154 ∷ 202 ∷ 0 ∷ padded 8 []
+
+-- The cause of reading, then 16, then 13.
+pub mixing-numbers :
+    (mixingCallNumber oneClassRecord one ≡ 0) × (mixingCallNumber oneClassRecord two ≡ 13) × (mixingCallNumber edgelessRecord one ≡ 16)
+    × (mixingCallNumber edgelessRecord two ≡ 16) × (mixingCallNumber [] two ≡ 1) × (mixingCallNumber startsInTwo one ≡ 5)
+unfolding mixingCause mixesScheme path onlyIf layoutIn frameCause beAt schemeOf upTo tab causeOf sizeOut startOut horizonOut ruleOut bandOut sumOut premiumOut anyBelow sumTo
+mixing-numbers = (refl, refl, refl, refl, refl, refl)

@@ -5,7 +5,8 @@ use mathlib.Core.List.{List, [], _∷_, _++_}
 use native.Mathlib.Omega.{arith}
 use lib.ListN.{take, drop, replicate}
 use Rattle.setchain.specs.Sums.{sumTo}
-use Rattle.scheme.specs.Tables.{tab, anyBelow}
+use Rattle.setchain.specs.Tests.{anyBelow}
+use Rattle.scheme.specs.Tables.{tab}
 use Rattle.scheme.specs.Cause.{sizeOut, startOut, horizonOut, ruleOut, bandOut, sumOut, premiumOut, causeOf}
 use Rattle.scheme.specs.Stored.{upTo, schemeOf, noScheme}
 use Rattle.scheme.specs.Examples.{schemeA, single}

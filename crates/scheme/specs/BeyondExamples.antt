@@ -5,9 +5,10 @@ use mathlib.Core.List.{[], _∷_, _++_}
 use lib.ListN.{replicate}
 use native.Mathlib.Omega.{arith}
 use Rattle.setchain.specs.Sums.{sumTo}
+use Rattle.setchain.specs.Tests.{anyBelow}
 use Rattle.setchain.specs.Laws.Sums.{below-two}
 use Rattle.scheme.specs.declared.Scheme.{Scheme}
-use Rattle.scheme.specs.Tables.{anyBelow, tab}
+use Rattle.scheme.specs.Tables.{tab}
 use Rattle.scheme.specs.Access.{ruleAt, lowerAt, upperAt, premiumAt}
 use Rattle.scheme.specs.Cause.{sizeOut, startOut, horizonOut, ruleOut, bandOut, sumOut, premiumOut, causeOf}
 use Rattle.scheme.specs.Stored.{upTo, schemeOf, cleared}

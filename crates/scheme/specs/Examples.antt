@@ -4,8 +4,8 @@ use mathlib.Core.Path.{_≡_, refl}
 use mathlib.Core.List.{List, [], _∷_, _++_}
 use lib.ListN.{replicate}
 use Rattle.setchain.specs.Sums.{sumTo, onlyIf}
+use Rattle.setchain.specs.Tests.{anyBelow}
 use Rattle.scheme.specs.declared.Scheme.{Scheme}
-use Rattle.scheme.specs.Tables.{anyBelow}
 use Rattle.scheme.specs.Access.{classBands}
 use Rattle.scheme.specs.Cause.{sizeOut, startOut, horizonOut, ruleOut, bandOut, sumOut, premiumOut, causeOf, sliceCause, slicesCause}
 use Rattle.scheme.specs.Rows.{chainOf}

@@ -3,7 +3,8 @@ use mathlib.Core.Path.{_≡_, refl}
 use mathlib.Core.List.{[], _∷_}
 use native.Mathlib.Omega.{arith}
 use Rattle.setchain.specs.Sums.{sumTo, onlyIf}
-use Rattle.scheme.specs.Tables.{anyBelow, tab}
+use Rattle.setchain.specs.Tests.{anyBelow}
+use Rattle.scheme.specs.Tables.{tab}
 use Rattle.scheme.specs.Cause.{sizeOut, startOut, horizonOut, ruleOut, bandOut, sumOut, premiumOut, causeOf}
 use Rattle.scheme.specs.Examples.{schemeA}
 use Rattle.scheme.specs.TrimmedExamples.{narrowA, unchangedA}

@@ -1,5 +1,4 @@
 -- The laws that proofs use in place of the definitions' text.
-pub mod Tables
 pub mod Access
 pub mod FirstCause
 pub mod Cause

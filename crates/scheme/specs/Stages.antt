@@ -6,7 +6,7 @@ use lib.Dec.{ltb}
 use lib.ListN.{getD}
 use Rattle.setchain.specs.Sums.{sumTo}
 use Rattle.setchain.specs.Rows.{ONE}
-use Rattle.scheme.specs.Tables.{anyBelow}
+use Rattle.setchain.specs.Tests.{anyBelow}
 use Rattle.scheme.specs.FirstCause.{_when_, firstOf}
 use Rattle.scheme.specs.Cause.{outside, sizesCause, bandTest}
 

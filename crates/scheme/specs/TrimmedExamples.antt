@@ -5,8 +5,8 @@ use mathlib.Core.List.{List, [], _∷_, _++_}
 use lib.ListN.{replicate}
 use native.Mathlib.Omega.{arith}
 use Rattle.setchain.specs.Sums.{sumTo}
+use Rattle.setchain.specs.Tests.{anyBelow}
 use Rattle.scheme.specs.declared.Scheme.{Scheme}
-use Rattle.scheme.specs.Tables.{anyBelow}
 use Rattle.scheme.specs.Access.{lowerAt, upperAt}
 use Rattle.scheme.specs.Cause.{sizeOut, startOut, horizonOut, ruleOut, bandOut, sumOut, premiumOut, causeOf}
 use Rattle.scheme.specs.Values.{SameButBands, Trimmed}

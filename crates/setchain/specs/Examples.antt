@@ -1,16 +1,20 @@
--- Worked figures, computed: document 01's two examples of the step, Example A's figures on its interval rows, exact figures of small picks, and tight rows.
+-- Worked figures, computed: document 01's two examples of the step, Example A's figures on its interval rows, exact figures of small picks, tight rows, and counts of years that mix.
 use Prim.Native.Nat.{ℕ, zero, suc, _*_}
 use mathlib.Core.Path.{_≡_, refl}
-use mathlib.Core.Bool.{true, false}
-use mathlib.Core.List.{[], _∷_}
+use mathlib.Core.Bool.{Bool, true, false}
+use mathlib.Core.List.{List, [], _∷_}
+use lib.Dec.{eqb}
+use lib.ListN.{getD}
 use Rattle.setchain.specs.Sums.{at, sumTo, onlyIf}
+use Rattle.setchain.specs.Tests.{anyBelow, allBelow}
 use Rattle.setchain.specs.Fractions.{sumFractions}
-use Rattle.setchain.specs.Rows.{ONE, IntervalRow, SetChain}
+use Rattle.setchain.specs.Rows.{ONE, IntervalRow, SetChain, listsRow}
 use Rattle.setchain.specs.Cells.{Cells, rowOf}
 use Rattle.setchain.specs.Rounding.{rounded}
 use Rattle.setchain.specs.Step.{capacityBefore, fillRow, stepFigure, lowStep, highStep}
 use Rattle.setchain.specs.Years.{yearsFigure, lowShare, highShare, lowMean, highMean, lowTotal, highTotal}
 use Rattle.setchain.specs.Tight.{tightRow, tightChain}
+use Rattle.setchain.specs.Mixing.{edgesOf, path, mixes}
 use Rattle.setchain.specs.Picks.{Matrix, product, exactMean, exactTotal}
 
 -- "Row lower .1 .2 .3, upper .5 .6 .4 of ONE, payoff 30 10 20".
@@ -160,3 +164,53 @@ tight-rows =
       keptUppers = (refl, refl, refl);
       single = (refl, refl);
     }
+
+-- The edges that a matrix of 0 and 1 shows.
+abbrev shown : List (List ℕ) → (i j : ℕ) → Bool
+shown rows i j = eqb (at (getD rows i []) j) 1
+
+-- From state 0 to 1 to 2 and back to 0.
+abbrev round : ℕ → ℕ → Bool
+round = shown ((0 ∷ 1 ∷ 0 ∷ []) ∷ (0 ∷ 0 ∷ 1 ∷ []) ∷ (1 ∷ 0 ∷ 0 ∷ []) ∷ [])
+
+-- And from 1 also straight to 0: of three states the slowest that mixes.
+abbrev chord : ℕ → ℕ → Bool
+chord = shown ((0 ∷ 1 ∷ 0 ∷ []) ∷ (1 ∷ 0 ∷ 1 ∷ []) ∷ (1 ∷ 0 ∷ 0 ∷ []) ∷ [])
+
+pub record Tests : Type 0 where
+  pub some : (anyBelow 2 (eqb 1) ≡ true) × (anyBelow 2 (eqb 2) ≡ false) × (anyBelow 0 (eqb 0) ≡ false)
+  pub every : (allBelow 1 (eqb 0) ≡ true) × (allBelow 2 (eqb 0) ≡ false) × (allBelow 0 (eqb 1) ≡ true)
+
+pub tests : Tests
+unfolding anyBelow
+tests = record { some = (refl, refl, refl); every = (refl, refl, refl) }
+
+-- Exactly so many years, along edges in their direction, and through states below n alone.
+pub record Paths : Type 0 where
+  pub stays : (path 3 round 0 1 1 ≡ true) × (path 3 round 0 1 2 ≡ false)
+  pub one : (path 3 round 1 0 1 ≡ true) × (path 3 round 1 1 0 ≡ false) × (path 3 round 1 0 0 ≡ false)
+  pub two : (path 3 round 2 0 2 ≡ true) × (path 3 round 2 0 1 ≡ false)
+  pub three : (path 3 round 3 0 0 ≡ true) × (path 3 round 3 0 1 ≡ false)
+  pub below : (path 2 round 3 0 0 ≡ false) × (path 2 chord 2 0 0 ≡ true)
+
+pub paths : Paths
+unfolding path anyBelow
+paths = record { stays = (refl, refl); one = (refl, refl, refl); two = (refl, refl); three = (refl, refl); below = (refl, refl) }
+
+-- Of three states in a round no count mixes; with the chord the first is 5, one more than the square of 2.
+pub record Counts : Type 0 where
+  pub turning : (mixes 3 round 1 ≡ false) × (mixes 3 round 3 ≡ false) × (mixes 3 round 6 ≡ false)
+  pub slowest : (mixes 3 chord 4 ≡ false) × (mixes 3 chord 5 ≡ true) × (mixes 3 chord 6 ≡ true)
+  -- Of one state with an edge to itself every count, without one none but 0.
+  pub alone : (mixes 1 (shown ((1 ∷ []) ∷ [])) 1 ≡ true) × (mixes 1 (shown ((0 ∷ []) ∷ [])) 1 ≡ false) × (mixes 1 (shown ((0 ∷ []) ∷ [])) 0 ≡ true)
+
+pub counts : Counts
+unfolding path anyBelow
+counts = record { turning = (refl, refl, refl); slowest = (refl, refl, refl); alone = (refl, refl, refl) }
+
+-- A lower entry of 1 part is an edge, one of 0 is none whatever the upper entry.
+abbrev partsChain : SetChain
+partsChain = record { states = 2; row = λ i. listsRow (1 ∷ 0 ∷ []) (1 ∷ 1000000000 ∷ []) }
+
+pub edges : (edgesOf partsChain 0 0 ≡ true) × (edgesOf partsChain 0 1 ≡ false)
+edges = (refl, refl)

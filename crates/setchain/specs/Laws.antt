@@ -1,5 +1,6 @@
 -- The lemmas behind the theorems, by subject.
 pub mod Sums
+pub mod Tests
 pub mod NotAfter
 pub mod Rounding
 pub mod Certificate
@@ -13,3 +14,4 @@ pub mod Mean
 pub mod Obeys
 pub mod Follows
 pub mod Tight
+pub mod Mixing

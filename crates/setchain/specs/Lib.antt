@@ -1,7 +1,8 @@
 -- Read in this order: what a bound means (Sums to Promise), then that it holds (Theorems), for answers too (Kept), and moves inward with narrower rows (Inward),
--- what a tight row is (Tight) and that it changes no figure and no promise (Tightened), then worked figures.
+-- what a tight row is (Tight) and that it changes no figure and no promise (Tightened), which counts of years mix (Mixing) and what that means (Mixed), then worked figures.
 -- Laws has the lemmas by which the theorems are proved.
 pub mod Sums
+pub mod Tests
 pub mod Fractions
 pub mod Rows
 pub mod Cells
@@ -13,11 +14,13 @@ pub mod Picks
 pub mod Turns
 pub mod Promise
 pub mod Tight
+pub mod Mixing
 pub mod Laws
 pub mod Theorems
 pub mod Kept
 pub mod Inward
 pub mod Tightened
+pub mod Mixed
 pub mod Examples
 pub mod PromiseExamples
 pub mod TurnExamples

@@ -6,10 +6,11 @@ use native.Mathlib.Omega.{arith}
 use lib.ListN.{length}
 use lib.Seq.{take-at}
 use Rattle.setchain.specs.Sums.{sumTo, onlyIf}
+use Rattle.setchain.specs.Tests.{anyBelow}
 use Rattle.setchain.specs.Step.{capacityBefore, fillRow, stepFigure}
 use Rattle.setchain.specs.Years.{yearsFigure}
 use Rattle.scheme.specs.Examples.{schemeA}
-use Rattle.scheme.specs.Tables.{tab, anyBelow}
+use Rattle.scheme.specs.Tables.{tab}
 use Rattle.scheme.specs.Cause.{sizeOut, startOut, horizonOut, ruleOut, bandOut, sumOut, premiumOut, causeOf}
 use Rattle.record_spec.specs.Layout.{layoutIn}
 use Rattle.record_spec.specs.Joined.{joined}

@@ -15,6 +15,7 @@ use Rattle.setchain.specs.Rows.{SoundRow, listsRow}
 use Rattle.setchain.specs.Step.{stepFigure, Reaches}
 use Rattle.setchain.specs.Laws.Agreeing.{Agree, agree-sym, sound-agrees, reaches-agree}
 use Rattle.setchain.specs.Laws.Step.{reached-figure}
+use Rattle.setchain.specs.Laws.Tests.{any-false}
 use Rattle.scheme.specs.declared.Scheme.{Scheme}
 use Rattle.scheme.specs.declared.RowAnswer.{RowAnswer}
 use Rattle.scheme.specs.Accepted.{Accepted}
@@ -27,7 +28,6 @@ use Rattle.scheme.specs.Laws.Cause.{class-fits}
 use Rattle.scheme.specs.Laws.Judged.{accepted-cause, cause-most}
 use Rattle.scheme.specs.Laws.Sound.{accepted-sound}
 use Rattle.scheme.specs.Laws.RowAnswer.{interval-number, answered-size, answered-agrees}
-use Rattle.scheme.specs.Laws.Tables.{any-false}
 use Rattle.rows.specs.Laws.Front.{front-lent, whole-size, whole-front, whole-beyond}
 use Rattle.order.specs.Order.{SortedPermutation}
 use Rattle.step_spec.specs.declared.StepAnswer.{StepAnswer}

@@ -10,7 +10,8 @@ use Rattle.setchain.specs.Sums.{at, sumTo, onlyIf}
 use Rattle.setchain.specs.Rows.{ONE}
 use Rattle.setchain.specs.Laws.Sums.{below-two}
 use Rattle.setchain.specs.Step.{capacityBefore, fillRow, stepFigure, Reaches}
-use Rattle.scheme.specs.Tables.{tab, anyBelow}
+use Rattle.setchain.specs.Tests.{anyBelow}
+use Rattle.scheme.specs.Tables.{tab}
 use Rattle.scheme.specs.Cause.{sizeOut, startOut, horizonOut, ruleOut, bandOut, sumOut, premiumOut, causeOf}
 use Rattle.scheme.specs.Examples.{schemeA}
 use Rattle.step_spec.specs.declared.StepAnswer.{StepAnswer}

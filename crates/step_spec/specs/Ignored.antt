@@ -12,11 +12,11 @@ use Rattle.scheme.specs.FirstCause.{_when_, orElse}
 use Rattle.scheme.specs.Cause.{causeOf, classCause}
 use Rattle.scheme.specs.Stored.{schemeOf, cleared}
 use Rattle.scheme.specs.Values.{SameValues}
-use Rattle.scheme.specs.Laws.Tables.{any-eq}
 use Rattle.scheme.specs.Laws.FirstCause.{first-none, second-none, by-cause}
 use Rattle.scheme.specs.Laws.Cause.{class-fits}
 use Rattle.scheme.specs.Laws.Values.{Alike, same, next-same, alike-values, alike-same, alike-back, cleared-alike, class-same, row-same}
 use Rattle.setchain.specs.Sums.{at}
+use Rattle.setchain.specs.Laws.Tests.{any-eq}
 use Rattle.step_spec.specs.declared.StepAnswer.{StepAnswer}
 use Rattle.step_spec.specs.StepAnswer.{payoffOut, stepCause, classRow, StepAnswered}
 

@@ -9,6 +9,7 @@ use Rattle.setchain.specs.Rows.{SoundRow}
 use Rattle.setchain.specs.Step.{NotAfter, stepFigure}
 use Rattle.setchain.specs.Laws.NotAfter.{not-after-same}
 use Rattle.setchain.specs.Inward as chain
+use Rattle.setchain.specs.Laws.Tests.{any-eq}
 use Rattle.scheme.specs.declared.Scheme.{Scheme}
 use Rattle.scheme.specs.Accepted.{Accepted}
 use Rattle.scheme.specs.FirstCause.{_when_, orElse}
@@ -18,7 +19,6 @@ use Rattle.scheme.specs.Laws.FirstCause.{second-none, cause-related}
 use Rattle.scheme.specs.Laws.Cause.{class-fits}
 use Rattle.scheme.specs.Laws.Judged.{cause-accepted}
 use Rattle.scheme.specs.Laws.Sound.{accepted-sound}
-use Rattle.scheme.specs.Laws.Tables.{any-eq}
 use Rattle.scheme.specs.Laws.Values.{next-same, class-same}
 use Rattle.scheme.specs.Laws.Trimmed.{trimmed-covers}
 use Rattle.step_spec.specs.declared.StepAnswer.{StepAnswer}

@@ -8,12 +8,12 @@ use lib.ListN.{length, replicate}
 use Rattle.setchain.specs.Rows.{IntervalRow}
 use Rattle.setchain.specs.Step.{stepFigure, Reaches}
 use Rattle.scheme.specs.declared.Scheme.{Scheme}
-use Rattle.scheme.specs.Tables.{anyBelow}
 use Rattle.scheme.specs.FirstCause.{_when_, firstOf}
 use Rattle.scheme.specs.Cause.{causeOf, classCause}
 use Rattle.scheme.specs.Rows.{chainOf}
 use Rattle.step_spec.specs.declared.StepAnswer.{StepAnswer}
 use Rattle.setchain.specs.Sums.{at}
+use Rattle.setchain.specs.Tests.{anyBelow}
 
 -- "A payoff is a whole number for each class, 0 to 1,000,000,000": some class's is above; "payoffs stored beyond s are ignored".
 unfoldable pub payoffOut : Scheme → List ℕ → Bool

@@ -209,6 +209,20 @@ fn rewrite(record: &[u8]) -> Operation<'_> {
     }
 }
 
+fn mixing(record: &[u8]) -> Operation<'_> {
+    let mut count = [0];
+    Operation {
+        name: "mixing",
+        library: Box::new(move || {
+            library::mixing(black_box(record), &mut count).expect("a count");
+            black_box(&count);
+        }),
+        plain: Box::new(move || {
+            black_box(plain::mixing(&read(record)).expect("a count"));
+        }),
+    }
+}
+
 /// A scheme with rules, bands and premiums of the usual kind: no claim lowers
 /// the class by 1, k claims raise it by 3k - 1, and few chambers have many.
 fn usual(s: u8) -> Scheme {
@@ -270,7 +284,7 @@ fn schemes(s: u8) -> [(&'static str, Vec<u8>); 4] {
 }
 
 /// All operations on a record of 32 classes and 100 years.
-fn operations(record: &[u8]) -> [Operation<'_>; 7] {
+fn operations(record: &[u8]) -> [Operation<'_>; 8] {
     [
         share(record, 20, 100),
         share_sheet(record, 32, 100),
@@ -279,6 +293,7 @@ fn operations(record: &[u8]) -> [Operation<'_>; 7] {
         sheet(record),
         check(record),
         rewrite(record),
+        mixing(record),
     ]
 }
 
@@ -290,12 +305,12 @@ fn main_table() {
         "operation", "library", "plain", "ratio", "scheme"
     );
     let schemes = schemes(32);
-    let mut all: Vec<[Operation; 7]> = schemes
+    let mut all: Vec<[Operation; 8]> = schemes
         .iter()
         .map(|(_, record)| operations(record))
         .collect();
     let mut worst: f64 = 0.0;
-    for at in 0..7 {
+    for at in 0..8 {
         let times: Vec<Times> = all
             .iter_mut()
             .map(|operations| race(&mut operations[at]))

@@ -10,7 +10,7 @@
 
 mod rows;
 
-pub use rows::{bands, high_step, low_step, row, rule_row};
+pub use rows::{bands, high_step, low_step, mixing, row, rule_row};
 
 /// The functions of the archives; a slice passes as a pointer and its length.
 mod archive {

@@ -1,5 +1,5 @@
-//! Rows, one-year steps, rule rows and bands of a record, as in the rest of
-//! the library.
+//! Rows, one-year steps, rule rows, bands and the mixing check of a record, as
+//! in the rest of the library.
 
 use crate::answer;
 
@@ -65,6 +65,12 @@ mod archive {
             lower_length: usize,
             upper: *mut u32,
             upper_length: usize,
+        ) -> u8;
+        pub fn joguyvi_mixing(
+            bytes: *const u8,
+            bytes_length: usize,
+            count: *mut u64,
+            count_length: usize,
         ) -> u8;
     }
 }
@@ -177,6 +183,21 @@ pub fn bands(record: &[u8], lower: &mut [u32], upper: &mut [u32]) -> Result<(), 
             lower.len(),
             upper.as_mut_ptr(),
             upper.len(),
+        )
+    })
+}
+
+/// A count of years, 1 to 1,024, in which every class can go to every class,
+/// each step having a tight lower entry above 0, into a slice of 1 number.
+pub fn mixing(record: &[u8], count: &mut [u64]) -> Result<(), u8> {
+    // SAFETY: the pointers and lengths are those of slices; `count` is lent
+    // alone.
+    answer(unsafe {
+        archive::joguyvi_mixing(
+            record.as_ptr(),
+            record.len(),
+            count.as_mut_ptr(),
+            count.len(),
         )
     })
 }

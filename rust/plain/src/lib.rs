@@ -1,11 +1,13 @@
 //! Bonus-malus bounds: schemes, interval rows and tight rows, the one-year
-//! step, bounds over years, the record, the ready schemes and the sheet.
+//! step, the mixing check, bounds over years, the record, the ready schemes and
+//! the sheet.
 //!
 //! Every operation that can be declined answers the number of the first cause
 //! that applies, and then leaves all lent slices as they were.
 
 #![forbid(unsafe_code)]
 
+mod mixing;
 mod ready;
 mod record;
 mod rows;
@@ -14,6 +16,7 @@ mod sheet;
 mod step;
 mod years;
 
+pub use mixing::{mixes, mixing, MAX_COUNT};
 pub use ready::ready;
 pub use record::{
     bands, layout_of, number_at, open, places, put_number, read, rule_row, write, Bands, Layout,

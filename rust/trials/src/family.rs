@@ -56,6 +56,7 @@ pub fn records() -> Vec<Vec<u8>> {
     }
     records.extend(edges());
     records.extend(damaged_examples());
+    records.extend([turning(32), slowest(32)].iter().map(record_of));
     records
 }
 
@@ -158,6 +159,27 @@ fn damaged_examples() -> [Vec<u8>; 6] {
     ]
 }
 
+/// Classes that each lead to the next, and the last to the first: no count of
+/// years mixes.
+pub fn turning(classes: u8) -> Scheme {
+    let mut turning = small(classes, 2, 1);
+    for class in 1..=classes {
+        let place = usize::from(class - 1) * MAX_COLUMNS;
+        turning.rules[place..place + 2].fill(class % classes + 1);
+    }
+    turning.lowers[..2].fill(400_000_000);
+    turning.uppers[..2].fill(600_000_000);
+    turning
+}
+
+/// The same, but that the last class but one may also lead to the first: of so
+/// many classes, two or more, none that mixes takes longer, (s - 1)² + 1 years.
+pub fn slowest(classes: u8) -> Scheme {
+    let mut slowest = turning(classes);
+    slowest.rules[usize::from(classes - 2) * MAX_COLUMNS + 1] = 1;
+    slowest
+}
+
 /// The record with other bytes at a place.
 fn changed(record: &[u8], place: usize, bytes: &[u8]) -> Vec<u8> {
     let mut record = record.to_vec();
@@ -254,6 +276,8 @@ fn report_scheme(out: &mut String, number: u64, record: &[u8], scheme: &Scheme) 
             bytes_sum(&bytes)
         );
     }
+    let mixing = plain::mixing(scheme).map(|_| vec![]);
+    put!(out, "MIXING {}\n", answer(mixing));
     for class in [0, 1, start, s, s + 1] {
         report_class(out, number, scheme, class, &years);
     }

@@ -8,9 +8,9 @@ use native.Mathlib.Nat.{mul-le-mul}
 use lib.Dec.{eqb, ltb}
 use lib.ListN.{length, getD}
 use borrow.Author.Tests.{ltb-false, eqb-true, eqb-false, not-false, eq-eqb, ne-eqb, le-ltb}
+use Rattle.setchain.specs.Laws.Tests.{or-false-left, or-false-right}
 use Rattle.scheme.specs.FirstCause.{_when_, orElse}
 use Rattle.scheme.specs.Cause.{sizesOut, sizesCause}
-use Rattle.scheme.specs.Laws.Tables.{or-false-left, or-false-right}
 use Rattle.scheme.specs.Laws.FirstCause.{first-cause, second-cause, second-none, test-none, or-assoc, Tells, Told, all-fit, none-applies, first-most}
 use Rattle.scheme.specs.Laws.Cause.{inside-outside, sizes-inside}
 use Rattle.big_endian_spec.specs.Numbers.{beAt}

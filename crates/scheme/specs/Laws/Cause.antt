@@ -7,13 +7,13 @@ use lib.Dec.{eqb, ltb}
 use native.Mathlib.Decide.{ℕ-discrete}
 use native.Mathlib.Omega.{arith}
 use borrow.Author.Tests.{ltb-false, eqb-false, ne-eqb, le-ltb}
+use Rattle.setchain.specs.Laws.Tests.{or-false-left, or-false-right, any-same}
 use Rattle.scheme.specs.declared.Scheme.{Scheme}
 use Rattle.scheme.specs.Access.{cellCount, sharedLower, sharedUpper}
 use Rattle.scheme.specs.Cause.{outside, sizesOut, sizesCause, sizeOut, startOut, horizonOut, ruleOut, bandOut, sumOut, premiumOut, causeOf, sliceCause, slicesCause}
 use Rattle.scheme.specs.FirstCause.{_when_, orElse, firstOf}
 use Rattle.scheme.specs.Accepted.{SizeFits}
 use Rattle.scheme.specs.Stages.{formCause, bandCause}
-use Rattle.scheme.specs.Laws.Tables.{or-false-left, or-false-right, any-same}
 use Rattle.scheme.specs.Laws.FirstCause.{first-cause, second-cause, first-none, second-none, test-none, or-assoc}
 
 -- A number that passed the test is one of 1 to max.

@@ -6,13 +6,13 @@ use lib.Dec.{ltb}
 use native.Mathlib.Omega.{arith}
 use borrow.Author.Tests.{ltb-false, le-ltb}
 use Rattle.setchain.specs.Sums.{sumTo}
+use Rattle.setchain.specs.Tests.{anyBelow}
 use Rattle.setchain.specs.Rows.{ONE}
+use Rattle.setchain.specs.Laws.Tests.{or-false-left, or-false-right, or-false, any-clear, any-false}
 use Rattle.scheme.specs.declared.Scheme.{Scheme}
-use Rattle.scheme.specs.Tables.{anyBelow}
 use Rattle.scheme.specs.Access.{cellCount, ruleAt, lowerAt, upperAt, premiumAt}
 use Rattle.scheme.specs.Accepted.{SizeFits, StartFits, HorizonFits, RulesFit, BandsFit, SumsFit, PremiumsFit, Accepted}
 use Rattle.scheme.specs.Cause.{outside, bandTest, sizeOut, startOut, horizonOut, ruleOut, bandOut, sumOut, premiumOut, schemeTable, causeOf}
-use Rattle.scheme.specs.Laws.Tables.{or-false-left, or-false-right, or-false, any-clear, any-false}
 use Rattle.scheme.specs.Laws.FirstCause.{Tells, Told, Judged, judged, all-fit, none-applies, first-most}
 use Rattle.scheme.specs.Laws.Cause.{outside-false, inside-outside}
 

@@ -7,9 +7,9 @@ use native.Mathlib.Omega.{arith}
 use lib.Dec.{ltb}
 use lib.ListN.{getD}
 use borrow.Author.Tests.{lt-ltb, le-ltb}
-use Rattle.scheme.specs.Tables.{anyBelow}
+use Rattle.setchain.specs.Tests.{anyBelow}
+use Rattle.setchain.specs.Laws.Tests.{any-none, any-more, any-hit, any-end}
 use Rattle.scheme.specs.Stages.{limitCause}
-use Rattle.scheme.specs.Laws.Tables.{any-none, any-more, any-hit, any-end}
 use Rattle.scheme.specs.Laws.FirstCause.{cond-true, cond-false}
 
 -- Of n numbers none before place i is above the limit.

@@ -7,6 +7,7 @@ use native.Mathlib.Omega.{arith}
 use Rattle.setchain.specs.Sums.{sumTo, onlyIf}
 use Rattle.setchain.specs.Rows.{ONE}
 use Rattle.setchain.specs.Laws.Sums.{sumTo-eq}
+use Rattle.setchain.specs.Laws.Tests.{any-eq}
 use Rattle.scheme.specs.declared.Scheme.{Scheme}
 use Rattle.scheme.specs.Access.{cellCount, ruleAt, lowerAt, upperAt, premiumAt}
 use Rattle.scheme.specs.Accepted.{SizeFits}
@@ -15,7 +16,6 @@ use Rattle.scheme.specs.FirstCause.{_when_, orElse}
 use Rattle.scheme.specs.Rows.{chainOf}
 use Rattle.scheme.specs.Stored.{schemeOf, cleared}
 use Rattle.scheme.specs.Values.{SameButBands, SameValues}
-use Rattle.scheme.specs.Laws.Tables.{any-eq}
 use Rattle.scheme.specs.Laws.FirstCause.{by-cause}
 use Rattle.scheme.specs.Laws.Judged.{size-tells}
 use Rattle.scheme.specs.Laws.Stored.{stored-at, rule-stored, lower-made, upper-made}

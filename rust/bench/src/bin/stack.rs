@@ -64,7 +64,7 @@ fn largest(seed: u64) -> Vec<u8> {
 }
 
 /// The depth of each call on a record.
-fn depths(record: &[u8]) -> [(&'static str, usize); 12] {
+fn depths(record: &[u8]) -> [(&'static str, usize); 13] {
     let mut out = [0; 2];
     let (mut low, mut high) = ([0; 32], [0; 32]);
     let mut text = vec![0; library::SHEET_ROOM];
@@ -98,6 +98,13 @@ fn depths(record: &[u8]) -> [(&'static str, usize); 12] {
             "high_step",
             used(|| {
                 library::high_step(record, &payoff, 32, &mut figure, &mut row).expect("a step");
+            }),
+        ),
+        (
+            "mixing",
+            used(|| {
+                let answer = library::mixing(record, &mut length);
+                assert!(matches!(answer, Ok(()) | Err(16)));
             }),
         ),
         ("check", used(|| library::check(record).expect("a record"))),

@@ -26,11 +26,13 @@
 //! WRITE room ANSWER sum            room = length, length + 5, length - 1;
 //!                                  OK length; then in any case the checksum
 //!                                  of the room, filled with AA beforehand
+//! MIXING ANSWER                    OK alone: any count that mixes is right
 //! ```
 //!
 //! then for each class of 0, 1, start, s, s + 1:
 //!
 //! ```text
+//! INTERVAL class ANSWER            OK checksums of lower and upper
 //! ROW class ANSWER                 OK checksums of lower and upper
 //! STEP class kind ANSWER           the kinds 0 to 3 of payoff; OK low high
 //! SHARE class year ANSWER          year 0, 1, 2, horizon, horizon + 1;

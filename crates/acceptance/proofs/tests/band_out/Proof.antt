@@ -4,9 +4,9 @@ use mathlib.Core.Path.{_≡_, sym, _∙_}
 use mathlib.Core.Bool.{false}
 use native.Mathlib.Omega.{arith}
 use lib.ListN.{getD}
-use Rattle.scheme.specs.Tables.{anyBelow}
+use Rattle.setchain.specs.Tests.{anyBelow}
+use Rattle.setchain.specs.Laws.Tests.{any-none, any-more, any-hit, any-end}
 use Rattle.scheme.specs.Cause.{bandTest}
-use Rattle.scheme.specs.Laws.Tables.{any-none, any-more, any-hit, any-end}
 use Rattle.acceptance.proofs.tests.band_out.Statement.{statement}
 use Rattle.acceptance.proofs.tests.band_out.Tie as tie
 

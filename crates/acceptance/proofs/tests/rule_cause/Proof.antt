@@ -4,11 +4,11 @@ use mathlib.Core.Path.{_≡_, sym, _∙_}
 use mathlib.Core.Bool.{false}
 use native.Mathlib.Omega.{arith}
 use lib.ListN.{getD}
+use Rattle.setchain.specs.Tests.{anyBelow}
+use Rattle.setchain.specs.Laws.Tests.{any-none, any-more, any-hit, any-end}
 use Rattle.scheme.specs.Access.{CELL_STRIDE}
-use Rattle.scheme.specs.Tables.{anyBelow}
 use Rattle.scheme.specs.Cause.{outside}
 use Rattle.scheme.specs.Laws.FirstCause.{cond-true, cond-false}
-use Rattle.scheme.specs.Laws.Tables.{any-none, any-more, any-hit, any-end}
 use Rattle.acceptance.proofs.tests.rule_cause.Statement.{statement}
 use Rattle.acceptance.proofs.tests.rule_cause.Tie as tie
 

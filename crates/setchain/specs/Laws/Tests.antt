@@ -2,10 +2,12 @@
 use Prim.Native.Nat.{ℕ, zero, suc, _+_, _<_}
 use mathlib.Core.Path.{_≡_, refl, ap, ap₂, sym, _∙_}
 use mathlib.Core.Logic.{⊎-elim}
-use mathlib.Core.Bool.{Bool, true, false, _||_, or-true}
+use mathlib.Core.Bool.{Bool, true, false, not, _||_, or-true, false≢true}
+use mathlib.Core.Bool.{or-false as or-none}
+use borrow.Author.Tests.{not-true, not-false}
 use native.Mathlib.Numerals.{add-one}
 use native.Mathlib.Nat.{le-refl, le-step, eq-or-lt-of-le, le-of-suc-le-suc, not-suc-le-zero}
-use Rattle.scheme.specs.Tables.{anyBelow}
+use Rattle.setchain.specs.Tests.{anyBelow, allBelow}
 
 pub or-false-left : (a b : Bool) → (a || b) ≡ false → a ≡ false
 or-false-left true b e = e
@@ -68,3 +70,45 @@ below-same (suc n) test test′ h = ap₂ _||_ (below-same n test test′ (λ k 
 
 pub any-eq : {n n′ : ℕ} → n ≡ n′ → (test test′ : ℕ → Bool) → ((k : ℕ) → k < n → test k ≡ test′ k) → anyBelow n test ≡ anyBelow n′ test′
 any-eq {n} e test test′ h = below-same n test test′ h ∙ ap (λ x. anyBelow x test′) e
+
+-- An index at which a test passes.
+pub record PassesAt (n : ℕ) (test : ℕ → Bool) : Type 0 where
+  pub index : ℕ
+  pub below : index < n
+  pub passed : test index ≡ true
+
+pub any-found : (n : ℕ) (test : ℕ → Bool) → anyBelow n test ≡ true → PassesAt n test
+unfolding anyBelow
+any-found zero test e = absurd (false≢true e)
+any-found (suc n) test e = by (any-found n test) (test n) refl
+  where
+    by : (anyBelow n test ≡ true → PassesAt n test) → (b : Bool) → test n ≡ b → PassesAt (suc n) test
+    by front true h = record { index = n; below = le-refl (suc n); passed = h }
+    by front false h =
+        let w = front (sym (or-none (anyBelow n test)) ∙ ap (λ b. anyBelow n test || b) (sym h) ∙ e) in
+        record { index = w .index; below = le-step (w .below); passed = w .passed }
+
+-- Every index passes.
+pub all-hit : (n : ℕ) (test : ℕ → Bool) → ((k : ℕ) → k < n → test k ≡ true) → allBelow n test ≡ true
+all-hit n test h = ap not (any-clear n (λ k. not (test k)) (λ k l. ap not (h k l)))
+
+pub all-true : (n : ℕ) (test : ℕ → Bool) → allBelow n test ≡ true → (k : ℕ) → k < n → test k ≡ true
+all-true n test e k l = not-false (test k) (any-false n (λ k. not (test k)) (not-true _ e) k l)
+
+-- None of them has failed.
+pub all-end : (k n : ℕ) (test : ℕ → Bool) → k ≡ n → anyBelow k (λ j. not (test j)) ≡ false → true ≡ allBelow n test
+all-end k n test e h = ap not (any-end k n (λ j. not (test j)) e h)
+
+-- Some index fails.
+pub all-miss : (n k : ℕ) (test : ℕ → Bool) → k < n → test k ≡ false → allBelow n test ≡ false
+all-miss n k test l h = ap not (any-hit n k (λ k. not (test k)) l (ap not h))
+
+-- Tests that agree below the count.
+pub all-eq : (n : ℕ) (test test′ : ℕ → Bool) → ((k : ℕ) → k < n → test k ≡ test′ k) → allBelow n test ≡ allBelow n test′
+all-eq n test test′ h = ap not (below-same n (λ k. not (test k)) (λ k. not (test′ k)) (λ k l. ap not (h k l)))
+
+-- Two tests that pass together are one.
+pub both-ways : {a b : Bool} → (a ≡ true → b ≡ true) → (b ≡ true → a ≡ true) → a ≡ b
+both-ways {a = true} {b} f g = sym (f refl)
+both-ways {a = false} {b = true} f g = g refl
+both-ways {a = false} {b = false} f g = refl
