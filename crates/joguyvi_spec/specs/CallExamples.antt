@@ -44,7 +44,7 @@ use Rattle.joguyvi_spec.specs.Texts.{SheetCall}
 use Rattle.joguyvi_spec.specs.Rows.{RowCall, RuleRowCall, BandsCall}
 use Rattle.joguyvi_spec.specs.Records.{CheckCall, RewriteCall, ReadyCall}
 use Rattle.joguyvi_spec.specs.Steps.{payoffRead, StepCall}
-use Rattle.joguyvi_spec.specs.Mixing.{MixingCall}
+use Rattle.joguyvi_spec.specs.Mixing.{PutCountPost, MixingCall}
 use Rattle.joguyvi_spec.specs.Examples.{one, two, three, long, inA, after-a, oneClassRecord, edgelessRecord, mixing-numbers}
 use Rattle.joguyvi_spec.specs.Laws.Figures.{RecordBoundsPost, share-call, mean-call, total-call}
 
@@ -260,13 +260,27 @@ step-calls =
       λ w. omega (arith, w .answer),
     )
 
--- One class: 1 year mixes, and 1,024 do, not 0, and one number alone is put; without edges the buffer stays, as with a wrong length.
+-- A count is put, and not its number; a cause leaves the buffer.
+pub count-posts :
+    PutCountPost (record { number = 0; count = 4 }) one 0 (4 ∷ [])
+    × ¬ PutCountPost (record { number = 0; count = 4 }) one 0 (0 ∷ [])
+    × PutCountPost (record { number = 16; count = 0 }) one 16 one
+    × ¬ PutCountPost (record { number = 16; count = 0 }) one 16 (0 ∷ [])
+count-posts = (
+  record { answer = refl; filled = refl },
+  λ w. let e : _≡_ {A = ℕ} 0 4 = ap (λ l. getD l 0 0) (w .filled) in omega arith,
+  record { answer = refl; filled = refl },
+  λ w. let e : _≡_ {A = ℕ} 0 7 = ap (λ l. getD l 0 0) (w .filled) in omega arith,
+)
+
+-- One class: 1 year mixes, and 1,024 do, not 0, and one number alone is put; the buffer that is lent decides 13, and without edges it stays.
 pub mixing-calls :
     MixingCall oneClassRecord one 0 (1 ∷ [])
     × MixingCall oneClassRecord one 0 (1024 ∷ [])
     × ¬ MixingCall oneClassRecord one 0 (0 ∷ [])
     × ¬ MixingCall oneClassRecord one 0 (1 ∷ 7 ∷ [])
     × MixingCall oneClassRecord two 13 two
+    × ¬ MixingCall oneClassRecord two 0 (1 ∷ [])
     × MixingCall edgelessRecord one 16 one
     × ¬ MixingCall edgelessRecord one 16 (1 ∷ [])
     × ¬ MixingCall edgelessRecord one 0 (1 ∷ [])
@@ -280,6 +294,7 @@ mixing-calls =
       λ w. omega (arith, w .count refl .from),
       λ w. let e : _≡_ {A = ℕ} 2 1 = ap length (w .filled) in omega arith,
       record { answer = sym (m .1); filled = refl; count = λ z. absurd (omega arith) },
+      λ w. omega (arith, w .answer, m .1),
       record { answer = sym (m .2); filled = refl; count = λ z. absurd (omega arith) },
       λ w. let e : _≡_ {A = ℕ} 1 7 = ap (λ l. getD l 0 0) (w .filled) in omega arith,
       λ w. omega (arith, w .answer, m .2),

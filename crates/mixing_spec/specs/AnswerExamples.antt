@@ -12,7 +12,7 @@ use Rattle.scheme.specs.Cause.{sizeOut, startOut, horizonOut, ruleOut, bandOut,
 use Rattle.scheme.specs.Examples.{schemeA}
 use Rattle.mixing_spec.specs.MixingAnswer.{schemeEdges, mixesScheme, MixingAnswered}
 use Rattle.mixing_spec.specs.Examples.{oneClass, both, oneWay, cycle, neverEntered}
-use Rattle.mixing_spec.specs.Laws.{answer-none, answer-count}
+use Rattle.mixing_spec.specs.Laws.{answer-not-mixing, answer-count}
 
 -- Class 1 is not left along the edges: Example A, and where class 2 is never entered.
 module _ (s : Scheme) (two : s .classes ≡ 2) (closed : schemeEdges s 0 1 ≡ false) where
@@ -60,10 +60,10 @@ pub none-mixes-in : NoneMixes
 unfolding sumTo onlyIf
 none-mixes-in =
     record {
-      exampleA = answer-none schemeA (accepted .0) refl (not-left schemeA refl refl);
-      entered = answer-none neverEntered (accepted .1) refl (not-left neverEntered refl refl);
-      turning = answer-none (cycle 0) (accepted .2) refl not-left-in-turn;
-      noCount = λ w. omega (arith, w .number, answer-none schemeA (accepted .0) refl (not-left schemeA refl refl) .number);
+      exampleA = answer-not-mixing schemeA (accepted .0) refl (not-left schemeA refl refl);
+      entered = answer-not-mixing neverEntered (accepted .1) refl (not-left neverEntered refl refl);
+      turning = answer-not-mixing (cycle 0) (accepted .2) refl not-left-in-turn;
+      noCount = λ w. omega (arith, w .number, answer-not-mixing schemeA (accepted .0) refl (not-left schemeA refl refl) .number);
       numberAlone = λ w. omega (arith, w .declinedCount (λ z. omega (arith, z)));
     }
 

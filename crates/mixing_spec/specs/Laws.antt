@@ -30,13 +30,13 @@ module _ (s : Scheme) where
   unfolding mixingCause
   count-found z = any-found 1024 (λ t. mixesScheme s (suc t)) (not-false _ (test-none _ 16 (omega arith) z))
 
-  -- The three answers: a scheme that is declined, one without a count, and a count.
-  pub answer-declined : {number : ℕ} → number ≡ causeOf s → (number ≡ 0 → ⊥) → MixingAnswered s (record { number = number; count = 0 })
-  answer-declined is some = record { number = cause-first (mixingCause s) is some; count = λ z. absurd (some z); declinedCount = λ _. refl }
+  -- The three answers: a scheme that is declined, one of which no count mixes, and a count.
+  pub scheme-declined : {number : ℕ} → number ≡ causeOf s → (number ≡ 0 → ⊥) → MixingAnswered s (record { number = number; count = 0 })
+  scheme-declined is some = record { number = cause-first (mixingCause s) is some; count = λ z. absurd (some z); declinedCount = λ _. refl }
 
   module _ (ok : causeOf s ≡ 0) where
-    pub answer-none : {count : ℕ} → count ≡ 0 → mixesScheme s 1024 ≡ false → MixingAnswered s (record { number = 16; count = count })
-    answer-none z e = record { number = cause-second ok (sym (none-to-last e)); count = λ f. absurd (omega (arith, f)); declinedCount = λ _. z }
+    pub answer-not-mixing : {count : ℕ} → count ≡ 0 → mixesScheme s 1024 ≡ false → MixingAnswered s (record { number = 16; count = count })
+    answer-not-mixing z e = record { number = cause-second ok (sym (none-to-last e)); count = λ f. absurd (omega (arith, f)); declinedCount = λ _. z }
 
     pub answer-count : {count : ℕ} → MixingCount s count → MixingAnswered s (record { number = 0; count = count })
     answer-count m = record { number = cause-second ok (sym (some-count m)); count = λ _. m; declinedCount = λ f. absurd (f refl) }

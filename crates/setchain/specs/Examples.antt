@@ -170,20 +170,20 @@ abbrev shown : List (List ℕ) → (i j : ℕ) → Bool
 shown rows i j = eqb (at (getD rows i []) j) 1
 
 -- From state 0 to 1 to 2 and back to 0.
-abbrev round : ℕ → ℕ → Bool
+abbrev pub round : ℕ → ℕ → Bool
 round = shown ((0 ∷ 1 ∷ 0 ∷ []) ∷ (0 ∷ 0 ∷ 1 ∷ []) ∷ (1 ∷ 0 ∷ 0 ∷ []) ∷ [])
 
 -- And from 1 also straight to 0: of three states the slowest that mixes.
 abbrev chord : ℕ → ℕ → Bool
 chord = shown ((0 ∷ 1 ∷ 0 ∷ []) ∷ (1 ∷ 0 ∷ 1 ∷ []) ∷ (1 ∷ 0 ∷ 0 ∷ []) ∷ [])
 
-pub record Tests : Type 0 where
+pub record TestsBelow : Type 0 where
   pub some : (anyBelow 2 (eqb 1) ≡ true) × (anyBelow 2 (eqb 2) ≡ false) × (anyBelow 0 (eqb 0) ≡ false)
   pub every : (allBelow 1 (eqb 0) ≡ true) × (allBelow 2 (eqb 0) ≡ false) × (allBelow 0 (eqb 1) ≡ true)
 
-pub tests : Tests
+pub tests-below : TestsBelow
 unfolding anyBelow
-tests = record { some = (refl, refl, refl); every = (refl, refl, refl) }
+tests-below = record { some = (refl, refl, refl); every = (refl, refl, refl) }
 
 -- Exactly so many years, along edges in their direction, and through states below n alone.
 pub record Paths : Type 0 where
@@ -198,19 +198,19 @@ unfolding path anyBelow
 paths = record { stays = (refl, refl); one = (refl, refl, refl); two = (refl, refl); three = (refl, refl); below = (refl, refl) }
 
 -- Of three states in a round no count mixes; with the chord the first is 5, one more than the square of 2.
-pub record Counts : Type 0 where
+pub record CountsThatMix : Type 0 where
   pub turning : (mixes 3 round 1 ≡ false) × (mixes 3 round 3 ≡ false) × (mixes 3 round 6 ≡ false)
   pub slowest : (mixes 3 chord 4 ≡ false) × (mixes 3 chord 5 ≡ true) × (mixes 3 chord 6 ≡ true)
   -- Of one state with an edge to itself every count, without one none but 0.
   pub alone : (mixes 1 (shown ((1 ∷ []) ∷ [])) 1 ≡ true) × (mixes 1 (shown ((0 ∷ []) ∷ [])) 1 ≡ false) × (mixes 1 (shown ((0 ∷ []) ∷ [])) 0 ≡ true)
 
-pub counts : Counts
+pub counts-that-mix : CountsThatMix
 unfolding path anyBelow
-counts = record { turning = (refl, refl, refl); slowest = (refl, refl, refl); alone = (refl, refl, refl) }
+counts-that-mix = record { turning = (refl, refl, refl); slowest = (refl, refl, refl); alone = (refl, refl, refl) }
 
 -- A lower entry of 1 part is an edge, one of 0 is none whatever the upper entry.
 abbrev partsChain : SetChain
 partsChain = record { states = 2; row = λ i. listsRow (1 ∷ 0 ∷ []) (1 ∷ 1000000000 ∷ []) }
 
-pub edges : (edgesOf partsChain 0 0 ≡ true) × (edgesOf partsChain 0 1 ≡ false)
-edges = (refl, refl)
+pub lower-edges : (edgesOf partsChain 0 0 ≡ true) × (edgesOf partsChain 0 1 ≡ false)
+lower-edges = (refl, refl)

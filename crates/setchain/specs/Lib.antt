@@ -26,3 +26,4 @@ pub mod PromiseExamples
 pub mod TurnExamples
 pub mod InwardExamples
 pub mod TightExamples
+pub mod MixedExamples

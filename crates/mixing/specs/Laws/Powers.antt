@@ -93,14 +93,14 @@ module _ (s : Scheme) {base power : List ℕ} {count full : ℕ} (held : Holds (
   unfolding mixesScheme
   mixes-told told = sym (power-mixes p is told ∙ mixes-held held count)
 
-  pub count-found : true ≡ allBelow (s .classes) (λ i. eqb (at power i) full) → CountPost s count
-  count-found told =
+  pub search-found : true ≡ allBelow (s .classes) (λ i. eqb (at power i) full) → CountPost s count
+  search-found told =
       record {
         found = λ _. record { from = power-from p; to = power-to p; mixing = mixes-told told };
         none = λ z. absurd (omega (arith, power-from p, z));
       }
 
-  pub count-none : 1024 ≤ count → false ≡ allBelow (s .classes) (λ i. eqb (at power i) full) → CountPost s 0
-  count-none past told =
+  pub search-none : 1024 ≤ count → false ≡ allBelow (s .classes) (λ i. eqb (at power i) full) → CountPost s 0
+  search-none past told =
       let last : count ≡ 1024 = omega (arith, power-to p, past) in
       record { found = λ h. absurd (h refl); none = λ _. ap (mixesScheme s) (sym last) ∙ mixes-told told }

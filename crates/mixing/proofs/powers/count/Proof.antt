@@ -4,7 +4,7 @@ use mathlib.Core.Path.{sym, _∙_}
 use native.Mathlib.Omega.{arith}
 use borrow.Author.Needs.{needs}
 use Rattle.mixing.specs.Laws.Edges.{classes-few}
-use Rattle.mixing.specs.Laws.Powers.{Power, power-start, power-more, power-from, count-found, count-none}
+use Rattle.mixing.specs.Laws.Powers.{Power, power-start, power-more, power-from, search-found, search-none}
 use Rattle.mixing.proofs.powers.count.Statement.{statement}
 use Rattle.mixing.proofs.powers.count.Tie as tie
 
@@ -40,7 +40,7 @@ returns c =
     let at-loop = c .before .before .before in
     let at-edges = at-loop .before in
     let at-bits = at-edges .before in
-    count-found (at-bits .before .before .args .scheme) (at-edges .edges .ensures) (at-loop .loop .inv) (at-bits .all-bits .ensures) (sym (c .if1 .taken) ∙ c .before .all-rows .ensures)
+    search-found (at-bits .before .before .args .scheme) (at-edges .edges .ensures) (at-loop .loop .inv) (at-bits .all-bits .ensures) (sym (c .if1 .taken) ∙ c .before .all-rows .ensures)
 
 product-requires : tie.Need-product-requires Inv-loop μ-loop
 product-requires c κs =
@@ -70,14 +70,14 @@ returns-2 c =
     let at-loop = c .before .before .before in
     let at-edges = at-loop .before in
     let at-bits = at-edges .before in
-    count-found (at-bits .before .before .args .scheme) (at-edges .edges .ensures) (at-loop .loop .inv) (at-bits .all-bits .ensures) (sym (c .if2 .taken) ∙ c .before .all-rows2 .ensures)
+    search-found (at-bits .before .before .args .scheme) (at-edges .edges .ensures) (at-loop .loop .inv) (at-bits .all-bits .ensures) (sym (c .if2 .taken) ∙ c .before .all-rows2 .ensures)
 
 returns-3 : tie.Need-returns-3 Inv-loop μ-loop
 returns-3 c =
     let at-loop = c .before .before .before in
     let at-edges = at-loop .before in
     let at-bits = at-edges .before in
-    count-none (at-bits .before .before .args .scheme) (at-edges .edges .ensures) (at-loop .loop .inv) (at-bits .all-bits .ensures) (omega arith) (sym (c .if2 .left) ∙ c .before .all-rows2 .ensures)
+    search-none (at-bits .before .before .args .scheme) (at-edges .edges .ensures) (at-loop .loop .inv) (at-bits .all-bits .ensures) (omega arith) (sym (c .if2 .left) ∙ c .before .all-rows2 .ensures)
 
 pub count-spec : {M : Type 1} → statement M
 count-spec =
