@@ -18,6 +18,10 @@ int main(int argc, char **argv)
         return 2;
     }
     size_t length = fread(bytes, 1, sizeof bytes, file);
+    if (ferror(file)) {
+        perror(name);
+        return 2;
+    }
     fclose(file);
     uint8_t number = joguyvi_mixing(bytes, length, count, 1);
     if (number != 0) {

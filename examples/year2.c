@@ -32,6 +32,10 @@ int main(int argc, char **argv)
         return 2;
     }
     size_t length = fread(bytes, 1, sizeof bytes, file);
+    if (ferror(file)) {
+        perror(name);
+        return 2;
+    }
     fclose(file);
     int causes = line("TOTAL", joguyvi_total(bytes, length, YEAR, out, 2), out);
     causes += line("PREMIUM", joguyvi_mean(bytes, length, YEAR, out, 2), out);
