@@ -1,6 +1,7 @@
-/* Tells whether long contracts may be sold on the scheme of a record: prints a
- * count of years in which every class can go to every class, or REFUSED and the
- * cause, 16 where there is none to 1,024. Example A where no file is named. */
+/* Tells whether long contracts may be sold on the scheme of a record: prints
+ * the first count of years in which every class can go to every class, or
+ * REFUSED and the cause, 16 where there is none to 1,024. Example A where no
+ * file is named. */
 #include <stdio.h>
 #include "joguyvi.h"
 

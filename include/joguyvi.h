@@ -96,10 +96,11 @@ uint8_t joguyvi_bands(const uint8_t *bytes, size_t bytes_length,
                       uint32_t *lower, size_t lower_length,
                       uint32_t *upper, size_t upper_length);
 
-/* A count of years, 1 to 1,024, in which every class can go to every class,
- * each step having a tight lower entry above 0 (see joguyvi_row), into
- * `count`, of 1 number. Any such count may be answered; every later one has
- * the property too. Where there is none the answer is 16. */
+/* The first count of years, 1 to 1,024, in which every class can go to every
+ * class, each step having a tight lower entry above 0 (see joguyvi_row), into
+ * `count`, of 1 number. No smaller count has the property, every larger one
+ * has it too. Where there is none the answer is 16; then no count has it,
+ * however large. */
 uint8_t joguyvi_mixing(const uint8_t *bytes, size_t bytes_length,
                        uint64_t *count, size_t count_length);
 

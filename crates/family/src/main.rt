@@ -280,11 +280,14 @@ fn writes(scheme: Scheme, length: usize) {
     write(scheme, length - 1);
 }
 
-// The number of the mixing check.
+// The first count of years that mixes.
 fn mixing_check(scheme: Scheme) {
     console::bytes(b"MIXING");
     let answer = mixing::mixing(scheme);
     show_cause(answer.number);
+    if answer.number == 0 {
+        console::number(answer.count);
+    }
     console::end();
 }
 

@@ -1,19 +1,19 @@
 -- Tight rows, rule rows, bands and the mixing check of a record: with a cause of reading, and without.
 -- Assumes nothing.
 use Prim.Native.Nat.{ℕ, _-_, _≤_}
-use mathlib.Core.Path.{_≡_, ap, sym, _∙_, subst}
+use mathlib.Core.Path.{_≡_, refl, ap, sym, _∙_, subst}
 use mathlib.Core.Bool.{cond}
 use mathlib.Core.List.{List, [], _∷_}
 use native.Mathlib.Omega.{arith}
 use native.Mathlib.Decide.{ℕ-discrete}
-use lib.ListN.{length, getD, take, drop, length-drop}
+use lib.ListN.{length, take, drop, length-drop}
 use lib.Seq.{length-take-le}
 use Rattle.scheme.specs.declared.RowAnswer.{RowAnswer}
 use Rattle.scheme.specs.FirstCause.{orElse}
 use Rattle.scheme.specs.Cause.{outside}
 use Rattle.scheme.specs.Stored.{schemeOf}
 use Rattle.scheme.specs.RowAnswer.{rowAnswer}
-use Rattle.scheme.specs.Laws.FirstCause.{first-none, second-cause, declined, answered, cause-first, cause-second}
+use Rattle.scheme.specs.Laws.FirstCause.{first-none, second-cause, declined, answered, cause-first, cause-second, by-cause}
 use Rattle.record_spec.specs.declared.ReadAnswer.{ReadAnswer}
 use Rattle.record_spec.specs.Layout.{layoutIn, schemeIn, rowPlace, classesIn, columnsIn}
 use Rattle.record_spec.specs.Read.{readCause, readAnswer}
@@ -21,8 +21,9 @@ use Rattle.record_spec.specs.RuleRow.{ruleRowCause, ruleRow}
 use Rattle.record_spec.specs.Laws.Read.{read-in}
 use Rattle.record_parts.specs.Laws.RuleRow.{row-read, row-framed, row-within}
 use Rattle.mixing_spec.specs.declared.MixingAnswer.{MixingAnswer}
-use Rattle.mixing_spec.specs.MixingAnswer.{MixingCount, MixingAnswered}
-use Rattle.joguyvi_spec.specs.Buffers.{bufferCause, filledWhere}
+use Rattle.mixing_spec.specs.MixingAnswer.{firstCount, mixingNumber, mixingAnswer}
+use Rattle.mixing_spec.specs.Theorems.{answer-first}
+use Rattle.joguyvi_spec.specs.Buffers.{bufferCause}
 use Rattle.joguyvi_spec.specs.Laws.Buffers.{unfilled}
 use Rattle.joguyvi_spec.specs.Laws.Causes.{cause-only, stopped-number, passed-number}
 use Rattle.joguyvi_spec.specs.Rows.{rowOfRecord, partNumber, ruleRowNumber, RowPost, PartPost, BandsPost, RowCall, RuleRowCall, BandsCall}
@@ -56,28 +57,25 @@ module _ (bytes lower upper : List ℕ) {a : ReadAnswer} (is : a ≡ readAnswer 
 -- The mixing check.
 module _ (bytes out : List ℕ) {a : ReadAnswer} (is : a ≡ readAnswer bytes) where
   pub mixing-stopped : (a .number ≡ 0 → ⊥) → MixingCall bytes out (a .number) out
-  mixing-stopped some = record { answer = stopped-number bytes is _ some; filled = unfilled _ out some; count = λ z. absurd (some z) }
+  mixing-stopped some = record { answer = stopped-number bytes is _ some; filled = unfilled _ out some }
 
-  pub mixing-passed : {m : MixingAnswer} {n : ℕ} {out′ : List ℕ} → a .number ≡ 0 → MixingAnswered (a .scheme) m → PutCountPost m out n out′ → MixingCall bytes out n out′
+  pub mixing-passed : {m : MixingAnswer} {n : ℕ} {out′ : List ℕ} → a .number ≡ 0 → m ≡ mixingAnswer (a .scheme) → PutCountPost m out n out′ → MixingCall bytes out n out′
   mixing-passed {m} {n} {out′} none given put =
       record {
-        answer = passed-number bytes is none (put .answer ∙ ap (λ k. orElse k (bufferCause 1 out)) (told .number));
-        filled = by (ℕ-discrete n 0);
-        count = λ z. subst (MixingCount (schemeIn bytes)) (sym (held z)) (told .count (first-none (m .number) (bufferCause 1 out) (sym (put .answer) ∙ z)));
+        answer = passed-number bytes is none (put .answer ∙ ap (λ k. orElse k (bufferCause 1 out)) number);
+        filled = put .filled ∙ by-cause refl (λ z. ap (λ c. c ∷ []) (counted z)) refl;
       }
     where
-      told : MixingAnswered (schemeIn bytes) m
-      told = subst (λ s. MixingAnswered s m) (read-in bytes is none) given
+      told : m ≡ mixingAnswer (schemeIn bytes)
+      told = given ∙ ap mixingAnswer (read-in bytes is none)
 
-      alone : n ≡ 0 → out′ ≡ m .count ∷ []
-      alone z = put .filled ∙ answered n (m .count ∷ []) out z
+      number : m .number ≡ mixingNumber (schemeIn bytes)
+      number = ap (λ m. m .number) told
 
-      held : n ≡ 0 → getD out′ 0 0 ≡ m .count
-      held z = ap (λ l. getD l 0 0) (alone z)
-
-      by : Dec (n ≡ 0) → out′ ≡ filledWhere n (getD out′ 0 0 ∷ []) out
-      by (yes z) = alone z ∙ sym (ap (λ c. c ∷ []) (held z)) ∙ sym (answered n (getD out′ 0 0 ∷ []) out z)
-      by (no some) = put .filled ∙ declined n (m .count ∷ []) out some ∙ unfilled (getD out′ 0 0 ∷ []) out some
+      counted : n ≡ 0 → m .count ≡ firstCount (schemeIn bytes)
+      counted z =
+          let mixed = first-none (m .number) (bufferCause 1 out) (sym (put .answer) ∙ z) in
+          ap (λ m. m .count) told ∙ answer-first (schemeIn bytes) (sym number ∙ mixed)
 
 -- A rule row that is shown has a byte for each column.
 module _ (bytes : List ℕ) (class : ℕ) (out : List ℕ) where

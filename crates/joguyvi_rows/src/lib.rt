@@ -43,7 +43,7 @@ pub extern "C" fn joguyvi_bands(bytes: &[u8], lower: &mut [u32], upper: &mut [u3
     row_buffers::put_bands(answer.scheme, lower, upper)
 }
 
-// A count of years, 1 to 1,024, in which every class can go to every class, into a buffer of 1 number.
+// The first count of years, 1 to 1,024, in which every class can go to every class, into a buffer of 1 number.
 #[no_mangle]
 pub extern "C" fn joguyvi_mixing(bytes: &[u8], count: &mut [u64]) -> u8
     ensures { λ r. ⌜ MixingCall (now (bytes .entry)) (now (count .entry)) r (now (count .exit)) ⌝ }

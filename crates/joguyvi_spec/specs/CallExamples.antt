@@ -6,7 +6,7 @@ use mathlib.Core.List.{List, [], _∷_, _++_}
 use lib.ListN.{length, getD, replicate}
 use native.Mathlib.Omega.{arith}
 use Rattle.setchain.specs.Sums.{sumTo, onlyIf}
-use Rattle.setchain.specs.Tests.{anyBelow}
+use Rattle.setchain.specs.Tests.{anyBelow, firstFrom}
 use Rattle.setchain.specs.Step.{capacityBefore, fillRow, stepFigure}
 use Rattle.scheme.specs.declared.Scheme.{Scheme}
 use Rattle.scheme.specs.Tables.{tab}
@@ -27,7 +27,7 @@ use Rattle.ready_spec.specs.Answer.{readyAnswer}
 use Rattle.step_spec.specs.StepAnswer.{payoffOut}
 use Rattle.step_spec.specs.Examples.{step-answers}
 use Rattle.setchain.specs.Mixing.{path}
-use Rattle.mixing_spec.specs.MixingAnswer.{mixesScheme}
+use Rattle.mixing_spec.specs.MixingAnswer.{mixesScheme, firstCount}
 use Rattle.bounds_spec.specs.declared.Bounds.{Bounds}
 use Rattle.bounds_spec.specs.declared.Bounds.the-variants.{Answered}
 use Rattle.bounds_spec.specs.Answers.{sheetCause, lowShares, highShares, shareAnswer, meanAnswer, totalAnswer}
@@ -273,11 +273,10 @@ count-posts = (
   λ w. let e : _≡_ {A = ℕ} 0 7 = ap (λ l. getD l 0 0) (w .filled) in omega arith,
 )
 
--- One class: 1 year mixes, and 1,024 do, not 0, and one number alone is put; the buffer that is lent decides 13, and without edges it stays.
+-- One class: 1 year, the first that mixes, and not 2, which mixes too; one number alone is put; the buffer that is lent decides 13, and without edges it stays.
 pub mixing-calls :
     MixingCall oneClassRecord one 0 (1 ∷ [])
-    × MixingCall oneClassRecord one 0 (1024 ∷ [])
-    × ¬ MixingCall oneClassRecord one 0 (0 ∷ [])
+    × ¬ MixingCall oneClassRecord one 0 (2 ∷ [])
     × ¬ MixingCall oneClassRecord one 0 (1 ∷ 7 ∷ [])
     × MixingCall oneClassRecord two 13 two
     × ¬ MixingCall oneClassRecord two 0 (1 ∷ [])
@@ -286,18 +285,17 @@ pub mixing-calls :
     × ¬ MixingCall edgelessRecord one 0 (1 ∷ [])
     × MixingCall [] one 1 one
     × ¬ MixingCall [] one 1 (1 ∷ [])
-unfolding mixesScheme path onlyIf layoutIn frameCause beAt schemeOf upTo tab anyBelow sumTo
+unfolding firstCount firstFrom mixesScheme path onlyIf layoutIn frameCause beAt schemeOf upTo tab causeOf sizeOut startOut horizonOut ruleOut bandOut sumOut premiumOut anyBelow sumTo
 mixing-calls =
     let m = mixing-numbers in (
-      record { answer = sym (m .0); filled = refl; count = λ z. record { from = omega arith; to = omega arith; mixing = refl } },
-      record { answer = sym (m .0); filled = refl; count = λ z. record { from = omega arith; to = omega arith; mixing = refl } },
-      λ w. omega (arith, w .count refl .from),
+      record { answer = sym (m .0); filled = refl },
+      λ w. let e : _≡_ {A = ℕ} 2 1 = ap (λ l. getD l 0 0) (w .filled) in omega arith,
       λ w. let e : _≡_ {A = ℕ} 2 1 = ap length (w .filled) in omega arith,
-      record { answer = sym (m .1); filled = refl; count = λ z. absurd (omega arith) },
+      record { answer = sym (m .1); filled = refl },
       λ w. omega (arith, w .answer, m .1),
-      record { answer = sym (m .2); filled = refl; count = λ z. absurd (omega arith) },
+      record { answer = sym (m .2); filled = refl },
       λ w. let e : _≡_ {A = ℕ} 1 7 = ap (λ l. getD l 0 0) (w .filled) in omega arith,
       λ w. omega (arith, w .answer, m .2),
-      record { answer = sym (m .4); filled = refl; count = λ z. absurd (omega arith) },
+      record { answer = sym (m .4); filled = refl },
       λ w. let e : _≡_ {A = ℕ} 1 7 = ap (λ l. getD l 0 0) (w .filled) in omega arith,
     )

@@ -5,7 +5,7 @@ use mathlib.Core.Bool.{true, false}
 use mathlib.Core.List.{List, [], _∷_}
 use lib.ListN.{length, replicate}
 use Rattle.setchain.specs.Sums.{at, sumTo, onlyIf}
-use Rattle.setchain.specs.Tests.{anyBelow}
+use Rattle.setchain.specs.Tests.{anyBelow, firstFrom}
 use Rattle.setchain.specs.Step.{capacityBefore, fillRow, stepFigure}
 use Rattle.scheme.specs.declared.Scheme.{Scheme}
 use Rattle.scheme.specs.Tables.{tab}
@@ -27,7 +27,7 @@ use Rattle.ready_spec.specs.Ready.{readyScheme}
 use Rattle.ready_spec.specs.Answer.{readyAnswer}
 use Rattle.step_spec.specs.StepAnswer.{payoffOut}
 use Rattle.setchain.specs.Mixing.{path}
-use Rattle.mixing_spec.specs.MixingAnswer.{mixesScheme, mixingCause}
+use Rattle.mixing_spec.specs.MixingAnswer.{mixesScheme, firstCount}
 use Rattle.bounds_spec.specs.declared.Bounds.{Bounds}
 use Rattle.bounds_spec.specs.declared.Bounds.the-variants.{Answered, Refused}
 use Rattle.bounds_spec.specs.Answers.{sheetCause}
@@ -192,5 +192,5 @@ edgelessRecord =
 pub mixing-numbers :
     (mixingCallNumber oneClassRecord one ≡ 0) × (mixingCallNumber oneClassRecord two ≡ 13) × (mixingCallNumber edgelessRecord one ≡ 16)
     × (mixingCallNumber edgelessRecord two ≡ 16) × (mixingCallNumber [] two ≡ 1) × (mixingCallNumber startsInTwo one ≡ 5)
-unfolding mixingCause mixesScheme path onlyIf layoutIn frameCause beAt schemeOf upTo tab causeOf sizeOut startOut horizonOut ruleOut bandOut sumOut premiumOut anyBelow sumTo
+unfolding firstCount firstFrom mixesScheme path onlyIf layoutIn frameCause beAt schemeOf upTo tab causeOf sizeOut startOut horizonOut ruleOut bandOut sumOut premiumOut anyBelow sumTo
 mixing-numbers = (refl, refl, refl, refl, refl, refl)

@@ -4,3 +4,4 @@ pub mod Causes
 pub mod Texts
 pub mod Figures
 pub mod Steps
+pub mod Mixing

@@ -1,13 +1,12 @@
--- The mixing check of a record, as a number and a lent buffer of 1 number (document 02, item 3).
+-- The mixing check of a record, as a number and a lent buffer of 1 number (document 02, items 3 and 11).
 use Prim.Native.Nat.{ℕ}
 use mathlib.Core.Path.{_≡_}
 use mathlib.Core.List.{List, [], _∷_}
-use lib.ListN.{getD}
 use Rattle.scheme.specs.FirstCause.{firstOf}
 use Rattle.record_spec.specs.Layout.{schemeIn}
 use Rattle.record_spec.specs.Read.{readCause}
 use Rattle.mixing_spec.specs.declared.MixingAnswer.{MixingAnswer}
-use Rattle.mixing_spec.specs.MixingAnswer.{mixingNumber, MixingCount}
+use Rattle.mixing_spec.specs.MixingAnswer.{firstCount, mixingNumber}
 use Rattle.joguyvi_spec.specs.Buffers.{bufferCause, filledWhere, BufferPost}
 
 -- A count into a buffer: its cause, then 13 where the buffer is not of 1 number.
@@ -25,7 +24,4 @@ mixingCallNumber bytes out = firstOf (readCause bytes ∷ mixingNumber (schemeIn
 -- joguyvi_mixing: what it answers and leaves.
 pub record MixingCall (bytes out : List ℕ) (number : ℕ) (out′ : List ℕ) : Type 0 where
   pub answer : number ≡ mixingCallNumber bytes out
-  -- One number where the call is not declined, and the buffer as it was where it is.
-  pub filled : out′ ≡ filledWhere number (getD out′ 0 0 ∷ []) out
-  -- That number is a count that mixes.
-  pub count : number ≡ 0 → MixingCount (schemeIn bytes) (getD out′ 0 0)
+  pub filled : out′ ≡ filledWhere number (firstCount (schemeIn bytes) ∷ []) out

@@ -32,3 +32,7 @@ unionOf (suc n) set rows = bitOr (unionOf n set rows) (onlyIf (hasBit set n) (ro
 -- A matrix holds a relation between the classes below n: row i has its bits.
 pub record Holds (n : ℕ) (matrix : List ℕ) (related : ℕ → ℕ → Bool) : Type 0 where
   pub rows : (i : ℕ) → i < n → at matrix i ≡ bitsOf n (related i)
+
+-- The edges that a matrix has as bits.
+abbrev pub bitEdges : List ℕ → (i j : ℕ) → Bool
+bitEdges matrix i j = hasBit (at matrix i) j

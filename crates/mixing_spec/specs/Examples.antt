@@ -1,15 +1,18 @@
--- Worked cases, computed: which schemes mix, in which counts of years, and the number that is answered (document 02, item 3).
-use Prim.Native.Nat.{ℕ}
+-- Worked cases, computed: which schemes mix, in which counts of years, the first of them, the number and the answer (document 02, items 3 and 11).
+use Prim.Native.Nat.{ℕ, _+_, _/_, _%_}
 use mathlib.Core.Path.{_≡_, refl}
-use mathlib.Core.Bool.{true, false}
+use mathlib.Core.Bool.{true, false, cond, _&&_, _||_}
 use mathlib.Core.List.{[], _∷_}
+use lib.Dec.{eqb}
 use Rattle.setchain.specs.Sums.{sumTo, onlyIf}
-use Rattle.setchain.specs.Tests.{anyBelow}
+use Rattle.setchain.specs.Tests.{anyBelow, firstFrom}
 use Rattle.setchain.specs.Mixing.{path}
 use Rattle.scheme.specs.declared.Scheme.{Scheme}
 use Rattle.scheme.specs.Cause.{sizeOut, startOut, horizonOut, ruleOut, bandOut, sumOut, premiumOut, causeOf}
+use Rattle.scheme.specs.Tables.{tab}
+use Rattle.scheme.specs.Access.{CELL_STRIDE, CELL_PLACES}
 use Rattle.scheme.specs.Examples.{padded, schemeA, single}
-use Rattle.mixing_spec.specs.MixingAnswer.{schemeEdges, mixesScheme, mixingCause, mixingNumber}
+use Rattle.mixing_spec.specs.MixingAnswer.{schemeEdges, mixesScheme, firstCount, mixingNumber, mixingAnswer}
 
 -- Two classes and two columns, each class with two rules; both columns have one band.
 abbrev pub twoClasses : (rule1 rule2 rule1′ rule2′ upper premium : ℕ) → Scheme
@@ -49,6 +52,26 @@ neverEntered = twoClasses 1 1 1 1 600000000 0
 abbrev pub edgeless : (premium : ℕ) → Scheme
 edgeless premium = twoClasses 1 2 1 2 1000000000 premium
 
+-- So many classes in a cycle with a chord, two or more: each leads to the next and the last to class 1, and the one before it leads to class 1 too.
+-- The rules beyond the classes and columns are ignored.
+abbrev pub chordRule : (classes place : ℕ) → ℕ
+chordRule classes place =
+    let class = place / CELL_STRIDE + 1 in
+    cond (eqb class classes || eqb (place % CELL_STRIDE) 1 && eqb (class + 1) classes) 1 (class + 1)
+
+abbrev pub cycleAndChord : (classes : ℕ) → Scheme
+cycleAndChord classes =
+    record {
+      classes = classes;
+      columns = 2;
+      start = 1;
+      horizon = 100;
+      rules = tab CELL_PLACES (chordRule classes);
+      lowers = padded 6 (400000000 ∷ 400000000 ∷ []);
+      uppers = padded 6 (600000000 ∷ 600000000 ∷ []);
+      premiums = padded 32 [];
+    }
+
 pub record EdgesByTightLowers : Type 0 where
   -- Example A: class 1 has no tight lower entry to class 2, though an upper one; class 2 has both.
   pub exampleA : (schemeEdges schemeA 0 0 ≡ true) × (schemeEdges schemeA 0 1 ≡ false) × (schemeEdges schemeA 1 0 ≡ true) × (schemeEdges schemeA 1 1 ≡ true)
@@ -71,6 +94,19 @@ pub which-mix : WhichMix
 unfolding mixesScheme path anyBelow sumTo onlyIf
 which-mix = record { one = (refl, refl, refl, refl); inOne = (refl, refl); inTwo = (refl, refl); never = (refl, refl, refl) }
 
+-- The first count that mixes, or 0: 1 year where the edges are all there, and of classes in a cycle with a chord one more than the square of one less than they are.
+pub record FirstCounts : Type 0 where
+  pub one : firstCount oneClass ≡ 1
+  pub inOne : firstCount both ≡ 1
+  pub inTwo : firstCount oneWay ≡ 2
+  pub none : firstCount (edgeless 0) ≡ 0
+  pub ofTwo : firstCount (cycleAndChord 2) ≡ 2
+  pub ofThree : firstCount (cycleAndChord 3) ≡ 5
+
+pub first-counts : FirstCounts
+unfolding firstCount firstFrom mixesScheme path anyBelow tab sumTo onlyIf
+first-counts = record { one = refl; inOne = refl; inTwo = refl; none = refl; ofTwo = refl; ofThree = refl }
+
 -- The number: 16 where no count mixes, 0 where one does, and the causes of the scheme before 16.
 pub record Numbers : Type 0 where
   pub none : mixingNumber (edgeless 0) ≡ 16
@@ -83,5 +119,15 @@ pub record Numbers : Type 0 where
   pub rule : mixingNumber (twoClasses 1 2 1 3 1000000000 0) ≡ 7
 
 pub numbers : Numbers
-unfolding causeOf sizeOut startOut horizonOut ruleOut bandOut sumOut premiumOut mixingCause mixesScheme path anyBelow sumTo onlyIf
+unfolding causeOf sizeOut startOut horizonOut ruleOut bandOut sumOut premiumOut firstCount firstFrom mixesScheme path anyBelow sumTo onlyIf
 numbers = record { none = refl; first = refl; second = refl; alone = refl; premium = refl; band = refl; rule = refl }
+
+-- The whole answer: the first count, or the cause alone, also of a scheme that would mix but for its premiums.
+pub record Answers : Type 0 where
+  pub counted : mixingAnswer oneWay ≡ record { number = 0; count = 2 }
+  pub none : mixingAnswer (edgeless 0) ≡ record { number = 16; count = 0 }
+  pub declined : mixingAnswer (twoClasses 1 2 1 2 600000000 10000001) ≡ record { number = 10; count = 0 }
+
+pub answers : Answers
+unfolding causeOf sizeOut startOut horizonOut ruleOut bandOut sumOut premiumOut firstCount firstFrom mixesScheme path anyBelow sumTo onlyIf
+answers = record { counted = refl; none = refl; declined = refl }

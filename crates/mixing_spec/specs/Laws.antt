@@ -1,42 +1,49 @@
--- Laws of the mixing check's answer: which of its causes applies.
-use Prim.Native.Nat.{ℕ, suc, _-_}
-use mathlib.Core.Path.{_≡_, refl, ap, sym, _∙_}
-use mathlib.Core.Bool.{false, not}
+-- Laws of the mixing check's answer: which of its causes applies, and the first count.
+use Prim.Native.Nat.{ℕ}
+use mathlib.Core.Path.{_≡_, ap, ap₂, sym, _∙_}
+use mathlib.Core.Bool.{false}
 use native.Mathlib.Omega.{arith}
-use borrow.Author.Tests.{not-false}
-use Rattle.setchain.specs.Mixed.{none-mixes}
-use Rattle.setchain.specs.Laws.Tests.{PassesAt, any-hit, any-found}
+use borrow.Author.Tests.{eq-eqb, ne-eqb}
+use Rattle.setchain.specs.Mixed.{none-mixing}
 use Rattle.scheme.specs.declared.Scheme.{Scheme}
 use Rattle.scheme.specs.Cause.{causeOf}
 use Rattle.scheme.specs.FirstCause.{_when_}
-use Rattle.scheme.specs.Laws.FirstCause.{test-none, cause-first, cause-second}
-use Rattle.mixing_spec.specs.MixingAnswer.{schemeEdges, mixesScheme, mixingCause, MixingCount, MixingAnswered}
+use Rattle.scheme.specs.Laws.FirstCause.{answered, declined, cause-first, cause-second}
+use Rattle.mixing_spec.specs.declared.MixingAnswer.{MixingAnswer}
+use Rattle.mixing_spec.specs.MixingAnswer.{schemeEdges, mixesScheme, firstCount, mixingCause, mixingNumber, mixingAnswer}
 
 module _ (s : Scheme) where
-  -- No count to 1,024 mixes where 1,024 does not.
-  pub none-to-last : mixesScheme s 1024 ≡ false → mixingCause s ≡ 16
-  unfolding mixesScheme mixingCause
-  none-to-last e = ap (λ b. 16 when not b) (none-mixes (s .classes) (schemeEdges s) 1023 e)
+  -- There is no first count where 1,024 does not mix.
+  pub none-to-last : mixesScheme s 1024 ≡ false → firstCount s ≡ 0
+  unfolding mixesScheme firstCount
+  none-to-last e = none-mixing 1024 (s .classes) (schemeEdges s) e
 
-  -- Some count does.
-  pub some-count : {count : ℕ} → MixingCount s count → mixingCause s ≡ 0
-  unfolding mixingCause
-  some-count {count} m =
-      let place : suc (count - 1) ≡ count = omega (arith, m .from) in
-      ap (λ b. 16 when not b) (any-hit 1024 (count - 1) (λ t. mixesScheme s (suc t)) (omega (arith, m .from, m .to)) (ap (mixesScheme s) place ∙ m .mixing))
+  -- Cause 16 by the first count.
+  pub first-cause-none : (firstCount s ≡ 0 → ⊥) → mixingCause s ≡ 0
+  first-cause-none some = ap (λ b. 16 when b) (ne-eqb (firstCount s) 0 some)
 
-  -- And where 16 does not apply, some count mixes.
-  pub count-found : mixingCause s ≡ 0 → PassesAt 1024 (λ t. mixesScheme s (suc t))
-  unfolding mixingCause
-  count-found z = any-found 1024 (λ t. mixesScheme s (suc t)) (not-false _ (test-none _ 16 (omega arith) z))
+  pub first-cause-some : firstCount s ≡ 0 → mixingCause s ≡ 16
+  first-cause-some z = ap (λ b. 16 when b) (eq-eqb (firstCount s) 0 z)
 
-  -- The three answers: a scheme that is declined, one of which no count mixes, and a count.
-  pub scheme-declined : {number : ℕ} → number ≡ causeOf s → (number ≡ 0 → ⊥) → MixingAnswered s (record { number = number; count = 0 })
-  scheme-declined is some = record { number = cause-first (mixingCause s) is some; count = λ z. absurd (some z); declinedCount = λ _. refl }
+  abbrev answer : (number count : ℕ) → MixingAnswer
+  answer number count = record { number = number; count = count }
 
-  module _ (ok : causeOf s ≡ 0) where
-    pub answer-not-mixing : {count : ℕ} → count ≡ 0 → mixesScheme s 1024 ≡ false → MixingAnswered s (record { number = 16; count = count })
-    answer-not-mixing z e = record { number = cause-second ok (sym (none-to-last e)); count = λ f. absurd (omega (arith, f)); declinedCount = λ _. z }
+  -- The three answers: a scheme that is declined, one of which no count mixes, and the first count.
+  pub scheme-declined : {number : ℕ} → number ≡ causeOf s → (number ≡ 0 → ⊥) → answer number 0 ≡ mixingAnswer s
+  scheme-declined is some =
+      let told = cause-first (mixingCause s) is some in
+      ap₂ answer told (sym (declined (mixingNumber s) (firstCount s) 0 (λ z. some (told ∙ z))))
 
-    pub answer-count : {count : ℕ} → MixingCount s count → MixingAnswered s (record { number = 0; count = count })
-    answer-count m = record { number = cause-second ok (sym (some-count m)); count = λ _. m; declinedCount = λ f. absurd (f refl) }
+  module _ (ok : causeOf s ≡ 0) {count : ℕ} (is : count ≡ firstCount s) where
+    pub answer-not-mixing : count ≡ 0 → answer 16 count ≡ mixingAnswer s
+    answer-not-mixing z =
+        let told = cause-second ok (sym (first-cause-some (sym is ∙ z))) in
+        ap₂ answer told (z ∙ sym (declined (mixingNumber s) (firstCount s) 0 (λ f. sixteen (told ∙ f))))
+      where
+        sixteen : _≡_ {A = ℕ} 16 0 → ⊥
+        sixteen e = omega arith
+
+    pub answer-count : (count ≡ 0 → ⊥) → answer 0 count ≡ mixingAnswer s
+    answer-count some =
+        let told = cause-second ok (sym (first-cause-none (λ z. some (is ∙ z)))) in
+        ap₂ answer told (is ∙ sym (answered (mixingNumber s) (firstCount s) 0 (sym told)))

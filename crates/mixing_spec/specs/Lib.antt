@@ -1,4 +1,4 @@
--- Read in this order: the answer of the mixing check, worked cases of its number, the laws of its causes, worked answers.
+-- Read in this order: the answer of the mixing check, worked cases of its number, the laws of its causes, what the answer means, worked answers.
 pub mod MixingAnswer
 pub mod Examples
 pub mod Laws

@@ -1,9 +1,9 @@
--- The answer of the mixing check (document 02, item 3).
-use Prim.Native.Nat.{ℕ, suc, _≤_}
-use mathlib.Core.Path.{_≡_}
-use mathlib.Core.Bool.{Bool, true, not}
+-- The answer of the mixing check (document 02, items 3 and 11).
+use Prim.Native.Nat.{ℕ}
+use mathlib.Core.Bool.{Bool, cond}
 use mathlib.Core.List.{[], _∷_}
-use Rattle.setchain.specs.Tests.{anyBelow}
+use lib.Dec.{eqb}
+use Rattle.setchain.specs.Tests.{firstFrom}
 use Rattle.setchain.specs.Tight.{tightChain}
 use Rattle.setchain.specs.Mixing.{edgesOf, mixes}
 use Rattle.scheme.specs.declared.Scheme.{Scheme}
@@ -20,24 +20,18 @@ schemeEdges s = edgesOf (tightChain (chainOf s))
 unfoldable pub mixesScheme : Scheme → (count : ℕ) → Bool
 mixesScheme s count = mixes (s .classes) (schemeEdges s) count
 
--- Cause 16: "if no such count up to 1,024 exists"; counts run from 1.
-unfoldable pub mixingCause : Scheme → ℕ
-mixingCause s = 16 when not (anyBelow 1024 (λ t. mixesScheme s (suc t)))
+-- "the first year count that qualifies, with none below it" (item 11), of 1 to 1,024, or 0 where none of them does.
+unfoldable pub firstCount : Scheme → ℕ
+firstCount s = firstFrom 1024 1 (mixesScheme s)
+
+-- Cause 16: "if no such count up to 1,024 exists".
+abbrev pub mixingCause : Scheme → ℕ
+mixingCause s = 16 when eqb (firstCount s) 0
 
 -- Causes 3, 5 to 10, then 16, "tested after 10".
 abbrev pub mixingNumber : Scheme → ℕ
 mixingNumber s = firstOf (causeOf s ∷ mixingCause s ∷ [])
 
--- "a year count from 1 to 1,024 for which every class can go to every class": "Any such count will do".
-pub record MixingCount (s : Scheme) (count : ℕ) : Type 0 where
-  pub from : 1 ≤ count
-  pub to : count ≤ 1024
-  pub mixing : mixesScheme s count ≡ true
-
--- What the mixing check answers.
-pub record MixingAnswered (s : Scheme) (r : MixingAnswer) : Type 0 where
-  -- The first cause that applies, or 0.
-  pub number : r .number ≡ mixingNumber s
-  -- A count that mixes where the call is not declined, and 0 where it is.
-  pub count : r .number ≡ 0 → MixingCount s (r .count)
-  pub declinedCount : (r .number ≡ 0 → ⊥) → r .count ≡ 0
+-- What the mixing check answers: the first cause that applies, or 0; and the first count that mixes, or 0 where the call is declined.
+abbrev pub mixingAnswer : Scheme → MixingAnswer
+mixingAnswer s = record { number = mixingNumber s; count = cond (eqb (mixingNumber s) 0) (firstCount s) 0 }

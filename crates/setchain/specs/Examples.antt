@@ -1,12 +1,12 @@
 -- Worked figures, computed: document 01's two examples of the step, Example A's figures on its interval rows, exact figures of small picks, tight rows, and counts of years that mix.
 use Prim.Native.Nat.{ℕ, zero, suc, _*_}
 use mathlib.Core.Path.{_≡_, refl}
-use mathlib.Core.Bool.{Bool, true, false}
+use mathlib.Core.Bool.{Bool, true, false, _&&_, _||_}
 use mathlib.Core.List.{List, [], _∷_}
-use lib.Dec.{eqb}
+use lib.Dec.{eqb, ltb}
 use lib.ListN.{getD}
 use Rattle.setchain.specs.Sums.{at, sumTo, onlyIf}
-use Rattle.setchain.specs.Tests.{anyBelow, allBelow}
+use Rattle.setchain.specs.Tests.{anyBelow, allBelow, firstFrom}
 use Rattle.setchain.specs.Fractions.{sumFractions}
 use Rattle.setchain.specs.Rows.{ONE, IntervalRow, SetChain, listsRow}
 use Rattle.setchain.specs.Cells.{Cells, rowOf}
@@ -173,9 +173,9 @@ shown rows i j = eqb (at (getD rows i []) j) 1
 abbrev pub round : ℕ → ℕ → Bool
 round = shown ((0 ∷ 1 ∷ 0 ∷ []) ∷ (0 ∷ 0 ∷ 1 ∷ []) ∷ (1 ∷ 0 ∷ 0 ∷ []) ∷ [])
 
--- And from 1 also straight to 0: of three states the slowest that mixes.
-abbrev chord : ℕ → ℕ → Bool
-chord = shown ((0 ∷ 1 ∷ 0 ∷ []) ∷ (1 ∷ 0 ∷ 1 ∷ []) ∷ (1 ∷ 0 ∷ 0 ∷ []) ∷ [])
+-- States 0 to `last` in a cycle, each with an edge to the next and the last to state 0, and a chord: the one before the last has an edge to state 0 too.
+abbrev pub cycleWithChord : (last : ℕ) → (i j : ℕ) → Bool
+cycleWithChord last i j = eqb j (suc i) || eqb j 0 && (eqb i last || eqb (suc i) last)
 
 pub record TestsBelow : Type 0 where
   pub some : (anyBelow 2 (eqb 1) ≡ true) × (anyBelow 2 (eqb 2) ≡ false) × (anyBelow 0 (eqb 0) ≡ false)
@@ -185,13 +185,23 @@ pub tests-below : TestsBelow
 unfolding anyBelow
 tests-below = record { some = (refl, refl, refl); every = (refl, refl, refl) }
 
+-- The first number that passes: of those from 1 to 3, and 0 where it is none of them.
+pub record FirstNumbers : Type 0 where
+  pub ends : (firstFrom 3 1 (eqb 1) ≡ 1) × (firstFrom 3 1 (eqb 3) ≡ 3)
+  pub outside : (firstFrom 3 1 (eqb 0) ≡ 0) × (firstFrom 3 1 (eqb 4) ≡ 0) × (firstFrom 0 1 (ltb 0) ≡ 0)
+  pub several : (firstFrom 3 1 (ltb 1) ≡ 2) × (firstFrom 3 2 (ltb 0) ≡ 2)
+
+pub first-numbers : FirstNumbers
+unfolding firstFrom
+first-numbers = record { ends = (refl, refl); outside = (refl, refl, refl); several = (refl, refl) }
+
 -- Exactly so many years, along edges in their direction, and through states below n alone.
 pub record Paths : Type 0 where
   pub stays : (path 3 round 0 1 1 ≡ true) × (path 3 round 0 1 2 ≡ false)
   pub one : (path 3 round 1 0 1 ≡ true) × (path 3 round 1 1 0 ≡ false) × (path 3 round 1 0 0 ≡ false)
   pub two : (path 3 round 2 0 2 ≡ true) × (path 3 round 2 0 1 ≡ false)
   pub three : (path 3 round 3 0 0 ≡ true) × (path 3 round 3 0 1 ≡ false)
-  pub below : (path 2 round 3 0 0 ≡ false) × (path 2 chord 2 0 0 ≡ true)
+  pub below : (path 2 round 3 0 0 ≡ false) × (path 2 (cycleWithChord 2) 2 0 0 ≡ true)
 
 pub paths : Paths
 unfolding path anyBelow
@@ -200,7 +210,7 @@ paths = record { stays = (refl, refl); one = (refl, refl, refl); two = (refl, re
 -- Of three states in a round no count mixes; with the chord the first is 5, one more than the square of 2.
 pub record CountsThatMix : Type 0 where
   pub turning : (mixes 3 round 1 ≡ false) × (mixes 3 round 3 ≡ false) × (mixes 3 round 6 ≡ false)
-  pub slowest : (mixes 3 chord 4 ≡ false) × (mixes 3 chord 5 ≡ true) × (mixes 3 chord 6 ≡ true)
+  pub slowest : (mixes 3 (cycleWithChord 2) 4 ≡ false) × (mixes 3 (cycleWithChord 2) 5 ≡ true) × (mixes 3 (cycleWithChord 2) 6 ≡ true)
   -- Of one state with an edge to itself every count, without one none but 0.
   pub alone : (mixes 1 (shown ((1 ∷ []) ∷ [])) 1 ≡ true) × (mixes 1 (shown ((0 ∷ []) ∷ [])) 1 ≡ false) × (mixes 1 (shown ((0 ∷ []) ∷ [])) 0 ≡ true)
 

@@ -1,6 +1,6 @@
 -- What a count of years that mixes means, and which counts do.
-use Prim.Native.Nat.{ℕ, zero, suc, _+_, _-_, _*_, _<_}
-use mathlib.Core.Path.{_≡_, refl, ap, sym, _∙_, subst, subst₂}
+use Prim.Native.Nat.{ℕ, zero, suc, _+_, _-_, _*_, _≤_, _<_}
+use mathlib.Core.Path.{_≡_, refl, sym, _∙_, subst, subst₂}
 use mathlib.Core.Bool.{Bool, true, false, true≢false}
 use mathlib.Core.List.{List, [], _∷_}
 use native.Mathlib.Omega.{arith}
@@ -9,14 +9,14 @@ use mathlib.Core.Logic.{⊎-elim}
 use lib.Dec.{eqb}
 use lib.ListN.{length}
 use borrow.Author.Tests.{ltb-true, eq-eqb}
-use Rattle.setchain.specs.Tests.{anyBelow}
+use Rattle.setchain.specs.Tests.{firstFrom}
 use Rattle.setchain.specs.Fractions.{Fraction, whole, _⊗_, _≺_, Proper, sumFractions}
 use Rattle.setchain.specs.Rows.{Inside, SetChain, SoundChain}
 use Rattle.setchain.specs.Picks.{Matrix, InsideEach, none, also, PicksFor, entryOf, product, exactShare}
 use Rattle.setchain.specs.Tight.{tightChain}
 use Rattle.setchain.specs.Mixing.{edgesOf, path, mixes, Passes}
 use Rattle.setchain.specs.Laws.Sums.{onlyIf-true}
-use Rattle.setchain.specs.Laws.Tests.{any-clear}
+use Rattle.setchain.specs.Laws.Tests.{first-is, first-absent}
 use Rattle.setchain.specs.Laws.Fractions.{proper-sum, proper-row}
 use Rattle.setchain.specs.Laws.Follows.{share-follows}
 use Rattle.setchain.specs.Laws.Mixing.{path-none, path-stays, path-more, first-step, mixes-path, mixes-later}
@@ -58,15 +58,29 @@ passes-path n edges (suc t) i j w =
     (passes-path n edges t (w .state 1) j
     (record { state = λ u. w .state (suc u); begins = refl; ends = w .ends; within = λ u l. w .within (suc u) (omega arith); steps = λ u l. w .steps (suc u) (omega arith) }))
 
--- Where the last count of some does not mix, none of them does.
-pub none-mixes : (n : ℕ) (edges : ℕ → ℕ → Bool) (last : ℕ) → mixes n edges (suc last) ≡ false → anyBelow (suc last) (λ t. mixes n edges (suc t)) ≡ false
-none-mixes n edges last e = any-clear (suc last) (λ t. mixes n edges (suc t)) (λ t l. by t l (mixes n edges (suc t)) refl)
+-- Once a count mixes, from 1 on, every later one does; so where one does not, no earlier one does.
+pub mixes-from : (n : ℕ) (edges : ℕ → ℕ → Bool) (t later : ℕ) → 1 ≤ t → t ≤ later → mixes n edges t ≡ true → mixes n edges later ≡ true
+mixes-from n edges zero later low l e = absurd (omega arith)
+mixes-from n edges (suc t) later low l e =
+    let reach : suc (t + (later - suc t)) ≡ later = omega arith in
+    subst (λ x. mixes n edges x ≡ true) reach (mixes-later n edges t (later - suc t) e)
+
+earlier-fails : (n : ℕ) (edges : ℕ → ℕ → Bool) (t later : ℕ) → 1 ≤ t → t ≤ later → mixes n edges later ≡ false → mixes n edges t ≡ false
+earlier-fails n edges t later low l e = by (mixes n edges t) refl
   where
-    by : (t : ℕ) → t < suc last → (b : Bool) → mixes n edges (suc t) ≡ b → mixes n edges (suc t) ≡ false
-    by t l true m =
-        let reach : t + (last - t) ≡ last = omega arith in
-        absurd (true≢false (sym (mixes-later n edges t (last - t) m) ∙ ap (λ x. mixes n edges (suc x)) reach ∙ e))
-    by t l false m = m
+    by : (b : Bool) → mixes n edges t ≡ b → mixes n edges t ≡ false
+    by true m = absurd (true≢false (sym (mixes-from n edges t later low l m) ∙ e))
+    by false m = m
+
+-- The first count that mixes is one more than a count that does not, or 1; and there is none up to one that does not.
+pub first-mixing : (limit n : ℕ) (edges : ℕ → ℕ → Bool) (count : ℕ)
+    → count < limit → (1 ≤ count → mixes n edges count ≡ false) → mixes n edges (suc count) ≡ true → firstFrom limit 1 (mixes n edges) ≡ suc count
+first-mixing limit n edges count l fails e =
+    first-is
+    (record { low = omega arith; high = omega arith; passed = e; before = λ k low g. earlier-fails n edges k count low (omega arith) (fails (omega arith)) })
+
+pub none-mixing : (limit n : ℕ) (edges : ℕ → ℕ → Bool) → mixes n edges limit ≡ false → firstFrom limit 1 (mixes n edges) ≡ 0
+none-mixing limit n edges e = first-absent limit 1 (mixes n edges) (λ k low g. earlier-fails n edges k limit low (omega arith) e)
 
 -- A sum with a term above 0 is above 0.
 sum-above : (n : ℕ) (f : ℕ → Fraction) → ((k : ℕ) → k < n → Proper (f k)) → (k : ℕ) → k < n → 0 < f k .num → 0 < sumFractions n f .num

@@ -187,8 +187,9 @@ pub fn bands(record: &[u8], lower: &mut [u32], upper: &mut [u32]) -> Result<(), 
     })
 }
 
-/// A count of years, 1 to 1,024, in which every class can go to every class,
-/// each step having a tight lower entry above 0, into a slice of 1 number.
+/// The first count of years, 1 to 1,024, in which every class can go to every
+/// class, each step having a tight lower entry above 0, into a slice of 1
+/// number.
 pub fn mixing(record: &[u8], count: &mut [u64]) -> Result<(), u8> {
     // SAFETY: the pointers and lengths are those of slices; `count` is lent
     // alone.

@@ -4,7 +4,8 @@
 mod lent;
 
 use lent::{check_one, near, of_length, Lent};
-use plain::{mixes, Scheme, MAX_COUNT};
+use plain::{Scheme, MAX_COLUMNS};
+use std::collections::BTreeSet;
 use std::io::Write;
 use trials::family::{slowest, turning};
 use trials::made::{self, Shape};
@@ -20,34 +21,24 @@ struct Tally {
     mixing: u64,
     not_mixing: u64,
     declined: u64,
+    /// The counts that were answered, each once.
+    counts: BTreeSet<u64>,
 }
 
-/// The check with a slice of this length: the count that it answers may be any
-/// that mixes.
+/// The check with a slice of this length: the first count that mixes.
 fn check(tally: &mut Tally, record: &[u8], length: usize) {
-    let read = plain::read(record);
-    let first = read
-        .as_ref()
-        .map_err(|&cause| cause)
-        .and_then(plain::mixing);
+    let first = plain::read(record).and_then(|scheme| plain::mixing(&scheme));
     let wanted = of_length(length == 1, first);
     let mut count = Lent::new(length, MARK);
     let answer = library::mixing(record, count.part());
-    match (&read, wanted) {
-        (Ok(scheme), Ok(first)) => {
-            let told = count.left()[0];
-            assert!((first..=MAX_COUNT as u64).contains(&told));
-            assert!(mixes(scheme, told as usize));
-            check_one(answer, &Ok([told]), &count);
+    check_one(answer, &wanted.map(|count| [count]), &count);
+    match wanted {
+        Ok(count) => {
             tally.mixing += 1;
+            tally.counts.insert(count);
         }
-        (_, declined) => {
-            check_one(answer, &declined.map(|count| [count]), &count);
-            match declined {
-                Err(16) => tally.not_mixing += 1,
-                _ => tally.declined += 1,
-            }
-        }
+        Err(16) => tally.not_mixing += 1,
+        Err(_) => tally.declined += 1,
     }
 }
 
@@ -70,6 +61,22 @@ fn sizes(tally: &mut Tally) {
     }
 }
 
+/// Classes in a cycle of every size with one to three chords, so that counts of
+/// every size are answered.
+fn chords(tally: &mut Tally) {
+    let mut rng = Rng::new(144);
+    for s in 2..=32 {
+        for _ in 0..100 {
+            let mut scheme = turning(s);
+            for _ in 0..rng.between(1, 3) {
+                let from = rng.below(u64::from(s)) as usize;
+                scheme.rules[from * MAX_COLUMNS + 1] = rng.between(1, u64::from(s)) as u8;
+            }
+            compare(tally, &mut rng, &made::record_of(&scheme));
+        }
+    }
+}
+
 /// Records with damage of every kind.
 fn damaged(tally: &mut Tally) {
     let mut rng = Rng::new(142);
@@ -83,17 +90,20 @@ fn damaged(tally: &mut Tally) {
 fn agrees() {
     let mut tally = Tally::default();
     sizes(&mut tally);
+    chords(&mut tally);
     damaged(&mut tally);
     // Past the capture of tests, so that it always shows.
     writeln!(
         std::io::stderr(),
-        "mixing checks agree: {} counts, {} times none, {} other causes",
+        "mixing checks agree: {} answered, with {} counts, {} times none, {} other causes",
         tally.mixing,
+        tally.counts.len(),
         tally.not_mixing,
         tally.declined
     )
     .expect("standard error");
     assert!(tally.mixing >= 1_000 && tally.not_mixing >= 1_000 && tally.declined >= 1_000);
+    assert!(tally.counts.len() >= 300);
 }
 
 /// What the library answers for a scheme.
@@ -105,17 +115,15 @@ fn answer(scheme: &Scheme) -> Result<u64, u8> {
 /// Cycles of every size never mix; with one chord they mix at last.
 #[test]
 fn cycles() {
-    let mut tally = Tally::default();
     for s in 2..=32 {
         assert_eq!(answer(&turning(s)), Err(16));
         let first = u64::from(s - 1) * u64::from(s - 1) + 1;
         assert_eq!(plain::mixing(&slowest(s)), Ok(first));
-        check(&mut tally, &made::record_of(&slowest(s)), 1);
+        assert_eq!(answer(&slowest(s)), Ok(first));
     }
-    assert_eq!(tally.mixing, 31);
 }
 
-/// A count that mixes still does where bands are trimmed.
+/// Where bands are trimmed the first count that mixes comes no later.
 #[test]
 fn trimmed() {
     let mut rng = Rng::new(143);
@@ -124,8 +132,8 @@ fn trimmed() {
         let wide = made::scheme(&mut rng);
         let narrow = made::trimmed(&mut rng, &wide);
         match (answer(&wide), answer(&narrow)) {
-            (Ok(count), Ok(_)) => {
-                assert!(mixes(&narrow, count as usize));
+            (Ok(before), Ok(after)) => {
+                assert!(after <= before);
                 kept += 1;
             }
             (Err(16), Ok(_)) => gained += 1,

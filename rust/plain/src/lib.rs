@@ -16,7 +16,7 @@ mod sheet;
 mod step;
 mod years;
 
-pub use mixing::{mixes, mixing, MAX_COUNT};
+pub use mixing::mixing;
 pub use ready::ready;
 pub use record::{
     bands, layout_of, number_at, open, places, put_number, read, rule_row, write, Bands, Layout,

@@ -4,7 +4,7 @@ use crate::rows::row;
 use crate::scheme::{accept, Scheme};
 
 /// The last count of years that is looked at.
-pub const MAX_COUNT: usize = 1024;
+const MAX_COUNT: usize = 1024;
 
 /// The first count of years, 1 to 1,024, in which every class can go to every
 /// class, each step having a tight lower entry above 0.
@@ -12,12 +12,6 @@ pub fn mixing(scheme: &Scheme) -> Result<u64, u8> {
     accept(scheme)?;
     let first = years(scheme).take(MAX_COUNT).position(|mixes| mixes);
     first.map(|before| before as u64 + 1).ok_or(16)
-}
-
-/// Whether every class of an accepted scheme can go to every class in exactly
-/// so many years, from 1 on.
-pub fn mixes(scheme: &Scheme, count: usize) -> bool {
-    years(scheme).nth(count - 1).expect("a later year")
 }
 
 /// For each count of years from 1 on, whether it mixes: the classes that each

@@ -276,7 +276,7 @@ fn report_scheme(out: &mut String, number: u64, record: &[u8], scheme: &Scheme) 
             bytes_sum(&bytes)
         );
     }
-    let mixing = plain::mixing(scheme).map(|_| vec![]);
+    let mixing = plain::mixing(scheme).map(|count| vec![count]);
     put!(out, "MIXING {}\n", answer(mixing));
     for class in [0, 1, start, s, s + 1] {
         report_class(out, number, scheme, class, &years);

@@ -22,6 +22,6 @@ fn report_is_fixed() {
     assert!(report.ends_with('\n'));
     assert_eq!(
         (report.len(), bytes_sum(report.as_bytes())),
-        (84456, 3024460399)
+        (84485, 4236735058)
     );
 }

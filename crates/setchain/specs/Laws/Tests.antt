@@ -1,13 +1,16 @@
--- Laws of a test over all indices below a count.
-use Prim.Native.Nat.{ℕ, zero, suc, _+_, _<_}
+-- Laws of a test over all indices below a count, and of the first number that passes a test.
+use Prim.Native.Nat.{ℕ, zero, suc, _+_, _-_, _≤_, _<_}
 use mathlib.Core.Path.{_≡_, refl, ap, ap₂, sym, _∙_}
-use mathlib.Core.Logic.{⊎-elim}
-use mathlib.Core.Bool.{Bool, true, false, not, _||_, or-true, false≢true}
+use mathlib.Core.Logic.{_⊎_, inl, inr, ⊎-elim}
+use mathlib.Core.Bool.{Bool, true, false, not, cond, _||_, or-true, true≢false, false≢true}
 use mathlib.Core.Bool.{or-false as or-none}
-use borrow.Author.Tests.{not-true, not-false}
+use lib.Dec.{eqb}
+use borrow.Author.Tests.{ne-eqb, not-true, not-false}
 use native.Mathlib.Numerals.{add-one}
+use native.Mathlib.Omega.{arith}
+use native.Mathlib.Decide.{decLt}
 use native.Mathlib.Nat.{le-refl, le-step, eq-or-lt-of-le, le-of-suc-le-suc, not-suc-le-zero}
-use Rattle.setchain.specs.Tests.{anyBelow, allBelow}
+use Rattle.setchain.specs.Tests.{anyBelow, allBelow, firstFrom}
 
 pub or-false-left : (a b : Bool) → (a || b) ≡ false → a ≡ false
 or-false-left true b e = e
@@ -20,6 +23,11 @@ or-false-right false b e = e
 
 pub or-false : {a b : Bool} → a ≡ false → b ≡ false → (a || b) ≡ false
 or-false {a} {b} p q = ap (λ x. x || b) p ∙ q
+
+-- One of two tests passes.
+pub or-either : (a b : Bool) → (a || b) ≡ true → (a ≡ true) ⊎ (b ≡ true)
+or-either true b e = inl refl
+or-either false b e = inr e
 
 pub any-none : (test : ℕ → Bool) → anyBelow 0 test ≡ false
 unfolding anyBelow
@@ -112,3 +120,88 @@ pub both-ways : {a b : Bool} → (a ≡ true → b ≡ true) → (b ≡ true →
 both-ways {a = true} {b} f g = sym (f refl)
 both-ways {a = false} {b = true} f g = g refl
 both-ways {a = false} {b = false} f g = refl
+
+-- The first number that passes: one of those that are tried, and no earlier one passes.
+pub record FirstPassing (many from : ℕ) (test : ℕ → Bool) (first : ℕ) : Type 0 where
+  pub low : from ≤ first
+  pub high : first < from + many
+  pub passed : test first ≡ true
+  pub before : (k : ℕ) → from ≤ k → k < first → test k ≡ false
+
+-- It is what the definition finds.
+pub first-is : {many from first : ℕ} {test : ℕ → Bool} → FirstPassing many from test first → firstFrom many from test ≡ first
+unfolding firstFrom
+first-is {many = zero} w = absurd (omega (arith, w .low, w .high))
+first-is {many = suc many} {from} {first} {test} w = by first-is (test from) refl
+  where
+    by : (FirstPassing many (suc from) test first → firstFrom many (suc from) test ≡ first)
+        → (b : Bool) → test from ≡ b → cond b from (firstFrom many (suc from) test) ≡ first
+    by later true e = ⊎-elim (λ same. same) (λ less. absurd (true≢false (sym e ∙ w .before from (le-refl from) less))) (eq-or-lt-of-le (w .low))
+    by later false e =
+        ⊎-elim (λ same. absurd (true≢false (sym (w .passed) ∙ ap test (sym same) ∙ e)))
+        (λ less. later (record { low = less; high = omega (arith, w .high); passed = w .passed; before = λ k l g. w .before k (omega arith) g }))
+        (eq-or-lt-of-le (w .low))
+
+-- And 0 where none passes.
+pub first-absent : (many from : ℕ) (test : ℕ → Bool) → ((k : ℕ) → from ≤ k → k < from + many → test k ≡ false) → firstFrom many from test ≡ 0
+unfolding firstFrom
+first-absent zero from test h = refl
+first-absent (suc many) from test h =
+    ap (λ b. cond b from (firstFrom many (suc from) test)) (h from (le-refl from) (omega arith))
+    ∙ first-absent many (suc from) test (λ k l g. h k (omega arith) (omega arith))
+
+-- So what it finds is one of the two.
+pub data FirstFound (many from : ℕ) (test : ℕ → Bool) : ℕ → Type 0 where
+  found : {first : ℕ} → FirstPassing many from test first → FirstFound many from test first
+  absent : ((k : ℕ) → from ≤ k → k < from + many → test k ≡ false) → FirstFound many from test 0
+
+pub first-found : (many from : ℕ) (test : ℕ → Bool) → FirstFound many from test (firstFrom many from test)
+unfolding firstFrom
+first-found zero from test = absent (λ k l g. absurd (omega arith))
+first-found (suc many) from test = by (test from) refl (first-found many (suc from) test)
+  where
+    at-from : {k : ℕ} → test from ≡ false → from ≡ k → test k ≡ false
+    at-from e same = ap test (sym same) ∙ e
+
+    by : (b : Bool) → test from ≡ b → {later : ℕ} → FirstFound many (suc from) test later → FirstFound (suc many) from test (cond b from later)
+    by true e later = found {first = from} (record { low = le-refl from; high = omega arith; passed = e; before = λ k l g. absurd (omega arith) })
+    by false e (found {first} w) =
+        found {first = first}
+        (record {
+          low = omega (arith, w .low);
+          high = omega (arith, w .high);
+          passed = w .passed;
+          before = λ k l g. ⊎-elim (at-from e) (λ more. w .before k more g) (eq-or-lt-of-le l);
+        })
+    by false e (absent h) = absent (λ k l g. ⊎-elim (at-from e) (λ more. h k more (omega arith)) (eq-or-lt-of-le l))
+
+-- Where a number passes, the first that passes is no larger.
+pub first-least : (many from : ℕ) (test : ℕ → Bool) (k : ℕ) → from ≤ k → k < from + many → test k ≡ true
+    → FirstPassing many from test (firstFrom many from test) × (firstFrom many from test ≤ k)
+first-least many from test k l g e = by (first-found many from test)
+  where
+    by : {first : ℕ} → FirstFound many from test first → FirstPassing many from test first × (first ≤ k)
+    by (found {first} w) = (w, not-later (decLt k first))
+      where
+        not-later : Dec (k < first) → first ≤ k
+        not-later (yes less) = absurd (true≢false (sym e ∙ w .before k l less))
+        not-later (no more) = omega (arith, more)
+    by (absent h) = absurd (true≢false (sym e ∙ h k l g))
+
+-- From 1 on none is found exactly where the test passes at no number.
+pub first-any : (many : ℕ) (test : ℕ → Bool) → eqb (firstFrom many 1 test) 0 ≡ not (anyBelow many (λ k. test (suc k)))
+first-any many test = by (first-found many 1 test)
+  where
+    by : {first : ℕ} → FirstFound many 1 test first → eqb first 0 ≡ not (anyBelow many (λ k. test (suc k)))
+    by (found {first} w) =
+        let place : suc (first - 1) ≡ first = omega (arith, w .low) in
+        ne-eqb first 0 (λ z. omega (arith, z, w .low))
+        ∙ sym (ap not (any-hit many (first - 1) (λ k. test (suc k)) (omega (arith, w .low, w .high)) (ap test place ∙ w .passed)))
+    by (absent h) = sym (ap not (any-clear many (λ k. test (suc k)) (λ k l. h (suc k) (omega arith) (omega arith))))
+
+-- Tests that agree at the numbers that are tried.
+pub first-eq : (many from : ℕ) (test test′ : ℕ → Bool) → ((k : ℕ) → from ≤ k → test k ≡ test′ k) → firstFrom many from test ≡ firstFrom many from test′
+unfolding firstFrom
+first-eq zero from test test′ h = refl
+first-eq (suc many) from test test′ h =
+    ap₂ (λ b later. cond b from later) (h from (le-refl from)) (first-eq many (suc from) test test′ (λ k l. h k (omega arith)))

@@ -26,7 +26,7 @@
 //! WRITE room ANSWER sum            room = length, length + 5, length - 1;
 //!                                  OK length; then in any case the checksum
 //!                                  of the room, filled with AA beforehand
-//! MIXING ANSWER                    OK alone: any count that mixes is right
+//! MIXING ANSWER                    OK count, the first that mixes
 //! ```
 //!
 //! then for each class of 0, 1, start, s, s + 1:
