@@ -7,7 +7,7 @@ use Rattle.setchain.specs.Sums.{sumTo, onlyIf}
 use Rattle.setchain.specs.Tests.{anyBelow, allBelow}
 use Rattle.setchain.specs.Mixing.{path, mixes}
 use Rattle.setchain.specs.Examples.{cycleWithChord}
-use Rattle.setchain.specs.Slowest.{cycle-first}
+use Rattle.setchain.specs.Cycle.{cycle-first}
 use Rattle.setchain.specs.Laws.Tests.{all-true, first-eq}
 use Rattle.setchain.specs.Laws.Mixing.{mixes-agrees, no-path-within}
 use Rattle.scheme.specs.declared.Scheme.{Scheme}

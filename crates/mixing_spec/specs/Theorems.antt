@@ -3,6 +3,7 @@ use Prim.Native.Nat.{ℕ, suc, _*_, _≤_, _<_}
 use mathlib.Core.Path.{_≡_, refl, ap, ap₂, sym, _∙_, subst}
 use mathlib.Core.Bool.{Bool, true, false, not}
 use mathlib.Core.List.{List, [], _∷_}
+use mathlib.Core.Logic.{⊎-elim}
 use native.Mathlib.Omega.{arith}
 use native.Mathlib.Nat.{le-trans, mul-le-mul}
 use lib.Dec.{eqb, ltb}
@@ -25,8 +26,8 @@ use Rattle.scheme.specs.FirstCause.{_when_, orElse, firstOf}
 use Rattle.scheme.specs.Rows.{chainOf}
 use Rattle.scheme.specs.Stored.{cleared}
 use Rattle.scheme.specs.Values.{SameValues, Trimmed}
-use Rattle.scheme.specs.Laws.FirstCause.{first-none, second-none, second-cause, answered, declined, by-cause}
-use Rattle.scheme.specs.Laws.Judged.{cause-accepted, accepted-cause}
+use Rattle.scheme.specs.Laws.FirstCause.{first-none, second-none, second-cause, cause-either, answered, declined, by-cause}
+use Rattle.scheme.specs.Laws.Judged.{cause-accepted, accepted-cause, cause-most}
 use Rattle.scheme.specs.Laws.Sound.{accepted-sound}
 use Rattle.scheme.specs.Laws.Trimmed.{trimmed-covers}
 use Rattle.scheme.specs.Laws.Values.{Alike, same, alike-cause, alike-values, cleared-alike, row-same}
@@ -94,14 +95,15 @@ limit-enough s ok t l m =
     mixes-from n (schemeEdges s) (n * n) 1024 some square (square-enough n (schemeEdges s) t l m)
 
 -- So 16 says that no count mixes, however large.
-pub never-mixes : (s : Scheme) → causeOf s ≡ 0 → mixingNumber s ≡ 16 → (t : ℕ) → 1 ≤ t → mixesScheme s t ≡ false
-never-mixes s ok e t l = by (mixesScheme s t) refl
+pub never-mixes : (s : Scheme) → mixingNumber s ≡ 16 → (t : ℕ) → 1 ≤ t → mixesScheme s t ≡ false
+never-mixes s e t l =
+    ⊎-elim (λ early. absurd (omega (arith, early, cause-most s))) (λ late. by late (mixesScheme s t) refl) (cause-either (causeOf s) (mixingCause s) e)
   where
-    by : (b : Bool) → mixesScheme s t ≡ b → mixesScheme s t ≡ false
-    by true m =
+    by : (causeOf s ≡ 0) × (mixingCause s ≡ 16) → (b : Bool) → mixesScheme s t ≡ b → mixesScheme s t ≡ false
+    by (ok, none) true m =
         let last : MixingCount s 1024 = record { from = omega arith; to = omega arith; mixing = limit-enough s ok t l m } in
-        absurd (omega (arith, e, second-cause (causeOf s) (mixingCause s) ok, some-count s last))
-    by false m = m
+        absurd (omega (arith, none, some-count s last))
+    by late false m = m
 
 -- What item 3 promised of an answer.
 pub record MixingAnswered (s : Scheme) (r : MixingAnswer) : Type 0 where

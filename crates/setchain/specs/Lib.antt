@@ -1,6 +1,6 @@
 -- Read in this order: what a bound means (Sums to Promise), then that it holds (Theorems), for answers too (Kept), and moves inward with narrower rows (Inward),
 -- what a tight row is (Tight) and that it changes no figure and no promise (Tightened), which counts of years mix (Mixing), what that means (Mixed) and how far one has to look (Limit),
--- then worked figures, and one that is worked for any number of states (Slowest).
+-- then worked figures, and one that is worked for any number of states (Cycle).
 -- Laws has the lemmas by which the theorems are proved.
 pub mod Sums
 pub mod Tests
@@ -24,7 +24,7 @@ pub mod Tightened
 pub mod Mixed
 pub mod Limit
 pub mod Examples
-pub mod Slowest
+pub mod Cycle
 pub mod PromiseExamples
 pub mod TurnExamples
 pub mod InwardExamples

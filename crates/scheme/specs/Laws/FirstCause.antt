@@ -3,6 +3,7 @@ use Prim.Native.Nat.{ℕ, _≤_, _<_}
 use mathlib.Core.Path.{_≡_, refl, ap, sym, _∙_, subst, subst₂}
 use mathlib.Core.Bool.{Bool, true, false, cond, true≢false}
 use mathlib.Core.List.{List, [], _∷_}
+use mathlib.Core.Logic.{_⊎_, inl, inr}
 use lib.Dec.{eqb}
 use native.Mathlib.Decide.{ℕ-discrete}
 use native.Mathlib.Omega.{arith}
@@ -38,6 +39,14 @@ cause-first {n} {first} second e some = e ∙ sym (first-cause first second (λ 
 
 pub cause-second : {n first second : ℕ} → first ≡ 0 → n ≡ second → n ≡ orElse first second
 cause-second {n} {first} {second} none e = e ∙ sym (second-cause first second none)
+
+-- Two causes come to the first, or there is no first and they come to the second.
+pub cause-either : (a b : ℕ) {k : ℕ} → orElse a b ≡ k → (a ≡ k) ⊎ ((a ≡ 0) × (b ≡ k))
+cause-either a b {k} e = by (ℕ-discrete a 0)
+  where
+    by : Dec (a ≡ 0) → (a ≡ k) ⊎ ((a ≡ 0) × (b ≡ k))
+    by (yes z) = inr (z, sym (second-cause a b z) ∙ e)
+    by (no h) = inl (sym (first-cause a b h) ∙ e)
 
 -- Of three causes it does not matter which two are joined first.
 pub or-assoc : (a b c : ℕ) → orElse (orElse a b) c ≡ orElse a (orElse b c)
