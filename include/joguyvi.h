@@ -32,12 +32,16 @@ uint8_t joguyvi_share(const uint8_t *bytes, size_t bytes_length,
                       uint64_t class_number, uint64_t year,
                       uint64_t *out, size_t out_length);
 
-/* The mean premium of a year, in cents: low and high into `out`, of 2 numbers. */
+/* The mean premium of a year, in cents: low and high into `out`, of 2 numbers.
+ * The years carry tenths of a cent, and only the answer is rounded to cents,
+ * low down and high up. No probabilities inside the bands lead outside, and
+ * for each of the two some come nearer to it than one cent and a tenth for
+ * each year. */
 uint8_t joguyvi_mean(const uint8_t *bytes, size_t bytes_length, uint64_t year,
                      uint64_t *out, size_t out_length);
 
 /* The total of as many premiums as there are years, in cents: low and high
- * into `out`, of 2 numbers. */
+ * into `out`, of 2 numbers, carried and rounded as the mean is. */
 uint8_t joguyvi_total(const uint8_t *bytes, size_t bytes_length, uint64_t year,
                       uint64_t *out, size_t out_length);
 
@@ -109,8 +113,9 @@ uint8_t joguyvi_mixing(const uint8_t *bytes, size_t bytes_length,
 /* The low step of a class: its least figure one year on, rounded down, into
  * `figure`, of 1 number, and a row of parts that reaches it unrounded into
  * `row`, of 32 numbers, with 0 beyond s. `payoff` is of 32 numbers; those
- * beyond s are ignored, and one above 1,000,000,000 is 10. Another length of
- * `payoff`, `figure` or `row` is 13. */
+ * beyond s are ignored, and one above 10,000,000,000 is 10. A payoff and its
+ * figure have the same unit, whatever it is. Another length of `payoff`,
+ * `figure` or `row` is 13. */
 uint8_t joguyvi_low_step(const uint8_t *bytes, size_t bytes_length,
                          const uint64_t *payoff, size_t payoff_length,
                          uint64_t class_number,

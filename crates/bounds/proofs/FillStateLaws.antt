@@ -13,7 +13,7 @@ use borrow.Author.Tests.{eq-eqb, ne-eqb}
 use Rattle.setchain.specs.Sums.{at, sumTo, onlyIf}
 use Rattle.setchain.specs.Rows.{ONE}
 use Rattle.setchain.specs.Laws.Sums.{onlyIf-true, onlyIf-false, sumTo-front, term-le}
-use Rattle.step.specs.Figure.{LARGEST}
+use Rattle.step_spec.specs.StepAnswer.{MOST_PAYOFF}
 use Rattle.bounds.specs.Entries.{lowerEnds, capacities, sumOf}
 use Rattle.bounds.specs.Fill.{taken, FillStatePre, FillStatePost}
 
@@ -104,7 +104,7 @@ module _ {entries : List ℕ} {first end payoff : ℕ} {left sums : List ℕ} (a
           sumTo-front (λ k. onlyIf (eqb (at entries (first + k)) i) (at entries (capacities + (first + k)))) (end - first) (e + 1 - first) (omega (arith, w .begun)),
         )
 
-    pub entry-fits : at sums′ i + (at entries (lowerEnds + e) + given) * payoff ≤ LARGEST * ONE
+    pub entry-fits : at sums′ i + (at entries (lowerEnds + e) + given) * payoff ≤ MOST_PAYOFF * ONE
     entry-fits = omega (arith, sums-now, mul-le-mul-right payoff taken-front, able .fits i row-inside)
 
     pub entries-more : EntriesTaken entries first end payoff left sums

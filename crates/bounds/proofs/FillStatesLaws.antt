@@ -22,21 +22,21 @@ use Rattle.order.specs.Laws.Along.{along-permutation, sum-along}
 use Rattle.setchain.specs.Laws.Agreeing.{Agree, sound-agrees, step-agrees}
 use Rattle.step.specs.Fill.{FillPost, FillSlackPre}
 use Rattle.step.specs.Step.{StepPre}
-use Rattle.step.specs.Figure.{LARGEST}
+use Rattle.step_spec.specs.StepAnswer.{MOST_PAYOFF}
 use Rattle.bounds.specs.Fill.{Small, leftAt, sumAt}
 use Rattle.step.specs.Laws.Fill.{Filling, filling-none, filling-more, filling-last}
 use Rattle.step.specs.Laws.Extreme.{step-reached}
 
 -- The sum stays within the largest payoff.
 module _ (n : ℕ) (r : IntervalRow) (f : ℕ → ℕ) (order : List ℕ) (slack : ℕ) (p : Permutation n order)
-    (whole : sumTo n (r .lower) + slack ≡ ONE) (small : (j : ℕ) → j < n → f j ≤ LARGEST) where
+    (whole : sumTo n (r .lower) + slack ≡ ONE) (small : (j : ℕ) → j < n → f j ≤ MOST_PAYOFF) where
   left-le : (k : ℕ) → leftAt r order slack k ≤ slack
   unfolding leftAt
   left-le zero = le-refl slack
   left-le (suc k) = omega (arith, left-le k)
 
   sum-parts : (k : ℕ) → k ≤ n
-      → sumAt r f order slack k ≤ (sumTo k (λ q. r .lower (at order q - 1)) + (slack - leftAt r order slack k)) * LARGEST
+      → sumAt r f order slack k ≤ (sumTo k (λ q. r .lower (at order q - 1)) + (slack - leftAt r order slack k)) * MOST_PAYOFF
   unfolding leftAt sumAt sumTo
   sum-parts zero h = omega arith
   sum-parts (suc k) h =
@@ -48,14 +48,14 @@ module _ (n : ℕ) (r : IntervalRow) (f : ℕ → ℕ) (order : List ℕ) (slack
             (small (at order k - 1) (omega (arith, p .within k h))),
       )
 
-  pub sum-fits : (k : ℕ) → k ≤ n → sumAt r f order slack k ≤ LARGEST * ONE
+  pub sum-fits : (k : ℕ) → k ≤ n → sumAt r f order slack k ≤ MOST_PAYOFF * ONE
   sum-fits k h =
       omega (
         arith,
         sum-parts k h,
         sumTo-front (λ q. r .lower (at order q - 1)) n k h,
         sum-along n order p (r .lower),
-        mul-le-mul-right LARGEST all,
+        mul-le-mul-right MOST_PAYOFF all,
       )
     where
       all : sumTo k (λ q. r .lower (at order q - 1)) + (slack - leftAt r order slack k) ≤ ONE

@@ -10,6 +10,7 @@ pub mod YearLaws
 pub mod YearsLaws
 pub mod SeriesLaws
 pub mod PayoffsLaws
+pub mod MoneyLaws
 pub mod StartBoundsLaws
 pub mod SlicesLaws
 pub mod SheetLaws

@@ -1,4 +1,4 @@
--- The payoffs and gains of a share, a mean and a total: that their figures fit, and which figures they are.
+-- The payoffs and gains of a share, a mean and a total: that their figures fit, and which figures they are; money in cents.
 -- Assumes nothing.
 use Prim.Native.Nat.{ℕ, _+_, _-_, _≤_, _<_}
 use mathlib.Core.Path.{_≡_, refl, ap, sym, _∙_}
@@ -11,7 +11,8 @@ use lib.ListN.{set, getD-replicate}
 use lib.Seq.{getD-set-same, getD-set-other}
 use borrow.Author.Tests.{eq-eqb, ne-eqb}
 use Rattle.setchain.specs.Rows.{ONE}
-use Rattle.setchain.specs.Years.{yearsFigure, nothing, sharePayoff, shareFigure, meanFigure, totalFigure}
+use Rattle.setchain.specs.Rounding.{rounded}
+use Rattle.setchain.specs.Years.{yearsFigure, nothing, sharePayoff, shareFigure, CENT, tenths, meanFigure, totalFigure}
 use Rattle.setchain.specs.Laws.Sums.{onlyIf-le, onlyIf-true, onlyIf-false}
 use Rattle.setchain.specs.Laws.Agreeing.{agree-refl, years-agree}
 use Rattle.scheme.specs.declared.Scheme.{Scheme}
@@ -19,10 +20,11 @@ use Rattle.scheme.specs.Access.{premiumAt}
 use Rattle.scheme.specs.Accepted.{Accepted}
 use Rattle.scheme.specs.Rows.{chainOf}
 use Rattle.setchain.specs.Sums.{at}
-use Rattle.step.specs.Figure.{LARGEST}
+use Rattle.step_spec.specs.StepAnswer.{MOST_PAYOFF}
 use Rattle.bounds_spec.specs.Answers.{startOf}
 use Rattle.bounds.specs.Years.{FiguresFit}
 use Rattle.bounds.specs.Series.{SharePayoffPost, startFigure}
+use Rattle.bounds.specs.Money.{TenthsPost}
 use Rattle.bounds.specs.Sheets.{shareOf}
 use Rattle.bounds.proofs.FrontLaws.{zeros}
 
@@ -48,7 +50,7 @@ module _ (s : Scheme) (ok : Accepted s) where
   below-32 j l = omega (arith, ok .size .classes)
 
   -- Without a gain the payoffs alone count.
-  fits-alone : (payoff : List ℕ) (most t : ℕ) → most ≤ LARGEST → ((j : ℕ) → j < s .classes → at payoff j ≤ most) → FiguresFit (s .classes) zeros payoff t
+  fits-alone : (payoff : List ℕ) (most t : ℕ) → most ≤ MOST_PAYOFF → ((j : ℕ) → j < s .classes → at payoff j ≤ most) → FiguresFit (s .classes) zeros payoff t
   fits-alone payoff most t h each =
       record {
         payoffMost = most;
@@ -84,25 +86,28 @@ module _ (s : Scheme) (ok : Accepted s) where
         let again : j + 1 - 1 ≡ j = omega arith in
         share-figure held (omega arith) (omega (arith, below-32 j inside)) t high ∙ ap (shareOf high s t) again
 
-  -- The mean premium, and the total of premiums, where an array holds the premiums.
-  module _ {premiums : List ℕ} (are : premiums ≡ s .premiums) (t : ℕ) where
+  -- The mean premium, and the total of premiums, where an array holds the premiums in tenths.
+  module _ {premiums : List ℕ} (are : TenthsPost (s .premiums) premiums) (t : ℕ) where
+    premium-most : (j : ℕ) → j < s .classes → at premiums j ≤ 100000000
+    premium-most j l = omega (arith, are .each j (below-32 j l), ok .premiums .within j l)
+
     pub mean-fits : FiguresFit (s .classes) zeros premiums t
-    mean-fits = rw are (fits-alone (s .premiums) 10000000 t (omega arith) (ok .premiums .within))
+    mean-fits = fits-alone premiums 100000000 t (omega arith) premium-most
 
-    pub mean-figure : (high : Bool) → startFigure high s zeros premiums t ≡ meanFigure high (chainOf s) (premiumAt s) t (startOf s)
-    mean-figure high = rw are (as-functions high zeros (s .premiums) nothing (premiumAt s) t (λ j l. refl) zero-at)
+    pub mean-figure : (high : Bool) → rounded high CENT (startFigure high s zeros premiums t) ≡ meanFigure high (chainOf s) (premiumAt s) t (startOf s)
+    mean-figure high = ap (rounded high CENT) (as-functions high zeros premiums nothing (tenths (premiumAt s)) t (are .each) zero-at)
 
+    -- 100 years of the largest premium reach the limit.
     pub total-fits : t ≤ 100 → FiguresFit (s .classes) premiums zeros t
     total-fits h =
-        rw are
-        (record {
+        record {
           payoffMost = 0;
-          gainMost = 10000000;
+          gainMost = 100000000;
           payoffs = λ j l. omega (arith, zero-at j (below-32 j l));
-          gains = ok .premiums .within;
+          gains = premium-most;
           figures = omega arith;
           small = omega arith;
-        })
+        }
 
-    pub total-figure : (high : Bool) → startFigure high s premiums zeros t ≡ totalFigure high (chainOf s) (premiumAt s) t (startOf s)
-    total-figure high = rw are (as-functions high (s .premiums) zeros (premiumAt s) nothing t zero-at (λ j l. refl))
+    pub total-figure : (high : Bool) → rounded high CENT (startFigure high s premiums zeros t) ≡ totalFigure high (chainOf s) (premiumAt s) t (startOf s)
+    total-figure high = ap (rounded high CENT) (as-functions high premiums zeros (tenths (premiumAt s)) nothing t zero-at (are .each))

@@ -24,8 +24,10 @@ use Rattle.bounds_spec.specs.Answers.{answerBy, startOf, shareAnswer, meanAnswe
 use Rattle.bounds_spec.specs.Promises.{SharePromise, MeanPromise, TotalPromise}
 use Rattle.bounds_spec.specs.Laws.Kept.{share-kept, mean-kept, total-kept}
 use Rattle.bounds.specs.Series.{SharePayoffPost, startFigure, SeriesPre}
+use Rattle.bounds.specs.Money.{TenthsPost, inCents}
 use Rattle.bounds.proofs.FrontLaws.{zeros}
 use Rattle.bounds.proofs.PayoffsLaws.{share-fits, share-figure, mean-fits, mean-figure, total-fits, total-figure}
+use Rattle.bounds.proofs.MoneyLaws.{cents-answer}
 use Rattle.bounds_spec.specs.Causes.{shareCause, moneyCause}
 
 -- Answers with the same cause are the same, where their figures are.
@@ -79,24 +81,24 @@ module _ (s : Scheme) (year : ℕ) {n : ℕ} (e : n ≡ moneyCause s year) where
       ltb-false (s .horizon) year (test-none (ltb (s .horizon) year) 12 (omega arith) (second-none (causeOf s) (yearCause s year) (sym e ∙ z))) in
       omega (arith, money-accepted z .horizon .within)
 
-  module _ {premiums : List ℕ} (are : premiums ≡ s .premiums) where
+  module _ {premiums : List ℕ} (are : TenthsPost (s .premiums) premiums) where
     pub mean-ready : Fits w64 (year * 1) → n ≡ 0 → SeriesPre s zeros premiums year 1
     mean-ready counted z = record { accepted = money-accepted z; fits = mean-fits s (money-accepted z) are year; apart = omega arith; counted = counted }
 
-    pub mean-answer : {r : Bounds} → r ≡ answerBy n (startFigure false s zeros premiums year) (startFigure true s zeros premiums year)
+    pub mean-answer : {b r : Bounds} → b ≡ answerBy n (startFigure false s zeros premiums year) (startFigure true s zeros premiums year) → r ≡ inCents b
         → (r ≡ meanAnswer s year) × MeanPromise s year r
     unfolding meanAnswer
-    mean-answer b =
+    mean-answer b c =
         with-promise (MeanPromise s year) (mean-kept s year)
-        (b ∙ answer-same e (λ z. mean-figure s (money-accepted z) are year false) (λ z. mean-figure s (money-accepted z) are year true))
+        (c ∙ ap inCents b ∙ cents-answer n _ _ ∙ answer-same e (λ z. mean-figure s (money-accepted z) are year false) (λ z. mean-figure s (money-accepted z) are year true))
 
     pub total-ready : Fits w64 (year * 1) → n ≡ 0 → SeriesPre s premiums zeros year 1
     total-ready counted z =
         record { accepted = money-accepted z; fits = total-fits s (money-accepted z) are year (year-inside z); apart = omega arith; counted = counted }
 
-    pub total-answer : {r : Bounds} → r ≡ answerBy n (startFigure false s premiums zeros year) (startFigure true s premiums zeros year)
+    pub total-answer : {b r : Bounds} → b ≡ answerBy n (startFigure false s premiums zeros year) (startFigure true s premiums zeros year) → r ≡ inCents b
         → (r ≡ totalAnswer s year) × TotalPromise s year r
     unfolding totalAnswer
-    total-answer b =
+    total-answer b c =
         with-promise (TotalPromise s year) (total-kept s year)
-        (b ∙ answer-same e (λ z. total-figure s (money-accepted z) are year false) (λ z. total-figure s (money-accepted z) are year true))
+        (c ∙ ap inCents b ∙ cents-answer n _ _ ∙ answer-same e (λ z. total-figure s (money-accepted z) are year false) (λ z. total-figure s (money-accepted z) are year true))

@@ -17,12 +17,19 @@ use Rattle.scheme.specs.Accepted.{Accepted}
 use Rattle.scheme.specs.Laws.Tab.{as-tab}
 use Rattle.scheme.specs.declared.Scheme.{Scheme}
 use Rattle.setchain.specs.Sums.{at}
+use Rattle.setchain.specs.Rounding.{rounded}
+use Rattle.setchain.specs.Years.{CENT, meanFigure}
+use Rattle.scheme.specs.Access.{premiumAt}
+use Rattle.scheme.specs.Rows.{chainOf}
+use Rattle.bounds_spec.specs.Answers.{startOf}
 use Rattle.bounds_spec.specs.Table.{placeOf, tableEntry, figureTable}
 use Rattle.bounds_spec.specs.Laws.Table.{table-at-most, place-below, number-of, entry-share, entry-mean, entry-total}
 use Rattle.bounds.specs.Years.{FiguresFit, SeriesStored}
 use Rattle.bounds.specs.Series.{startFigure, SharePayoffPost, SeriesPre}
-use Rattle.bounds.specs.Sheets.{WritePre, shareOf, ShareColumnsPost}
+use Rattle.bounds.specs.Money.{TenthsPost, RoundMeansPre, RoundMeansPost}
+use Rattle.bounds.specs.Sheets.{WritePre, shareOf, ShareColumnsPost, MeanColumnPost}
 use Rattle.bounds.proofs.FrontLaws.{zeros}
+use Rattle.bounds.proofs.MoneyLaws.{series-rounded}
 use Rattle.bounds.proofs.PayoffsLaws.{state-fits, state-share, mean-fits, mean-figure, total-fits, total-figure}
 use Rattle.bounds_spec.specs.Causes.{totalPlace, tableSize}
 
@@ -156,17 +163,27 @@ module _ (s : Scheme) (share : ℕ → ℕ → ℕ) (mean : ℕ → ℕ) (total 
 pub last-length : (after : List ℕ) (v : ℕ) {n : ℕ} → length after ≡ n → length (set after (length after - 1) v) ≡ n
 last-length after v e = length-set after (length after - 1) v ∙ e
 
--- The mean's column and the total, after the shares.
-module _ (s : Scheme) (ok : Accepted s) {premiums : List ℕ} (are : premiums ≡ s .premiums) where
+-- The mean's column, and the total.
+module _ (s : Scheme) (ok : Accepted s) {premiums : List ℕ} (are : TenthsPost (s .premiums) premiums) where
   pub mean-ready : SeriesPre s zeros premiums (s .horizon) (s .classes + 1)
   mean-ready = column-ready s ok (mean-fits s ok are (s .horizon))
+
+  pub round-ready : RoundMeansPre (s .classes + 1)
+  round-ready = record { apart = omega arith; within = omega (arith, ok .size .classes) }
+
+  pub means-made : {high : Bool} {before middle after : List ℕ} → SeriesStored (startFigure high s zeros premiums) (s .classes + 1) (s .horizon + 1) before middle
+      → RoundMeansPost high (s .classes + 1) middle after → MeanColumnPost high s before after
+  means-made {high} w r =
+      let made = series-rounded w r in
+      record { size = made .size; done = λ u l h. made .done u l h ∙ mean-figure s ok are u high; other = made .other }
 
   pub total-ready : SeriesPre s premiums zeros (s .horizon) 1
   total-ready =
       record { accepted = ok; fits = total-fits s ok are (s .horizon) (ok .horizon .within); apart = omega arith; counted = omega (arith, ok .horizon .within) }
 
+  -- After the shares.
   module _ {high : Bool} {out after : List ℕ} (w : ShareColumnsPost high s out (s .classes))
-      (c : ColumnStored s (startFigure high s zeros premiums) (s .classes) out after) where
+      (c : ColumnStored s (λ t. meanFigure high (chainOf s) (premiumAt s) t (startOf s)) (s .classes) out after) where
     -- The last place is the total's.
     last-place : length after - 1 ≡ totalPlace s
     last-place = omega (arith, c .size, w .size)
@@ -175,13 +192,14 @@ module _ (s : Scheme) (ok : Accepted s) {premiums : List ℕ} (are : premiums �
     kept v t j h l =
         getD-set-other after (length after - 1) (placeOf s t j) v 0 (λ g. omega (arith, last-place, place-below s t j h l))
 
-    pub table-made : (v : ℕ) → v ≡ startFigure high s premiums zeros (s .horizon) → set after (length after - 1) v ≡ figureTable high s
+    pub table-made : {total : ℕ} (v : ℕ) → total ≡ startFigure high s premiums zeros (s .horizon) → v ≡ rounded high CENT total → set after (length after - 1) v ≡ figureTable high s
     unfolding figureTable
-    table-made v f =
+    table-made v f g =
         table-pinned s _ _ _ (set after (length after - 1) v) (last-length after v (c .size ∙ w .size))
         (λ t j h l. kept v t j h (omega arith) ∙ c .other t j (omega arith) (λ g. omega arith) ∙ w .done j l t h)
-        (λ t h. kept v t (s .classes) h (omega arith) ∙ c .own t h ∙ mean-figure s ok are t high)
+        (λ t h. kept v t (s .classes) h (omega arith) ∙ c .own t h)
         (ap (at (set after (length after - 1) v)) (sym last-place)
         ∙ getD-set-same after (length after - 1) v 0 (omega (arith, c .size, w .size))
-        ∙ f
+        ∙ g
+        ∙ ap (rounded high CENT) f
         ∙ total-figure s ok are (s .horizon) high)

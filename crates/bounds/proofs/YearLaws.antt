@@ -17,7 +17,7 @@ use Rattle.order.specs.Order.{along, Permutation, SortedPermutation}
 use Rattle.order.specs.Laws.Written.{Rewritten}
 use Rattle.order.specs.Laws.Along.{along-permutation}
 use Rattle.setchain.specs.Sums.{at}
-use Rattle.step.specs.Figure.{LARGEST}
+use Rattle.step_spec.specs.StepAnswer.{MOST_PAYOFF}
 use Rattle.bounds.specs.Entries.{lowerEnds, capacities, counts, sumOf, listSum, listedRow, chainListed, SoundLists}
 use Rattle.bounds.specs.Fill.{Small, leftAt, sumAt, taken, FillStatePre, FillStatePost, FillStatesPre, FillStatesPost, RoundSumsPre, RoundSumsPost}
 use Rattle.bounds.specs.Years.{YearPre, YearPost}
@@ -35,8 +35,8 @@ module _ {gain : List ℕ} (high : Bool) {sums figures : List ℕ} {i : ℕ} (ab
     (w : Rewritten (length gain) (figureOf gain high) sums figures i) where
   pub figure-fits : {r : ℕ} → i < length gain → r ≡ rounded high ONE (at figures i) → Fits w64 (at gain i + r)
   figure-fits more is =
-      let sum : at figures i ≤ LARGEST * ONE = omega (arith, w .rest i (omega arith), able .fits i more) in
-      omega (arith, is, able .gains i more, rounded-at-most ONE (omega arith) high (at figures i) LARGEST sum)
+      let sum : at figures i ≤ MOST_PAYOFF * ONE = omega (arith, w .rest i (omega arith), able .fits i more) in
+      omega (arith, is, able .gains i more, rounded-at-most ONE (omega arith) high (at figures i) MOST_PAYOFF sum)
 
   pub figures-all : length gain ≤ i → RoundSumsPost gain high sums figures
   figures-all h = record { size = w .size; each = λ k l. w .done k (omega arith) }
@@ -54,7 +54,7 @@ module _ {entries payoff order left sums₀ : List ℕ} (able : FillStatesPre en
   unfolding leftAt sumAt
   states-none = record { inside = omega arith; leftSize = able .leftSize; size = able .size; rest = λ i l. refl; sum = able .none }
 
-  fits : (i : ℕ) → i < length payoff → (k : ℕ) → k ≤ length payoff → sumAt (listedRow entries i) (at payoff) order (at left i) k ≤ LARGEST * ONE
+  fits : (i : ℕ) → i < length payoff → (k : ℕ) → k ≤ length payoff → sumAt (listedRow entries i) (at payoff) order (at left i) k ≤ MOST_PAYOFF * ONE
   fits i l = sum-fits (length payoff) (listedRow entries i) (at payoff) order (at left i) (able .permutation) (able .lists .whole i l) (able .small)
 
   module _ {left′ sums : List ℕ} {k : ℕ} (w : StatesFilled entries payoff order left left′ sums k) (more : k < length payoff)
@@ -153,7 +153,7 @@ module _ {entries slack gain order before : List ℕ} (w : YearPre entries slack
     by-payoff = ranks (subst (λ n. Permutation n order) (sym front-count) (w .permutation)) (omega (arith, front-count, w .lists .states))
 
     small : Small (length gain) (take (length gain) before)
-    small j l = subst (λ x. x ≤ LARGEST) (sym (getD-take (length gain) before j 0 l)) (w .small j l)
+    small j l = subst (λ x. x ≤ MOST_PAYOFF) (sym (getD-take (length gain) before j 0 l)) (w .small j l)
 
     pub year-permutation : Permutation (length gain) order′
     year-permutation = subst (λ n. Permutation n order′) front-count (by-payoff .permutation)

@@ -15,7 +15,7 @@ use Rattle.setchain.specs.Laws.Agreeing.{agree-refl, step-agrees}
 use Rattle.setchain.specs.Laws.Step.{years-at-most}
 use Rattle.order.specs.Order.{Permutation}
 use Rattle.setchain.specs.Sums.{at}
-use Rattle.step.specs.Figure.{LARGEST}
+use Rattle.step_spec.specs.StepAnswer.{MOST_PAYOFF}
 use Rattle.bounds.specs.Entries.{chainListed}
 use Rattle.bounds.specs.Years.{yearFigure, YearPre, YearPost, FiguresFit, YearsPre, SeriesStored, YearsPost}
 
@@ -93,7 +93,7 @@ module _ {entries slack gain order payoff : List ℕ} {t state stride : ℕ} (w 
             lists = w .lists;
             permutation = r .permutation;
             small = λ j l.
-                subst (λ x. x ≤ LARGEST) (sym (r .each j l))
+                subst (λ x. x ≤ MOST_PAYOFF) (sym (r .each j l))
                 (le-trans
                 (years-at-most high chain (w .lists .sound) (at payoff) (at gain)
                 (w .fits .payoffMost) (w .fits .gainMost) (w .fits .payoffs) (w .fits .gains) u j l)

@@ -9,12 +9,12 @@ use Rattle.setchain.specs.Rounding.{rounded}
 use Rattle.setchain.specs.Step.{capacity}
 use Rattle.order.specs.Order.{Permutation}
 use Rattle.setchain.specs.Sums.{at}
-use Rattle.step.specs.Figure.{LARGEST}
+use Rattle.step_spec.specs.StepAnswer.{MOST_PAYOFF}
 use Rattle.bounds.specs.Entries.{lowerEnds, capacities, sumOf, listedRow, SoundLists}
 
 -- No number of the first n is so large that a sum does not fit.
 abbrev pub Small : ℕ → List ℕ → Type 0
-Small n l = (j : ℕ) → j < n → at l j ≤ LARGEST
+Small n l = (j : ℕ) → j < n → at l j ≤ MOST_PAYOFF
 
 -- The slack that a row has left when the states at the first k places of the order are filled.
 unfoldable pub leftAt : IntervalRow → List ℕ → ℕ → ℕ → ℕ
@@ -38,7 +38,7 @@ pub record FillStatePre (entries : List ℕ) (first end payoff : ℕ) (left sums
   pub ordered : first ≤ end
   pub inside : end ≤ 1024
   pub small : (e : ℕ) → first ≤ e → e < end → at entries (lowerEnds + e) + at entries (capacities + e) ≤ ONE
-  pub fits : (i : ℕ) → i < length left → at sums i + taken entries first end left i * payoff ≤ LARGEST * ONE
+  pub fits : (i : ℕ) → i < length left → at sums i + taken entries first end left i * payoff ≤ MOST_PAYOFF * ONE
 
 -- What it leaves: each row's slack less what it took of it, and its sum with the parts that it took.
 pub record FillStatePost (entries : List ℕ) (first end payoff : ℕ) (left sums left′ sums′ : List ℕ) : Type 0 where
@@ -60,13 +60,13 @@ pub record FillStatesPre (entries payoff order left sums : List ℕ) : Type 0 wh
 pub record FillStatesPost (entries payoff order left sums : List ℕ) : Type 0 where
   pub size : length sums ≡ length payoff
   pub each : (i : ℕ) → i < length payoff → at sums i ≡ sumAt (listedRow entries i) (at payoff) order (at left i) (length payoff)
-  pub fits : (i : ℕ) → i < length payoff → at sums i ≤ LARGEST * ONE
+  pub fits : (i : ℕ) → i < length payoff → at sums i ≤ MOST_PAYOFF * ONE
 
 -- Sums and gains that make figures.
 pub record RoundSumsPre (gain sums : List ℕ) : Type 0 where
   pub size : length sums ≡ length gain
   pub gains : Small (length gain) gain
-  pub fits : (i : ℕ) → i < length gain → at sums i ≤ LARGEST * ONE
+  pub fits : (i : ℕ) → i < length gain → at sums i ≤ MOST_PAYOFF * ONE
 
 -- The figures that they make.
 pub record RoundSumsPost (gain : List ℕ) (high : Bool) (sums figures : List ℕ) : Type 0 where

@@ -11,7 +11,7 @@ use Rattle.setchain.specs.Step.{stepFigure}
 use Rattle.setchain.specs.Years.{yearsFigure}
 use Rattle.order.specs.Order.{Permutation}
 use Rattle.setchain.specs.Sums.{at}
-use Rattle.step.specs.Figure.{LARGEST}
+use Rattle.step_spec.specs.StepAnswer.{MOST_PAYOFF}
 use Rattle.bounds.specs.Entries.{chainListed, SoundLists}
 use Rattle.bounds.specs.Fill.{Small}
 
@@ -36,8 +36,8 @@ pub record FiguresFit (n : ℕ) (gain payoff : List ℕ) (t : ℕ) : Type 0 wher
   pub gainMost : ℕ
   pub payoffs : (j : ℕ) → j < n → at payoff j ≤ payoffMost
   pub gains : (j : ℕ) → j < n → at gain j ≤ gainMost
-  pub figures : payoffMost + t * gainMost ≤ LARGEST
-  pub small : gainMost ≤ LARGEST
+  pub figures : payoffMost + t * gainMost ≤ MOST_PAYOFF
+  pub small : gainMost ≤ MOST_PAYOFF
 
 -- What t years take: lists that hold sound rows, an order, figures that fit, a state of the chain, and places that are apart and can be counted.
 pub record YearsPre (entries slack gain order payoff : List ℕ) (t state stride : ℕ) : Type 0 where

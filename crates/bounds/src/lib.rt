@@ -9,6 +9,7 @@ ghost use Rattle.bounds_spec.specs.Causes.{tableSize};
 
 mod causes;
 mod entries;
+mod money;
 mod payoffs;
 mod series;
 mod sheet;
@@ -34,9 +35,10 @@ pub fn mean(scheme: Scheme, year: u64) -> Bounds
 {
     let cause = causes::money_cause(scheme, year);
     let premiums = scheme.premiums;
-    let payoff = payoffs::widened(premiums);
+    let payoff = money::in_tenths(premiums);
     let gain = [0u64; 32];
-    series::start_bounds(cause, scheme, gain, payoff, year)
+    let tenths = series::start_bounds(cause, scheme, gain, payoff, year);
+    money::in_cents(tenths)
 }
 
 // The total of as many premiums as there are years, in cents.
@@ -46,9 +48,10 @@ pub fn total(scheme: Scheme, year: u64) -> Bounds
 {
     let cause = causes::money_cause(scheme, year);
     let premiums = scheme.premiums;
-    let gain = payoffs::widened(premiums);
+    let gain = money::in_tenths(premiums);
     let payoff = [0u64; 32];
-    series::start_bounds(cause, scheme, gain, payoff, year)
+    let tenths = series::start_bounds(cause, scheme, gain, payoff, year);
+    money::in_cents(tenths)
 }
 
 // A year's share sheet: the low and the high share of each class, in parts. Returns the number of the cause, or 0.

@@ -31,19 +31,23 @@ use Rattle.bounds_spec.specs.Answers.{startOf, shareAnswer, meanAnswer, 
 use Rattle.bounds_spec.specs.Table.{tableEntry, figureTable, lowTable, highTable}
 use Rattle.bounds_spec.specs.Causes.{shareCause, moneyCause}
 
--- "Both classes 0→1, 1+→2; bands 333333333 and 666666667, each lower = upper; premiums 10, 11".
-abbrev pub schemeThirds : Scheme
-schemeThirds =
+-- "Both classes 0→1, 1+→2; bands …, each lower = upper; premiums 10, 11".
+abbrev pub fixedBands : (first second : ℕ) → Scheme
+fixedBands first second =
     record {
       classes = 2;
       columns = 2;
       start = 1;
       horizon = 1;
       rules = padded 246 (1 ∷ 2 ∷ 0 ∷ 0 ∷ 0 ∷ 0 ∷ 0 ∷ 0 ∷ 1 ∷ 2 ∷ []);
-      lowers = padded 6 (333333333 ∷ 666666667 ∷ []);
-      uppers = padded 6 (333333333 ∷ 666666667 ∷ []);
+      lowers = padded 6 (first ∷ second ∷ []);
+      uppers = padded 6 (first ∷ second ∷ []);
       premiums = padded 30 (10 ∷ 11 ∷ []);
     }
+
+-- "bands 333333333 and 666666667".
+abbrev schemeThirds : Scheme
+schemeThirds = fixedBands 333333333 666666667
 
 -- Whole units stay as they are.
 rounded-units : (high : Bool) (x : ℕ) → rounded high ONE (x * ONE) ≡ x
@@ -58,7 +62,7 @@ one-step high r sound f =
     ap (rounded high ONE) units ∙ rounded-units high (f 0)
 
 module _ (high : Bool) (c : SetChain) (sound : SoundChain c) (one : c .states ≡ 1) where
-  only-step : (f : ℕ → ℕ) → stepFigure high (c .states) (c .row 0) f ≡ f 0
+  pub only-step : (f : ℕ → ℕ) → stepFigure high (c .states) (c .row 0) f ≡ f 0
   only-step f =
       subst (λ n. SoundRow n (c .row 0) → stepFigure high n (c .row 0) f ≡ f 0) (sym one) (λ w. one-step high (c .row 0) w f) (sound 0 (omega arith))
 

@@ -10,9 +10,9 @@ use native.Mathlib.Omega.{arith}
 use native.Mathlib.Nat.{le-refl}
 use Rattle.setchain.specs.Sums.{at}
 use Rattle.setchain.specs.Step.{NotAfter}
-use Rattle.setchain.specs.Years.{yearsFigure, nothing, sharePayoff, shareFigure, meanFigure, totalFigure}
+use Rattle.setchain.specs.Years.{yearsFigure, nothing, sharePayoff, shareFigure, CENT, tenths, meanFigure, totalFigure}
 use Rattle.setchain.specs.Laws.NotAfter.{not-after-same}
-use Rattle.setchain.specs.Inward.{years-inward}
+use Rattle.setchain.specs.Inward.{rounded-inward, years-inward}
 use Rattle.scheme.specs.declared.Scheme.{Scheme}
 use Rattle.scheme.specs.Access.{premiumAt}
 use Rattle.scheme.specs.Accepted.{Accepted}
@@ -119,17 +119,19 @@ module _ {wide narrow : Scheme} (okWide : Accepted wide) (okNarrow : Accepted na
     same : (f : ℕ → ℕ) (i : ℕ) → i < wide .classes → NotAfter high (f i) (f i)
     same f i l = not-after-same high refl
 
-    premiums : (i : ℕ) → i < wide .classes → NotAfter high (premiumAt wide i) (premiumAt narrow i)
-    premiums i l = not-after-same high (trimmed .others .premiums i l)
+    premiums : (i : ℕ) → i < wide .classes → NotAfter high (tenths (premiumAt wide) i) (tenths (premiumAt narrow) i)
+    premiums i l = not-after-same high (ap (λ x. x * CENT) (trimmed .others .premiums i l))
 
     share-inward : (t j : ℕ) → NotAfter high (share wide t j) (share narrow t j)
     share-inward t j = figure-inward (sharePayoff j) (sharePayoff j) nothing nothing (same (sharePayoff j)) (same nothing) t
 
     mean-inward : (t : ℕ) → NotAfter high (mean wide t) (mean narrow t)
-    mean-inward t = figure-inward (premiumAt wide) (premiumAt narrow) nothing nothing premiums (same nothing) t
+    mean-inward t =
+        rounded-inward high CENT _ _ (figure-inward (tenths (premiumAt wide)) (tenths (premiumAt narrow)) nothing nothing premiums (same nothing) t)
 
     total-inward : (t : ℕ) → NotAfter high (total wide t) (total narrow t)
-    total-inward t = figure-inward nothing nothing (premiumAt wide) (premiumAt narrow) (same nothing) premiums t
+    total-inward t =
+        rounded-inward high CENT _ _ (figure-inward nothing nothing (tenths (premiumAt wide)) (tenths (premiumAt narrow)) (same nothing) premiums t)
 
     shares-inward : (year j : ℕ) → NotAfter high (at (figureShares high wide year) j) (at (figureShares high narrow year) j)
     unfolding figureShares

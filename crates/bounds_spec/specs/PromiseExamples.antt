@@ -3,17 +3,18 @@ use Prim.Native.Nat.{ℕ}
 use mathlib.Core.Path.{refl}
 use mathlib.Core.List.{[], _∷_}
 use native.Mathlib.Omega.{arith}
-use Rattle.setchain.specs.Fractions.{whole}
+use Rattle.setchain.specs.Fractions.{whole, _≼_, _≺_}
 use Rattle.setchain.specs.Rows.{ONE, SoundChain}
 use Rattle.setchain.specs.Theorems.{exact-proper}
-use Rattle.setchain.specs.Kept.{Pinned, pinned}
+use Rattle.setchain.specs.Promise.{centAndTenths}
+use Rattle.setchain.specs.Kept.{Pinned, pinned-no-further, pinned-nearer}
 use Rattle.scheme.specs.Access.{premiumAt}
 use Rattle.scheme.specs.Rows.{chainOf}
 use Rattle.scheme.specs.Examples.{schemeA, rows-a}
 use Rattle.scheme.specs.Laws.Judged.{accepted-cause}
 use Rattle.scheme.specs.Laws.Sound.{accepted-sound}
 use Rattle.bounds_spec.specs.declared.Bounds.the-variants.{Answered}
-use Rattle.bounds_spec.specs.Promises.{Kept, startShare, startMean, startTotal, SharePromise, MeanPromise, TotalPromise, SheetPromise, TableKept}
+use Rattle.bounds_spec.specs.Promises.{ShareKept, MoneyKept, startShare, startMean, startTotal, SharePromise, MeanPromise, TotalPromise, SheetPromise, TableKept}
 use Rattle.bounds_spec.specs.Table.{highTable}
 use Rattle.bounds_spec.specs.Examples.{document-examples}
 use Rattle.bounds_spec.specs.Laws.Kept.{share-kept, mean-kept, total-kept}
@@ -22,24 +23,24 @@ sound : SoundChain (chainOf schemeA)
 sound = accepted-sound schemeA (accepted-cause schemeA (rows-a .accepted))
 
 -- Example A's own figures keep their promises.
-share-a : Kept schemeA 2 (startShare schemeA 0) 920000000 990000000
+share-a : ShareKept schemeA 2 (startShare schemeA 0) 920000000 990000000
 share-a = rw (document-examples .year2Class1) at (share-kept schemeA 1 2) refl
 
-mean-a : Kept schemeA 2 (startMean schemeA) 10050 10400
+mean-a : MoneyKept schemeA 2 (startMean schemeA) 10050 10400
 mean-a = rw (document-examples .year2Mean) at (mean-kept schemeA 2) refl
 
-total-a : Kept schemeA 2 (startTotal schemeA) 25500 26000
+total-a : MoneyKept schemeA 2 (startTotal schemeA) 25500 26000
 total-a = rw (document-examples .total) at (total-kept schemeA 2) refl
 
--- So what else keeps them is no further than 2 from these.
-share-pinned : {low high : ℕ} → Kept schemeA 2 (startShare schemeA 0) low high → Pinned (whole 2) 920000000 990000000 low high
-share-pinned = pinned (λ ps picks. exact-proper (chainOf schemeA) sound (premiumAt schemeA) 0 2 ps picks 1 (omega arith) .0) share-a
+-- So what else keeps them is no further than 2 parts from these, and nearer than one cent plus 2 tenths.
+share-pinned : {low high : ℕ} → ShareKept schemeA 2 (startShare schemeA 0) low high → Pinned _≼_ (whole 2) 920000000 990000000 low high
+share-pinned = pinned-no-further (λ ps picks. exact-proper (chainOf schemeA) sound (premiumAt schemeA) 0 2 ps picks 1 (omega arith) .0) share-a
 
-mean-pinned : {low high : ℕ} → Kept schemeA 2 (startMean schemeA) low high → Pinned (whole 2) 10050 10400 low high
-mean-pinned = pinned (λ ps picks. exact-proper (chainOf schemeA) sound (premiumAt schemeA) 0 2 ps picks 1 (omega arith) .1) mean-a
+mean-pinned : {low high : ℕ} → MoneyKept schemeA 2 (startMean schemeA) low high → Pinned _≺_ (centAndTenths 2) 10050 10400 low high
+mean-pinned = pinned-nearer (λ ps picks. exact-proper (chainOf schemeA) sound (premiumAt schemeA) 0 2 ps picks 1 (omega arith) .1) mean-a
 
-total-pinned : {low high : ℕ} → Kept schemeA 2 (startTotal schemeA) low high → Pinned (whole 2) 25500 26000 low high
-total-pinned = pinned (λ ps picks. exact-proper (chainOf schemeA) sound (premiumAt schemeA) 0 2 ps picks 1 (omega arith) .2) total-a
+total-pinned : {low high : ℕ} → MoneyKept schemeA 2 (startTotal schemeA) low high → Pinned _≺_ (centAndTenths 2) 25500 26000 low high
+total-pinned = pinned-nearer (λ ps picks. exact-proper (chainOf schemeA) sound (premiumAt schemeA) 0 2 ps picks 1 (omega arith) .2) total-a
 
 -- The share of class 1 and of class 2 after 2 years, the mean and the total: what may not be answered.
 pub record Forbidden : Type 0 where
@@ -60,6 +61,11 @@ pub record Forbidden : Type 0 where
   pub meanHigh : MeanPromise schemeA 2 (Answered 10050 15000) → ⊥
   pub totalLow : TotalPromise schemeA 2 (Answered 20000 26000) → ⊥
   pub totalHigh : TotalPromise schemeA 2 (Answered 25500 30000) → ⊥
+  -- 2 cents too wide, and 2 cents too tight.
+  pub meanWide : (MeanPromise schemeA 2 (Answered 10048 10400) → ⊥) × (MeanPromise schemeA 2 (Answered 10050 10402) → ⊥)
+  pub meanTight : (MeanPromise schemeA 2 (Answered 10052 10400) → ⊥) × (MeanPromise schemeA 2 (Answered 10050 10398) → ⊥)
+  pub totalWide : (TotalPromise schemeA 2 (Answered 25498 26000) → ⊥) × (TotalPromise schemeA 2 (Answered 25500 26002) → ⊥)
+  pub totalTight : (TotalPromise schemeA 2 (Answered 25502 26000) → ⊥) × (TotalPromise schemeA 2 (Answered 25500 25998) → ⊥)
 
 pub forbidden : Forbidden
 forbidden =
@@ -76,13 +82,17 @@ forbidden =
       meanHigh = λ h. omega (arith, mean-pinned (h refl) .highAbove);
       totalLow = λ h. omega (arith, total-pinned (h refl) .lowBelow);
       totalHigh = λ h. omega (arith, total-pinned (h refl) .highAbove);
+      meanWide = (λ h. omega (arith, mean-pinned (h refl) .lowBelow), λ h. omega (arith, mean-pinned (h refl) .highAbove));
+      meanTight = (λ h. omega (arith, mean-pinned (h refl) .lowAbove), λ h. omega (arith, mean-pinned (h refl) .highBelow));
+      totalWide = (λ h. omega (arith, total-pinned (h refl) .lowBelow), λ h. omega (arith, total-pinned (h refl) .highAbove));
+      totalTight = (λ h. omega (arith, total-pinned (h refl) .lowAbove), λ h. omega (arith, total-pinned (h refl) .highBelow));
     }
 
--- Example A's table with one number of the low figures changed: a share of year 2, its mean, or the total.
+-- Example A's table with one number of the low figures changed: a share of year 2, its mean by 2 cents, or the total by 2.
 pub record ForbiddenTables : Type 0 where
   pub share : TableKept schemeA (0 ∷ 1000000000 ∷ 15000 ∷ 800000000 ∷ 100000000 ∷ 10500 ∷ 0 ∷ 10000000 ∷ 10050 ∷ 25500 ∷ []) (highTable schemeA) → ⊥
-  pub mean : TableKept schemeA (0 ∷ 1000000000 ∷ 15000 ∷ 800000000 ∷ 100000000 ∷ 10500 ∷ 920000000 ∷ 10000000 ∷ 10000 ∷ 25500 ∷ []) (highTable schemeA) → ⊥
-  pub total : TableKept schemeA (0 ∷ 1000000000 ∷ 15000 ∷ 800000000 ∷ 100000000 ∷ 10500 ∷ 920000000 ∷ 10000000 ∷ 10050 ∷ 20000 ∷ []) (highTable schemeA) → ⊥
+  pub mean : TableKept schemeA (0 ∷ 1000000000 ∷ 15000 ∷ 800000000 ∷ 100000000 ∷ 10500 ∷ 920000000 ∷ 10000000 ∷ 10048 ∷ 25500 ∷ []) (highTable schemeA) → ⊥
+  pub total : TableKept schemeA (0 ∷ 1000000000 ∷ 15000 ∷ 800000000 ∷ 100000000 ∷ 10500 ∷ 920000000 ∷ 10000000 ∷ 10050 ∷ 25498 ∷ []) (highTable schemeA) → ⊥
 
 pub forbidden-tables : ForbiddenTables
 forbidden-tables =

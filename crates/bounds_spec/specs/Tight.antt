@@ -1,15 +1,16 @@
 -- "All share and money bounds keep their figures" (document 02, item 2): those of an accepted scheme are the figures of its tight rows,
--- and what is promised over picks inside the interval rows is promised over picks inside the tight ones.
+-- and what is promised over picks inside the interval rows, of shares and of money, is promised over picks inside the tight ones.
 use Prim.Native.Nat.{ℕ, _-_}
-use mathlib.Core.Path.{_≡_, ap₂, sym}
+use mathlib.Core.Path.{_≡_, ap, ap₂, sym}
 use mathlib.Core.Bool.{Bool, true, false}
 use mathlib.Core.List.{List}
 use native.Mathlib.Omega.{arith}
-use Rattle.setchain.specs.Fractions.{Fraction, whole}
+use Rattle.setchain.specs.Fractions.{Fraction}
 use Rattle.setchain.specs.Rows.{SetChain}
-use Rattle.setchain.specs.Years.{yearsFigure, nothing, sharePayoff, shareFigure, meanFigure, totalFigure}
+use Rattle.setchain.specs.Rounding.{rounded}
+use Rattle.setchain.specs.Years.{yearsFigure, nothing, sharePayoff, shareFigure, CENT, tenths, meanFigure, totalFigure}
 use Rattle.setchain.specs.Picks.{Matrix}
-use Rattle.setchain.specs.Promise.{NoFurther, KeptBy}
+use Rattle.setchain.specs.Promise.{Nearness, KeptBy}
 use Rattle.setchain.specs.Tight.{tightChain}
 use Rattle.setchain.specs.Tightened.{chain-covers, covers-chain, years-tight, kept-same, kept-tight}
 use Rattle.scheme.specs.declared.Scheme.{Scheme}
@@ -21,7 +22,6 @@ use Rattle.scheme.specs.Laws.Sound.{accepted-sound}
 use Rattle.bounds_spec.specs.Causes.{shareCause, moneyCause, tableSize}
 use Rattle.bounds_spec.specs.Answers.{answerBy, startOf, shareAnswer, meanAnswer, totalAnswer, figureShares}
 use Rattle.bounds_spec.specs.Table.{tableEntry, figureTable}
-use Rattle.bounds_spec.specs.Promises.{Kept}
 
 -- The chain of a scheme with its rows made tight.
 abbrev pub tightChainOf : Scheme → SetChain
@@ -37,15 +37,15 @@ tightMean high s t = meanFigure high (tightChainOf s) (premiumAt s) t (startOf s
 abbrev pub tightTotal : (high : Bool) → Scheme → (t : ℕ) → ℕ
 tightTotal high s t = totalFigure high (tightChainOf s) (premiumAt s) t (startOf s)
 
--- Every answer for bounds, and the numbers of share sheets and tables, are those of the tight rows; so is demand 3, both ways.
-pub record TightBounds (s : Scheme) : Type 0 where
+-- Every answer for bounds, and the numbers of share sheets and tables, are those of the tight rows; so is demand 3, both ways, however near it asks for.
+pub record TightBounds (s : Scheme) : Type 1 where
   pub share : (class year : ℕ) → shareAnswer s class year ≡ answerBy (shareCause s class year) (tightShare false s year (class - 1)) (tightShare true s year (class - 1))
   pub mean : (year : ℕ) → meanAnswer s year ≡ answerBy (moneyCause s year) (tightMean false s year) (tightMean true s year)
   pub total : (year : ℕ) → totalAnswer s year ≡ answerBy (moneyCause s year) (tightTotal false s year) (tightTotal true s year)
   pub shares : (high : Bool) (year : ℕ) → figureShares high s year ≡ tab (s .classes) (tightShare high s year)
   pub table : (high : Bool) → figureTable high s ≡ tab (tableSize s) (tableEntry s (tightShare high s) (tightMean high s) (tightTotal high s (s .horizon)))
-  pub kept : (t low high : ℕ) (exact : List Matrix → Fraction) → Kept s t exact low high → KeptBy (tightChainOf s) t (NoFurther (whole t)) exact low high
-  pub keptBack : (t low high : ℕ) (exact : List Matrix → Fraction) → KeptBy (tightChainOf s) t (NoFurther (whole t)) exact low high → Kept s t exact low high
+  pub kept : (near : Nearness) (t low high : ℕ) (exact : List Matrix → Fraction) → KeptBy (chainOf s) t near exact low high → KeptBy (tightChainOf s) t near exact low high
+  pub keptBack : (near : Nearness) (t low high : ℕ) (exact : List Matrix → Fraction) → KeptBy (tightChainOf s) t near exact low high → KeptBy (chainOf s) t near exact low high
 
 module _ (s : Scheme) (ok : Accepted s) where
   -- Any payoff and gain.
@@ -56,10 +56,10 @@ module _ (s : Scheme) (ok : Accepted s) where
   share-tight high t j = figure-tight high (sharePayoff j) nothing t
 
   mean-tight : (high : Bool) (t : ℕ) → meanFigure high (chainOf s) (premiumAt s) t (startOf s) ≡ tightMean high s t
-  mean-tight high t = figure-tight high (premiumAt s) nothing t
+  mean-tight high t = ap (rounded high CENT) (figure-tight high (tenths (premiumAt s)) nothing t)
 
   total-tight : (high : Bool) (t : ℕ) → totalFigure high (chainOf s) (premiumAt s) t (startOf s) ≡ tightTotal high s t
-  total-tight high t = figure-tight high nothing (premiumAt s) t
+  total-tight high t = ap (rounded high CENT) (figure-tight high nothing (tenths (premiumAt s)) t)
 
   pub tight-bounds : TightBounds s
   unfolding shareAnswer meanAnswer totalAnswer figureShares figureTable
@@ -70,6 +70,6 @@ module _ (s : Scheme) (ok : Accepted s) where
         total = λ year. ap₂ (answerBy (moneyCause s year)) (total-tight false year) (total-tight true year);
         shares = λ high year k. tab (s .classes) (λ j. share-tight high year j k);
         table = λ high k. tab (tableSize s) (tableEntry s (λ t j. share-tight high t j k) (λ t. mean-tight high t k) (total-tight high (s .horizon) k));
-        kept = λ t low high exact. kept-tight (accepted-sound s ok);
-        keptBack = λ t low high exact. kept-same (chain-covers (accepted-sound s ok)) (covers-chain (accepted-sound s ok));
+        kept = λ near t low high exact. kept-tight (accepted-sound s ok);
+        keptBack = λ near t low high exact. kept-same (chain-covers (accepted-sound s ok)) (covers-chain (accepted-sound s ok));
       }

@@ -173,18 +173,18 @@ fn row(scheme: Scheme, class: u64) {
 // The payoff of a class, by the kinds of the format.
 fn value(kind: u8, class: u8, classes: u8, number: u64, premium: u32) -> u64 {
     if classes < class {
-        return 4_000_000_000;
+        return 40_000_000_000;
     }
-    let mixed = (618_033_989 * (class as u64) + 271_828_183 * (number % 1_000_000_001))
-        % 1_000_000_001;
+    let mixed = (6_180_339_887 * (class as u64) + 2_718_281_828 * (number % 1_000_000_000))
+        % 10_000_000_001;
     if kind == 0 {
-        return 100 * (premium as u64);
+        return 1000 * (premium as u64);
     }
     if kind == 1 {
         return mixed % 3;
     }
     if kind == 2 && class == classes {
-        return 1_000_000_001;
+        return 10_000_000_001;
     }
     mixed
 }

@@ -31,7 +31,7 @@ use Rattle.mixing_spec.specs.MixingAnswer.{mixesScheme, firstCount}
 use Rattle.bounds_spec.specs.declared.Bounds.{Bounds}
 use Rattle.bounds_spec.specs.declared.Bounds.the-variants.{Answered}
 use Rattle.bounds_spec.specs.Answers.{sheetCause, lowShares, highShares, shareAnswer, meanAnswer, totalAnswer}
-use Rattle.bounds_spec.specs.Promises.{Kept, startShare, startMean, startTotal, SheetPromise}
+use Rattle.bounds_spec.specs.Promises.{ShareKept, MoneyKept, startShare, startMean, startTotal, SheetPromise}
 use Rattle.bounds_spec.specs.Examples.{document-examples, sheets-a}
 use Rattle.bounds_spec.specs.PromiseExamples.{forbidden}
 use Rattle.bounds_spec.specs.Laws.Kept.{sheet-kept}
@@ -170,24 +170,24 @@ pub share-calls :
 unfolding layoutIn frameCause
 share-calls = (
   share-call exampleA 2 two 1 (put-a (λ s. shareAnswer s 1 2) (ap (λ s. shareAnswer s 1 2) scheme-a ∙ document-examples .year2Class1)),
-  λ w. forbidden .lowWide (λ z. subst (λ s. Kept s 2 (startShare s 0) 919999997 990000000) scheme-a (w .promise refl)),
+  λ w. forbidden .lowWide (λ z. subst (λ s. ShareKept s 2 (startShare s 0) 919999997 990000000) scheme-a (w .promise refl)),
   record { answer = refl; figures = refl; promise = λ z. absurd (omega arith) },
   λ w. let e : _≡_ {A = ℕ} 920000000 7 = ap (λ l. getD l 0 0) (w .figures) in omega arith,
   λ w. omega (arith, w .answer),
 )
 
--- The mean premium of year 2, and not the lowest premium for its low.
-pub mean-calls : MeanCall exampleA 2 two 0 (10050 ∷ 10400 ∷ []) × ¬ MeanCall exampleA 2 two 0 (10000 ∷ 10400 ∷ [])
+-- The mean premium of year 2, and not 2 cents less for its low.
+pub mean-calls : MeanCall exampleA 2 two 0 (10050 ∷ 10400 ∷ []) × ¬ MeanCall exampleA 2 two 0 (10048 ∷ 10400 ∷ [])
 mean-calls = (
   mean-call exampleA 2 two (put-a (λ s. meanAnswer s 2) (ap (λ s. meanAnswer s 2) scheme-a ∙ document-examples .year2Mean)),
-  λ w. forbidden .meanLow (λ z. subst (λ s. Kept s 2 (startMean s) 10000 10400) scheme-a (w .promise refl)),
+  λ w. forbidden .meanWide .0 (λ z. subst (λ s. MoneyKept s 2 (startMean s) 10048 10400) scheme-a (w .promise refl)),
 )
 
--- The total of two premiums, and not twice the lowest premium for its low.
-pub total-calls : TotalCall exampleA 2 two 0 (25500 ∷ 26000 ∷ []) × ¬ TotalCall exampleA 2 two 0 (20000 ∷ 26000 ∷ [])
+-- The total of two premiums, and not 2 cents less for its low.
+pub total-calls : TotalCall exampleA 2 two 0 (25500 ∷ 26000 ∷ []) × ¬ TotalCall exampleA 2 two 0 (25498 ∷ 26000 ∷ [])
 total-calls = (
   total-call exampleA 2 two (put-a (λ s. totalAnswer s 2) (ap (λ s. totalAnswer s 2) scheme-a ∙ document-examples .total)),
-  λ w. forbidden .totalLow (λ z. subst (λ s. Kept s 2 (startTotal s) 20000 26000) scheme-a (w .promise refl)),
+  λ w. forbidden .totalWide .0 (λ z. subst (λ s. MoneyKept s 2 (startTotal s) 25498 26000) scheme-a (w .promise refl)),
 )
 
 -- The shares of both classes in year 1, each low and each high in its own buffer; in year 2 not the figures of class 2 at class 1.

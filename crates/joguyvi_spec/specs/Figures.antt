@@ -3,15 +3,13 @@ use Prim.Native.Nat.{ℕ, _-_}
 use mathlib.Core.Path.{_≡_}
 use mathlib.Core.List.{List, [], _∷_}
 use lib.ListN.{getD}
-use Rattle.setchain.specs.Fractions.{Fraction}
-use Rattle.setchain.specs.Picks.{Matrix}
 use Rattle.scheme.specs.FirstCause.{firstOf}
 use Rattle.scheme.specs.declared.Scheme.{Scheme}
 use Rattle.record_spec.specs.Layout.{schemeIn}
 use Rattle.record_spec.specs.Read.{readCause}
 use Rattle.bounds_spec.specs.declared.Bounds.{Bounds}
 use Rattle.bounds_spec.specs.Answers.{numberOf, lowOf, highOf, shareAnswer, meanAnswer, totalAnswer}
-use Rattle.bounds_spec.specs.Promises.{Kept, startShare, startMean, startTotal}
+use Rattle.bounds_spec.specs.Promises.{ShareKept, MoneyKept, startShare, startMean, startTotal}
 use Rattle.joguyvi_spec.specs.Buffers.{bufferCause, filledWhere, BufferPost}
 
 -- Low and high into a buffer: their cause, then 13 where the buffer is not of 2 numbers.
@@ -30,22 +28,22 @@ BoundsPost b out = BufferPost (putNumber b out) (lowAndHigh b) out
 abbrev pub boundsNumber : List ℕ → Bounds → List ℕ → ℕ
 boundsNumber bytes b out = firstOf (readCause bytes ∷ putNumber b out ∷ [])
 
--- What a call for low and high answers and leaves, where `query` answers for a scheme and `exact` is the figure between low and high.
-pub record BoundsCall (query : Scheme → Bounds) (exact : Scheme → List Matrix → Fraction) (bytes : List ℕ) (year : ℕ) (out : List ℕ) (number : ℕ) (out′ : List ℕ) : Type 0 where
+-- What a call for low and high answers and leaves, where `query` answers for a scheme and `kept` is what low and high promise.
+pub record BoundsCall (query : Scheme → Bounds) (kept : Scheme → (low high : ℕ) → Type 0) (bytes out : List ℕ) (number : ℕ) (out′ : List ℕ) : Type 0 where
   -- The cause of reading, then that of the answer, then 13.
   pub answer : number ≡ boundsNumber bytes (query (schemeIn bytes)) out
   pub figures : out′ ≡ filledWhere number (lowAndHigh (query (schemeIn bytes))) out
   -- The buffer's two numbers keep what is promised (crate bounds_spec, `Promises`).
-  pub promise : number ≡ 0 → Kept (schemeIn bytes) year (exact (schemeIn bytes)) (getD out′ 0 0) (getD out′ 1 0)
+  pub promise : number ≡ 0 → kept (schemeIn bytes) (getD out′ 0 0) (getD out′ 1 0)
 
 -- joguyvi_share: the share of a class after a number of years.
 abbrev pub ShareCall : (bytes : List ℕ) (class year : ℕ) (out : List ℕ) (number : ℕ) (out′ : List ℕ) → Type 0
-ShareCall bytes class year = BoundsCall (λ s. shareAnswer s class year) (λ s. startShare s (class - 1)) bytes year
+ShareCall bytes class year = BoundsCall (λ s. shareAnswer s class year) (λ s. ShareKept s year (startShare s (class - 1))) bytes
 
 -- joguyvi_mean: the mean premium of a year.
 abbrev pub MeanCall : (bytes : List ℕ) (year : ℕ) (out : List ℕ) (number : ℕ) (out′ : List ℕ) → Type 0
-MeanCall bytes year = BoundsCall (λ s. meanAnswer s year) startMean bytes year
+MeanCall bytes year = BoundsCall (λ s. meanAnswer s year) (λ s. MoneyKept s year (startMean s)) bytes
 
 -- joguyvi_total: the total of as many premiums as there are years.
 abbrev pub TotalCall : (bytes : List ℕ) (year : ℕ) (out : List ℕ) (number : ℕ) (out′ : List ℕ) → Type 0
-TotalCall bytes year = BoundsCall (λ s. totalAnswer s year) startTotal bytes year
+TotalCall bytes year = BoundsCall (λ s. totalAnswer s year) (λ s. MoneyKept s year (startTotal s)) bytes

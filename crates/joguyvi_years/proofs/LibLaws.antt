@@ -6,8 +6,6 @@ use mathlib.Core.Bool.{Bool, true, false, cond}
 use mathlib.Core.List.{List, _++_}
 use lib.Dec.{ltb}
 use lib.ListN.{length, drop}
-use Rattle.setchain.specs.Fractions.{Fraction}
-use Rattle.setchain.specs.Picks.{Matrix}
 use Rattle.scheme.specs.declared.Scheme.{Scheme}
 use Rattle.record_spec.specs.declared.ReadAnswer.{ReadAnswer}
 use Rattle.record_spec.specs.declared.WriteAnswer.the-variants.{Written, Declined}
@@ -29,17 +27,17 @@ use Rattle.joguyvi_spec.specs.Laws.Figures.{BoundsPromise, bounds-call}
 use Rattle.joguyvi_spec.specs.Laws.Texts.{TextPost}
 
 -- Low and high of a record, as a query answers them for its scheme, with what is promised of them.
-module _ {query : Scheme → Bounds} {exact : Scheme → List Matrix → Fraction} (bytes : List ℕ) {year : ℕ} (out : List ℕ) {a : ReadAnswer} (is : a ≡ readAnswer bytes) where
-  pub bounds-stopped : (a .number ≡ 0 → ⊥) → BoundsCall query exact bytes year out (a .number) out
+module _ {query : Scheme → Bounds} {kept : Scheme → (low high : ℕ) → Type 0} (bytes out : List ℕ) {a : ReadAnswer} (is : a ≡ readAnswer bytes) where
+  pub bounds-stopped : (a .number ≡ 0 → ⊥) → BoundsCall query kept bytes out (a .number) out
   bounds-stopped some = record { answer = stopped-number bytes is _ some; figures = unfilled _ out some; promise = λ z. absurd (some z) }
 
-  pub bounds-passed : {b : Bounds} {n : ℕ} {out′ : List ℕ} → a .number ≡ 0 → (b ≡ query (a .scheme)) × BoundsPromise exact year (a .scheme) b → BoundsPost b out n out′
-      → BoundsCall query exact bytes year out n out′
+  pub bounds-passed : {b : Bounds} {n : ℕ} {out′ : List ℕ} → a .number ≡ 0 → (b ≡ query (a .scheme)) × BoundsPromise (kept (a .scheme)) b → BoundsPost b out n out′
+      → BoundsCall query kept bytes out n out′
   bounds-passed {b} {n} {out′} none answered put =
       let s = schemeIn bytes in
       let same : b ≡ query s = answered .0 ∙ ap query (read-in bytes is none) in
       let found : BoundsPost (query s) out n out′ = subst (λ x. BoundsPost x out n out′) same put in
-      bounds-call bytes out (subst₂ (λ x y. BoundsPromise exact year x y) (read-in bytes is none) same (answered .1))
+      bounds-call bytes out (subst₂ (λ x y. BoundsPromise (kept x) y) (read-in bytes is none) same (answered .1))
       (record { answer = passed-number bytes is none (found .answer); filled = found .filled })
 
 -- A share sheet of a scheme: what is answered, what is left, and what is promised.

@@ -12,7 +12,7 @@ use Rattle.setchain.specs.Rows.{ONE, IntervalRow, SetChain, listsRow}
 use Rattle.setchain.specs.Cells.{Cells, rowOf}
 use Rattle.setchain.specs.Rounding.{rounded}
 use Rattle.setchain.specs.Step.{capacityBefore, fillRow, stepFigure, lowStep, highStep}
-use Rattle.setchain.specs.Years.{yearsFigure, lowShare, highShare, lowMean, highMean, lowTotal, highTotal}
+use Rattle.setchain.specs.Years.{yearsFigure, nothing, lowShare, highShare, meanTenths, lowMean, highMean, totalTenths, lowTotal, highTotal}
 use Rattle.setchain.specs.Tight.{tightRow, tightChain}
 use Rattle.setchain.specs.Mixing.{edgesOf, path, mixes}
 use Rattle.setchain.specs.Picks.{Matrix, product, exactMean, exactTotal}
@@ -119,6 +119,37 @@ pub record FiguresA : Type 0 where
 pub figures-a : FiguresA
 unfolding yearsFigure stepFigure fillRow capacityBefore sumTo onlyIf
 figures-a = record { share1 = (refl, refl); share2 = (refl, refl); mean = (refl, refl); total = (refl, refl) }
+
+-- A tenth of state 0 leaves for state 1 each year, and state 1 is never left: both rows are fixed, their lower entries being their upper ones.
+abbrev pub leavingChain : SetChain
+leavingChain =
+    record {
+      states = 2;
+      row = λ i.
+          elim i [
+            | zero ↦ listsRow (900000000 ∷ 100000000 ∷ []) (900000000 ∷ 100000000 ∷ [])
+            | suc k ↦ listsRow (0 ∷ 1000000000 ∷ []) (0 ∷ 1000000000 ∷ [])
+          ];
+    }
+
+-- Premiums of 10 and 20 cents.
+abbrev pub tenTwenty : ℕ → ℕ
+tenTwenty = at (10 ∷ 20 ∷ [])
+
+-- Money in tenths, and in cents (document 02, item 6): from state 0 the exact mean of year 3 is 12.71, and the exact total of 4 premiums 45.61.
+-- Carried in cents, the low mean would be 11, as in every year from 1 on (`cents-stay` of PromiseExamples), and the low total 44.
+pub record MoneyExamples : Type 0 where
+  pub meanInTenths : (meanTenths false leavingChain tenTwenty 3 0 ≡ 127) × (meanTenths true leavingChain tenTwenty 3 0 ≡ 128)
+  pub mean : (lowMean leavingChain tenTwenty 3 0 ≡ 12) × (highMean leavingChain tenTwenty 3 0 ≡ 13)
+  pub meanByCents : yearsFigure false leavingChain tenTwenty nothing 3 0 ≡ 11
+  pub totalInTenths : (totalTenths false leavingChain tenTwenty 4 0 ≡ 456) × (totalTenths true leavingChain tenTwenty 4 0 ≡ 457)
+  pub total : (lowTotal leavingChain tenTwenty 4 0 ≡ 45) × (highTotal leavingChain tenTwenty 4 0 ≡ 46)
+  pub totalByCents : yearsFigure false leavingChain nothing tenTwenty 4 0 ≡ 44
+
+pub money-examples : MoneyExamples
+unfolding yearsFigure stepFigure fillRow capacityBefore sumTo onlyIf
+money-examples =
+    record { meanInTenths = (refl, refl); mean = (refl, refl); meanByCents = refl; totalInTenths = (refl, refl); total = (refl, refl); totalByCents = refl }
 
 -- A row over two states with these ends.
 abbrev pub rowOfTwo : (lower lower′ upper upper′ : ℕ) → IntervalRow

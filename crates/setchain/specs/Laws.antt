@@ -13,5 +13,6 @@ pub mod Cells
 pub mod Mean
 pub mod Obeys
 pub mod Follows
+pub mod Wholes
 pub mod Tight
 pub mod Mixing

@@ -25,6 +25,7 @@ pub mod Mixed
 pub mod Limit
 pub mod Examples
 pub mod Cycle
+pub mod DistanceExamples
 pub mod PromiseExamples
 pub mod TurnExamples
 pub mod InwardExamples

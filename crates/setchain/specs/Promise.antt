@@ -1,8 +1,9 @@
--- What demand 3 asks of a low and a high figure (document 01, "Years").
-use Prim.Native.Nat.{ℕ, _+_, _*_, _<_}
+-- What demand 3 asks of a low and a high figure (document 01, "Years"; of money, document 02, item 6).
+use Prim.Native.Nat.{ℕ, _*_, _<_}
 use mathlib.Core.List.{List}
 use Rattle.setchain.specs.Fractions.{Fraction, whole, _⊕_, _⊗_, _≼_, _≺_}
 use Rattle.setchain.specs.Rows.{ONE, SetChain}
+use Rattle.setchain.specs.Years.{CENT}
 use Rattle.setchain.specs.Picks.{Matrix, PicksFor, exactShare}
 
 -- The exact share times ONE: a share in parts, the unit of its bounds.
@@ -24,9 +25,13 @@ pub record Nearer (d : Fraction) (bound : ℕ) (exact : Fraction) : Type 0 where
   pub under : exact ≺ whole bound ⊕ d
   pub over : whole bound ≺ exact ⊕ d
 
--- (m + d) / m, which is 1 and d / m: how far off a figure may be that was kept to d in a unit m and then rounded to wholes.
+-- 1 and d / m: how far off a figure may be that was kept to d in a unit m and then rounded to wholes.
 abbrev pub withRounding : ℕ → Fraction → Fraction
-withRounding m d = record { num = m * d .den + d .num; den = m * d .den }
+withRounding m d = whole 1 ⊕ record { num = d .num; den = d .den * m }
+
+-- "one cent plus t tenths", in cents.
+abbrev pub centAndTenths : ℕ → Fraction
+centAndTenths t = whole 1 ⊕ record { num = t; den = CENT }
 
 -- How near an exact figure has to come to a bound: `NoFurther d` or `Nearer d`.
 abbrev pub Nearness : Type 1
@@ -44,7 +49,8 @@ pub record Closeness (c : SetChain) (t : ℕ) (near : Nearness) (bound : ℕ →
   pub close : (i : ℕ) → i < c .states → near (bound i) (exact picks i)
 
 -- Demand 3 for one figure from every state: "For all picks for t years, low ≤ exact … ≤ high", and
--- "For each such low, and for each such high, some picks for t years bring the exact figure, in the same unit, no further than t from it".
+-- "For each such low, and for each such high, some picks for t years bring the exact figure, in the same unit, no further than t from it";
+-- "For money the closeness wanted of t years is now less than one cent plus t tenths".
 pub record Promise (c : SetChain) (t : ℕ) (near : Nearness) (low high : ℕ → ℕ) (exact : List Matrix → ℕ → Fraction) : Type 0 where
   pub contains : Containment c t low high exact
   pub lowClose : Closeness c t near low exact

@@ -1,89 +1,24 @@
 -- What the promises and the step's words allow and what they forbid, on small numbers and on Example A's interval rows (document 01, "One year" and "Years").
 use Prim.Native.Nat.{ℕ, zero, suc, _+_, _*_, _≤_, _<_}
-use mathlib.Core.Path.{_≡_, refl}
+use mathlib.Core.Path.{_≡_, refl, _∙_}
 use mathlib.Core.Bool.{Bool, true, false}
 use mathlib.Core.List.{List, [], _∷_}
 use native.Mathlib.Omega.{arith}
+use native.Mathlib.Nat.{zero-add}
 use Rattle.setchain.specs.Sums.{at, sumTo, onlyIf}
 use Rattle.setchain.specs.Fractions.{Fraction, whole, sumFractions}
 use Rattle.setchain.specs.Rows.{ONE, IntervalRow, Row, Inside, SoundRow, SoundChain}
 use Rattle.setchain.specs.Picks.{Matrix, InsideEach, none, also, PicksFor, product, exactShare, exactMean, exactTotal}
-use Rattle.setchain.specs.Promise.{shareInParts, Between, NoFurther, Nearer, withRounding, KeptBy}
-use Rattle.setchain.specs.Rounding.{rounded}
+use Rattle.setchain.specs.Promise.{shareInParts, NoFurther, Nearer, centAndTenths}
 use Rattle.setchain.specs.Step.{capacityBefore, fillRow, stepFigure, Parts, Reaches}
 use Rattle.setchain.specs.Years.{yearsFigure, nothing, lowShare, highShare, lowMean, highMean}
 use Rattle.setchain.specs.Laws.Sums.{below-two}
+use Rattle.setchain.specs.Laws.Agreeing.{agree-refl, step-agrees}
 use Rattle.setchain.specs.Laws.Obeys.{years-obey}
-use Rattle.setchain.specs.Laws.Follows.{unit-plain, means-follow}
-use Rattle.setchain.specs.Theorems.{promised, share-promise, mean-promise, exact-proper}
-use Rattle.setchain.specs.Kept.{at-state, rounded-kept, low-to-bound, bound-to-high}
-use Rattle.setchain.specs.Examples.{chainA, premiumA}
-
--- A numerator over a denominator.
-abbrev pub fraction : ℕ → ℕ → Fraction
-fraction a b = record { num = a; den = b }
-
--- "no further than t from it": 12 and 8 are near 10 for t = 2, and 13, 7 and what lies just past 12 and 8 are not.
-pub record NearExamples : Type 0 where
-  pub above : NoFurther (whole 2) 10 (whole 12)
-  pub below : NoFurther (whole 2) 10 (whole 8)
-  pub tooHigh : NoFurther (whole 2) 10 (whole 13) → ⊥
-  pub tooLow : NoFurther (whole 2) 10 (whole 7) → ⊥
-  pub justTooHigh : NoFurther (whole 2) 10 (fraction 1201 100) → ⊥
-  pub justTooLow : NoFurther (whole 2) 10 (fraction 799 100) → ⊥
-
-pub near-examples : NearExamples
-near-examples =
-    record {
-      above = record { under = omega arith; over = omega arith };
-      below = record { under = omega arith; over = omega arith };
-      tooHigh = λ h. omega (arith, h .under);
-      tooLow = λ h. omega (arith, h .over);
-      justTooHigh = λ h. omega (arith, h .under);
-      justTooLow = λ h. omega (arith, h .over);
-    }
-
--- A distance of 12 tenths, which is what rounding leaves of 2 tenths: 11 1/5 and 8 4/5 are no further from 10, and are not nearer; what lies just inside is.
-pub record TenthsExamples : Type 0 where
-  pub distance : withRounding 10 (whole 2) ≡ fraction 12 10
-  pub above : NoFurther (fraction 12 10) 10 (fraction 56 5)
-  pub below : NoFurther (fraction 12 10) 10 (fraction 44 5)
-  pub tooHigh : NoFurther (fraction 12 10) 10 (fraction 1121 100) → ⊥
-  pub tooLow : NoFurther (fraction 12 10) 10 (fraction 879 100) → ⊥
-  pub nearerAbove : Nearer (fraction 12 10) 10 (fraction 1119 100)
-  pub nearerBelow : Nearer (fraction 12 10) 10 (fraction 881 100)
-  pub edgeAbove : Nearer (fraction 12 10) 10 (fraction 56 5) → ⊥
-  pub edgeBelow : Nearer (fraction 12 10) 10 (fraction 44 5) → ⊥
-
-pub tenths-examples : TenthsExamples
-tenths-examples =
-    record {
-      distance = refl;
-      above = record { under = omega arith; over = omega arith };
-      below = record { under = omega arith; over = omega arith };
-      tooHigh = λ h. omega (arith, h .under);
-      tooLow = λ h. omega (arith, h .over);
-      nearerAbove = record { under = omega arith; over = omega arith };
-      nearerBelow = record { under = omega arith; over = omega arith };
-      edgeAbove = λ h. omega (arith, h .under);
-      edgeBelow = λ h. omega (arith, h .over);
-    }
-
--- "low ≤ exact … ≤ high": both ends count as between, and nothing outside does.
-pub record BetweenExamples : Type 0 where
-  pub low : Between 8 12 (whole 8)
-  pub high : Between 8 12 (fraction 24 2)
-  pub tooLow : Between 8 12 (fraction 799 100) → ⊥
-  pub tooHigh : Between 8 12 (fraction 1201 100) → ⊥
-
-pub between-examples : BetweenExamples
-between-examples =
-    record {
-      low = record { least = omega arith; most = omega arith };
-      high = record { least = omega arith; most = omega arith };
-      tooLow = λ h. omega (arith, h .least);
-      tooHigh = λ h. omega (arith, h .most);
-    }
+use Rattle.setchain.specs.Theorems.{share-promise, mean-promise, exact-proper}
+use Rattle.setchain.specs.Kept.{interval-no-further, interval-nearer}
+use Rattle.setchain.specs.Examples.{chainA, premiumA, leavingChain, tenTwenty}
+use Rattle.setchain.specs.DistanceExamples.{fraction}
 
 -- Two whole numbers over M.
 abbrev pair : ℕ → ℕ → ℕ → Row
@@ -234,6 +169,48 @@ exact-a =
       total = record { proper = omega arith; same = refl };
     }
 
+-- A year in which a tenth of state 0 leaves, and state 1 is not left.
+abbrev leavingYear : Matrix
+leavingYear i = elim i [ zero ↦ pair 10 9 1 | suc k ↦ pair 1 0 1 ]
+
+abbrev threeYears : List Matrix
+threeYears = leavingYear ∷ leavingYear ∷ leavingYear ∷ []
+
+-- The exact mean of year 3, and the exact total of 4 premiums of 10 and 20 cents: near what is answered, and too far from figures carried in cents.
+pub record ExactMoney : Type 0 where
+  pub mean : HasValue (exactMean 2 tenTwenty threeYears 0) 1271 100
+  pub meanNear : Nearer (centAndTenths 3) 12 (fraction 1271 100)
+  pub meanByCents : Nearer (centAndTenths 3) 11 (fraction 1271 100) → ⊥
+  pub total : HasValue (exactTotal 2 tenTwenty (leavingYear ∷ threeYears) 0) 4561 100
+  pub totalNear : Nearer (centAndTenths 4) 45 (fraction 4561 100)
+  pub totalByCents : Nearer (centAndTenths 4) 44 (fraction 4561 100) → ⊥
+
+pub exact-money : ExactMoney
+unfolding exactTotal exactMean product sumFractions onlyIf
+exact-money =
+    record {
+      mean = record { proper = omega arith; same = refl };
+      meanNear = record { under = omega arith; over = omega arith };
+      meanByCents = λ h. omega (arith, h .under);
+      total = record { proper = omega arith; same = refl };
+      totalNear = record { under = omega arith; over = omega arith };
+      totalByCents = λ h. omega (arith, h .under);
+    }
+
+-- Carried in cents, the low mean would be 11 in every year from 1 on.
+cents-step : (i : ℕ) → i < 2
+    → (yearsFigure false leavingChain tenTwenty nothing 1 i ≡ at (11 ∷ 20 ∷ []) i) × (stepFigure false 2 (leavingChain .row i) (at (11 ∷ 20 ∷ [])) ≡ at (11 ∷ 20 ∷ []) i)
+unfolding yearsFigure stepFigure fillRow capacityBefore sumTo onlyIf
+cents-step = below-two _ (refl, refl) (refl, refl)
+
+pub cents-stay : (t i : ℕ) → i < 2 → yearsFigure false leavingChain tenTwenty nothing (suc t) i ≡ at (11 ∷ 20 ∷ []) i
+cents-stay zero i l = cents-step i l .0
+cents-stay (suc t) i l =
+    years-obey false leavingChain tenTwenty nothing .more (suc t) i l
+    ∙ zero-add (stepFigure false 2 (leavingChain .row i) (yearsFigure false leavingChain tenTwenty nothing (suc t)))
+    ∙ step-agrees (agree-refl 2 (leavingChain .row i)) (cents-stay t) false
+    ∙ cents-step i l .1
+
 sound-a : SoundChain chainA
 unfolding sumTo
 sound-a = below-two (λ i. SoundRow 2 (chainA .row i)) first second
@@ -262,12 +239,12 @@ unfolding yearsFigure stepFigure fillRow capacityBefore sumTo onlyIf
 year-one = (refl, refl, refl, refl)
 
 -- "always 0 and ONE for a share" is shut out by closeness: no picks for a year bring the share of class 1 within 1 of 0, or of ONE;
--- and none bring the mean within 1 cent of the lowest premium, or of the highest.
+-- and none bring the mean nearer than a cent and a tenth to the lowest premium, or to the highest.
 pub record WorthlessA (ps : List Matrix) : Type 0 where
   pub zero : NoFurther (whole 1) 0 (shareInParts 2 0 ps 1) → ⊥
   pub one : NoFurther (whole 1) ONE (shareInParts 2 0 ps 1) → ⊥
-  pub lowest : NoFurther (whole 1) 10000 (exactMean 2 premiumA ps 1) → ⊥
-  pub highest : NoFurther (whole 1) 15000 (exactMean 2 premiumA ps 1) → ⊥
+  pub lowest : Nearer (centAndTenths 1) 10000 (exactMean 2 premiumA ps 1) → ⊥
+  pub highest : Nearer (centAndTenths 1) 15000 (exactMean 2 premiumA ps 1) → ⊥
 
 pub worthless-a : (ps : List Matrix) → PicksFor chainA 1 ps → WorthlessA ps
 worthless-a ps picks =
@@ -275,21 +252,8 @@ worthless-a ps picks =
     let share = share-promise chainA sound-a 0 1 .contains ps picks 1 (omega arith) in
     let mean = mean-promise chainA sound-a premiumA 1 .contains ps picks 1 (omega arith) in
     record {
-      zero = λ near. omega (arith, low-to-bound (proper .0) share near, year-one .0);
-      one = λ near. omega (arith, bound-to-high (proper .0) share near, year-one .1);
-      lowest = λ near. omega (arith, low-to-bound (proper .1) mean near, year-one .2);
-      highest = λ near. omega (arith, bound-to-high (proper .1) mean near, year-one .3);
+      zero = λ near. omega (arith, interval-no-further (whole 1) (proper .0) share near .notBelow, year-one .0);
+      one = λ near. omega (arith, interval-no-further (whole 1) (proper .0) share near .notAbove, year-one .1);
+      lowest = λ near. omega (arith, interval-nearer (centAndTenths 1) (proper .1) mean near .notBelow, year-one .2);
+      highest = λ near. omega (arith, interval-nearer (centAndTenths 1) (proper .1) mean near .notAbove, year-one .3);
     }
-
--- Example A's premiums in tenths of a cent.
-abbrev tenthsA : ℕ → ℕ
-tenthsA i = premiumA i * 10
-
--- The mean from class 2, worked in tenths and answered in cents: builders and theorems for answers, composed.
-pub cents-a : (t : ℕ) → KeptBy chainA t (Nearer (fraction (10 + t) 10)) (λ ps. exactMean 2 premiumA ps 1)
-    (rounded false 10 (lowMean chainA tenthsA t 1))
-    (rounded true 10 (highMean chainA tenthsA t 1))
-cents-a t =
-    rounded-kept 10 (omega arith) (whole t) (omega arith) (λ ps picks. means-follow chainA premiumA .proper ps (picks .inside) 1 (omega arith))
-    (at-state 1 (omega arith)
-    (promised chainA sound-a (unit-plain chainA 10 (means-follow chainA premiumA)) (years-obey false chainA tenthsA nothing) (years-obey true chainA tenthsA nothing) t))

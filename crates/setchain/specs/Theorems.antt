@@ -1,20 +1,22 @@
 -- Demand 3 on the definitions (document 01, "Years"): for every set-chain with sound rows, any number of states, any t and ALL picks.
 use Prim.Native.Nat.{ℕ, _+_, _-_, _≤_, _<_}
-use mathlib.Core.Path.{subst}
+use mathlib.Core.Path.{refl, subst}
 use mathlib.Core.Bool.{Bool, true, false, not}
 use mathlib.Core.List.{List}
 use native.Mathlib.Omega.{arith}
-use native.Mathlib.Nat.{mul-le-mul-right}
-use Rattle.setchain.specs.Fractions.{Fraction, whole, Proper}
+use native.Mathlib.Nat.{le-refl, mul-le-mul-right, zero-mul}
+use Rattle.setchain.specs.Fractions.{Fraction, whole, _⊗_, Proper}
 use Rattle.setchain.specs.Rows.{SetChain, SoundChain}
-use Rattle.setchain.specs.Years.{nothing, sharePayoff, lowShare, highShare, lowMean, highMean, lowTotal, highTotal}
+use Rattle.setchain.specs.Rounding.{rounded}
+use Rattle.setchain.specs.Years.{nothing, sharePayoff, lowShare, highShare, CENT, tenths, meanTenths, lowMean, highMean, totalTenths, lowTotal, highTotal}
 use Rattle.setchain.specs.Picks.{Matrix, PicksFor, exactMean, exactTotal}
 use Rattle.setchain.specs.Turns.{Turn, Obeys, Follows}
-use Rattle.setchain.specs.Promise.{shareInParts, NoFurther, Closeness, Promise}
+use Rattle.setchain.specs.Promise.{shareInParts, NoFurther, Nearer, centAndTenths, Closeness, Promise}
 use Rattle.setchain.specs.Laws.Fractions.{BoundOf}
 use Rattle.setchain.specs.Laws.Mean.{inward}
 use Rattle.setchain.specs.Laws.Obeys.{years-obey, extremePicks, extreme-picks-for, obeys-bound, obeys-near}
-use Rattle.setchain.specs.Laws.Follows.{shares-follow, means-follow, totals-follow}
+use Rattle.setchain.specs.Laws.Follows.{follows-as, unit-follows, unit-plain, shares-follow, means-follow, totals-follow}
+use Rattle.setchain.specs.Laws.Wholes.{rounded-promise}
 
 -- No further than t: a bound, and the same moved inward by t, one on each side.
 near-bound : (high : Bool) (t b : ℕ) (x : Fraction) → BoundOf high (whole b) x → BoundOf (not high) (whole (inward high t b)) x → NoFurther (whole t) b x
@@ -55,13 +57,29 @@ module _ (c : SetChain) (sound : SoundChain c) where
   pub share-promise : (j t : ℕ) → Promise c t (NoFurther (whole t)) (lowShare c j t) (highShare c j t) (shareInParts (c .states) j)
   share-promise j = promised (shares-follow c j) (years-obey false c (sharePayoff j) nothing) (years-obey true c (sharePayoff j) nothing)
 
-  -- The mean premium of year t.
-  pub mean-promise : (premium : ℕ → ℕ) (t : ℕ) → Promise c t (NoFurther (whole t)) (lowMean c premium t) (highMean c premium t) (exactMean (c .states) premium)
-  mean-promise premium = promised (means-follow c premium) (years-obey false c premium nothing) (years-obey true c premium nothing)
+  -- What is kept to t tenths is kept in cents nearer than one cent plus t tenths.
+  in-cents : {payoff : ℕ → ℕ} {turn : ℕ → Turn} {exact : List Matrix → ℕ → Fraction} (t : ℕ) {low high : ℕ → ℕ} → Follows c payoff turn exact
+      → Promise c t (NoFurther (whole t)) low high (λ ps i. exact ps i ⊗ whole CENT)
+      → Promise c t (Nearer (centAndTenths t)) (λ i. rounded false CENT (low i)) (λ i. rounded true CENT (high i)) exact
+  in-cents t follows = rounded-promise CENT (omega arith) (whole t) (le-refl 1) (λ ps picks. follows .proper ps (picks .inside))
 
-  -- The total of t premiums.
-  pub total-promise : (premium : ℕ → ℕ) (t : ℕ) → Promise c t (NoFurther (whole t)) (lowTotal c premium t) (highTotal c premium t) (exactTotal (c .states) premium)
-  total-promise premium = promised (totals-follow c premium) (years-obey false c nothing premium) (years-obey true c nothing premium)
+  module _ (premium : ℕ → ℕ) (t : ℕ) where
+    -- The mean premium of year t, and the total of t premiums, in tenths.
+    pub mean-tenths : Promise c t (NoFurther (whole t)) (meanTenths false c premium t) (meanTenths true c premium t) (λ ps i. exactMean (c .states) premium ps i ⊗ whole CENT)
+    mean-tenths =
+        promised (unit-plain c CENT (means-follow c premium)) (years-obey false c (tenths premium) nothing) (years-obey true c (tenths premium) nothing) t
+
+    pub total-tenths : Promise c t (NoFurther (whole t)) (totalTenths false c premium t) (totalTenths true c premium t) (λ ps i. exactTotal (c .states) premium ps i ⊗ whole CENT)
+    total-tenths =
+        promised (follows-as c (λ i l. zero-mul CENT) (λ i l. refl) (unit-follows c CENT (totals-follow c premium)))
+        (years-obey false c nothing (tenths premium)) (years-obey true c nothing (tenths premium)) t
+
+    -- In cents.
+    pub mean-promise : Promise c t (Nearer (centAndTenths t)) (lowMean c premium t) (highMean c premium t) (exactMean (c .states) premium)
+    mean-promise = in-cents t (means-follow c premium) mean-tenths
+
+    pub total-promise : Promise c t (Nearer (centAndTenths t)) (lowTotal c premium t) (highTotal c premium t) (exactTotal (c .states) premium)
+    total-promise = in-cents t (totals-follow c premium) total-tenths
 
   -- The promises are not empty: picks for any number of years exist, and no exact figure that they bring has the denominator 0.
   pub some-picks : (t : ℕ) → (ps : List Matrix) × PicksFor c t ps

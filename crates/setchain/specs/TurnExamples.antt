@@ -13,7 +13,8 @@ use Rattle.setchain.specs.Years.{yearsFigure, nothing, sharePayoff, lowS
 use Rattle.setchain.specs.Picks.{product, exactShare}
 use Rattle.setchain.specs.Turns.{Turn, add, stay, turned, turnedExact, plain, Obeys, Follows}
 use Rattle.setchain.specs.Examples.{chainA}
-use Rattle.setchain.specs.PromiseExamples.{fraction, picksA, picks-examples, HasValue}
+use Rattle.setchain.specs.DistanceExamples.{fraction}
+use Rattle.setchain.specs.PromiseExamples.{picksA, picks-examples, HasValue}
 
 -- A gain of 5 is added to the one-year figure; a state that stays at 10 has 10, whatever its one-year figure is.
 pub record TurnExamples : Type 0 where

@@ -1,9 +1,11 @@
 -- The bounds for t years (document 01, "Years"): a payoff for year 0, and a gain that each year adds. Share, mean and total are three instances.
-use Prim.Native.Nat.{ℕ, zero, suc, _+_}
+-- Money is carried in tenths of a cent (document 02, item 6): each year's step rounds to a tenth, and the figure that is answered to a cent.
+use Prim.Native.Nat.{ℕ, zero, suc, _+_, _*_}
 use mathlib.Core.Bool.{Bool, true, false}
 use lib.Dec.{eqb}
 use Rattle.setchain.specs.Sums.{onlyIf}
 use Rattle.setchain.specs.Rows.{ONE, SetChain}
+use Rattle.setchain.specs.Rounding.{rounded}
 use Rattle.setchain.specs.Step.{stepFigure}
 
 -- "Year 0 has the payoff itself. The bound for t years rests on the bound for t − 1: low figures feed the low step, high figures the high step."
@@ -28,9 +30,21 @@ lowShare = shareFigure false
 abbrev pub highShare : SetChain → ℕ → ℕ → ℕ → ℕ
 highShare = shareFigure true
 
--- "Mean premium of year t: payoff the premiums."
+-- A cent, in tenths of a cent: the unit in which money is answered.
+abbrev pub CENT : ℕ
+CENT = 10
+
+-- "Money payoffs enter it as tenths of a cent."
+abbrev pub tenths : (ℕ → ℕ) → ℕ → ℕ
+tenths premium i = premium i * CENT
+
+-- "Mean premium of year t: payoff the premiums", in tenths.
+abbrev pub meanTenths : (high : Bool) → SetChain → (ℕ → ℕ) → ℕ → ℕ → ℕ
+meanTenths high c premium t i = yearsFigure high c (tenths premium) nothing t i
+
+-- "Only the final figure is rounded outward to cents."
 abbrev pub meanFigure : (high : Bool) → SetChain → (ℕ → ℕ) → ℕ → ℕ → ℕ
-meanFigure high c premium t i = yearsFigure high c premium nothing t i
+meanFigure high c premium t i = rounded high CENT (meanTenths high c premium t i)
 
 abbrev pub lowMean : SetChain → (ℕ → ℕ) → ℕ → ℕ → ℕ
 lowMean = meanFigure false
@@ -38,9 +52,13 @@ lowMean = meanFigure false
 abbrev pub highMean : SetChain → (ℕ → ℕ) → ℕ → ℕ → ℕ
 highMean = meanFigure true
 
--- "Total of t premiums …: 0 for t = 0; otherwise the class's premium plus the one-year figure of the total of t − 1."
+-- "Total of t premiums …: 0 for t = 0; otherwise the class's premium plus the one-year figure of the total of t − 1", in tenths.
+abbrev pub totalTenths : (high : Bool) → SetChain → (ℕ → ℕ) → ℕ → ℕ → ℕ
+totalTenths high c premium t i = yearsFigure high c nothing (tenths premium) t i
+
+-- The same in cents.
 abbrev pub totalFigure : (high : Bool) → SetChain → (ℕ → ℕ) → ℕ → ℕ → ℕ
-totalFigure high c premium t i = yearsFigure high c nothing premium t i
+totalFigure high c premium t i = rounded high CENT (totalTenths high c premium t i)
 
 abbrev pub lowTotal : SetChain → (ℕ → ℕ) → ℕ → ℕ → ℕ
 lowTotal = totalFigure false

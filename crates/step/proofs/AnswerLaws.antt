@@ -31,7 +31,7 @@ use Rattle.scheme.specs.Laws.RowAnswer.{interval-number, answered-size, answere
 use Rattle.rows.specs.Laws.Front.{front-lent, whole-size, whole-front, whole-beyond}
 use Rattle.order.specs.Order.{SortedPermutation}
 use Rattle.step_spec.specs.declared.StepAnswer.{StepAnswer}
-use Rattle.step_spec.specs.StepAnswer.{payoffOut, stepCause, classRow, StepAnswered}
+use Rattle.step_spec.specs.StepAnswer.{MOST_PAYOFF, payoffOut, stepCause, classRow, StepAnswered}
 use Rattle.step.specs.Answer.{schemeCause, stepRefused}
 use Rattle.step.specs.Step.{StepPre, StepPost}
 
@@ -85,7 +85,7 @@ module _ (s : Scheme) (payoff : List ℕ) (class : ℕ) where
         classes-fit = accepted-cause s (sym own-is ∙ none) .size .classes
 
         -- And the payoffs' cause comes before the class's.
-        pub cause-later : orElse (limitCause 1000000000 payoff (s .classes)) (interval .number) ≡ stepCause s payoff class
+        pub cause-later : orElse (limitCause MOST_PAYOFF payoff (s .classes)) (interval .number) ≡ stepCause s payoff class
         unfolding payoffOut
         cause-later =
             let accepted : causeOf s ≡ 0 = sym own-is ∙ none in
@@ -114,11 +114,11 @@ module _ (s : Scheme) (payoff : List ℕ) (class : ℕ) where
       range = class-fits (s .classes) class class-none
 
       -- And no payoff is above its limit.
-      payoff-fits : (j : ℕ) → j < s .classes → at payoff j ≤ 1000000000
+      payoff-fits : (j : ℕ) → j < s .classes → at payoff j ≤ MOST_PAYOFF
       unfolding payoffCause payoffOut
       payoff-fits j l =
-          ltb-false 1000000000 (at payoff j)
-          (any-false (s .classes) (λ i. ltb 1000000000 (at payoff i)) (test-none _ 10 (omega arith) (first-none payoffCause (classCause s class) later-none)) j l)
+          ltb-false MOST_PAYOFF (at payoff j)
+          (any-false (s .classes) (λ i. ltb MOST_PAYOFF (at payoff i)) (test-none _ 10 (omega arith) (first-none payoffCause (classCause s class) later-none)) j l)
 
       -- Its row is sound.
       sound : SoundRow (s .classes) (classRow s class)

@@ -5,13 +5,10 @@ use mathlib.Core.List.{List}
 use lib.ListN.{length}
 use Rattle.setchain.specs.Sums.{at, sumTo}
 use Rattle.setchain.specs.Rows.{ONE}
-
--- The largest payoff for which every sum of part times payoff fits 64 bits.
-abbrev pub LARGEST : ℕ
-LARGEST = 10000000000
+use Rattle.step_spec.specs.StepAnswer.{MOST_PAYOFF}
 
 -- A row of parts and a payoff whose sum of part times payoff fits.
 pub record WeighPre (row payoff : List ℕ) : Type 0 where
   pub size : length payoff ≡ length row
   pub sums : sumTo (length row) (at row) ≡ ONE
-  pub small : (j : ℕ) → j < length row → at payoff j ≤ LARGEST
+  pub small : (j : ℕ) → j < length row → at payoff j ≤ MOST_PAYOFF

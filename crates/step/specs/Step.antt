@@ -7,7 +7,7 @@ use lib.ListN.{length}
 use Rattle.setchain.specs.Rows.{SoundRow, listsRow}
 use Rattle.setchain.specs.Step.{Reaches}
 use Rattle.order.specs.Order.{SortedPermutation}
-use Rattle.step.specs.Figure.{LARGEST}
+use Rattle.step_spec.specs.StepAnswer.{MOST_PAYOFF}
 use Rattle.setchain.specs.Sums.{at}
 
 -- Lists of one length, a sound row, payoffs that are not too large, and an order of the classes by payoff.
@@ -16,7 +16,7 @@ pub record StepPre (lower upper payoff order : List ℕ) (high : Bool) (row : Li
   pub payoffs : length payoff ≡ length lower
   pub rows : length row ≡ length lower
   pub sound : SoundRow (length lower) (listsRow lower upper)
-  pub small : (j : ℕ) → j < length lower → at payoff j ≤ LARGEST
+  pub small : (j : ℕ) → j < length lower → at payoff j ≤ MOST_PAYOFF
   pub sorted : SortedPermutation payoff order
 
 -- The row is one that reaches the figure r.

@@ -9,7 +9,7 @@ ghost use Prim.Native.Nat.{_≤_};
 ghost use lib.ListN.{length};
 ghost use Rattle.scheme.specs.Stages.{limitCause};
 ghost use Rattle.step.specs.Answer.{schemeCause, stepRefused};
-ghost use Rattle.step_spec.specs.StepAnswer.{StepAnswered};
+ghost use Rattle.step_spec.specs.StepAnswer.{MOST_PAYOFF, StepAnswered};
 
 // The scheme's own cause in the number of a class's interval row: any but that of the class.
 fn scheme_cause(number: u8) -> u8
@@ -22,10 +22,10 @@ fn scheme_cause(number: u8) -> u8
     }
 }
 
-// Cause 10 where some class's payoff is above 1,000,000,000, or 0.
+// Cause 10 where some class's payoff is above its limit, or 0.
 fn payoff_cause(payoff: &[u64], classes: u8) -> u8
     requires { ⌜ classes ≤ length (now payoff) ⌝ }
-    ensures { λ r. ⌜ r ≡ limitCause 1000000000 (now (payoff .entry)) classes ⌝ }
+    ensures { λ r. ⌜ r ≡ limitCause MOST_PAYOFF (now (payoff .entry)) classes ⌝ }
 {
     let n = classes as usize;
     let mut i: usize = 0;

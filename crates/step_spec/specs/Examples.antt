@@ -27,12 +27,12 @@ unfolding stepFigure fillRow capacityBefore sumTo onlyIf
 figures-a = (refl, refl)
 
 -- No cause; a class that there is not; and, before that, a payoff above its limit.
-pub causes-a : (stepCause schemeA thirtyTen 2 ≡ 0) × (stepCause schemeA thirtyTen 3 ≡ 11) × (stepCause schemeA (30 ∷ 1000000001 ∷ []) 3 ≡ 10)
+pub causes-a : (stepCause schemeA thirtyTen 2 ≡ 0) × (stepCause schemeA thirtyTen 3 ≡ 11) × (stepCause schemeA (30 ∷ 10000000001 ∷ []) 3 ≡ 10)
 unfolding payoffOut causeOf sizeOut startOut horizonOut ruleOut bandOut sumOut premiumOut anyBelow sumTo tab
 causes-a = (refl, refl, refl)
 
 -- A payoff at its limit, and one above it that is stored beyond s.
-pub limits-a : (stepCause schemeA (30 ∷ 1000000000 ∷ []) 2 ≡ 0) × (stepCause schemeA (30 ∷ 10 ∷ 1000000001 ∷ []) 2 ≡ 0)
+pub limits-a : (stepCause schemeA (30 ∷ 10000000000 ∷ []) 2 ≡ 0) × (stepCause schemeA (30 ∷ 10 ∷ 10000000001 ∷ []) 2 ≡ 0)
 unfolding payoffOut causeOf sizeOut startOut horizonOut ruleOut bandOut sumOut premiumOut anyBelow sumTo tab
 limits-a = (refl, refl)
 

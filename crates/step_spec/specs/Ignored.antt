@@ -18,7 +18,7 @@ use Rattle.scheme.specs.Laws.Values.{Alike, same, next-same, alike-values, alik
 use Rattle.setchain.specs.Sums.{at}
 use Rattle.setchain.specs.Laws.Tests.{any-eq}
 use Rattle.step_spec.specs.declared.StepAnswer.{StepAnswer}
-use Rattle.step_spec.specs.StepAnswer.{payoffOut, stepCause, classRow, StepAnswered}
+use Rattle.step_spec.specs.StepAnswer.{MOST_PAYOFF, payoffOut, stepCause, classRow, StepAnswered}
 
 -- What is answered for one scheme and payoff is answered for the other.
 module _ {s s′ : Scheme} (w : Alike s s′) (payoff payoff′ : List ℕ) (payoffs : (j : ℕ) → j < s .classes → at payoff j ≡ at payoff′ j) (class : ℕ) where
@@ -26,7 +26,7 @@ module _ {s s′ : Scheme} (w : Alike s s′) (payoff payoff′ : List ℕ) (pay
   unfolding payoffOut
   cause-same =
       next-same (alike-same w)
-      (λ v. ap₂ (λ b n. orElse (10 when b) n) (any-eq (v .classes) _ _ (λ i l. ap (ltb 1000000000) (payoffs i l))) (class-same v class))
+      (λ v. ap₂ (λ b n. orElse (10 when b) n) (any-eq (v .classes) _ _ (λ i l. ap (ltb MOST_PAYOFF) (payoffs i l))) (class-same v class))
 
   module _ (z : stepCause s payoff class ≡ 0) where
     values : SameValues s s′

@@ -15,9 +15,13 @@ use Rattle.step_spec.specs.declared.StepAnswer.{StepAnswer}
 use Rattle.setchain.specs.Sums.{at}
 use Rattle.setchain.specs.Tests.{anyBelow}
 
--- "A payoff is a whole number for each class, 0 to 1,000,000,000": some class's is above; "payoffs stored beyond s are ignored".
+-- "The payoff limit of the one-year step rises to 10,000,000,000" (document 02, item 6): every sum of part times payoff up to it fits 64 bits.
+abbrev pub MOST_PAYOFF : ℕ
+MOST_PAYOFF = 10000000000
+
+-- "A payoff is a whole number for each class": some class's is above the limit; "payoffs stored beyond s are ignored".
 unfoldable pub payoffOut : Scheme → List ℕ → Bool
-payoffOut s payoff = anyBelow (s .classes) (λ i. ltb 1000000000 (at payoff i))
+payoffOut s payoff = anyBelow (s .classes) (λ i. ltb MOST_PAYOFF (at payoff i))
 
 -- Causes 3, 5 to 10, then 10, "or in the one-year step a payoff above its limit", then 11.
 abbrev pub stepCause : Scheme → List ℕ → ℕ → ℕ

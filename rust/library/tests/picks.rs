@@ -1,11 +1,13 @@
 //! Demand 3 by exact arithmetic on the library's answers: no picks leave the
-//! bounds, and the extreme ones come within t of each.
+//! bounds, and the extreme ones come within t parts of each share, and nearer
+//! than one cent plus t tenths to each figure of money.
 
 use plain::{Scheme, ONE};
 use trials::exact::Fraction;
 use trials::made::{self, Shape};
 use trials::picks::{
-    any_picks, exact_mean, exact_shares, exact_total, extreme_picks, premiums, Matrix,
+    any_picks, exact_mean, exact_shares, exact_total, extreme_picks, near_money, premium_tenths,
+    Matrix,
 };
 use trials::rng::Rng;
 
@@ -50,10 +52,10 @@ fn check_inside(scheme: &Scheme, bounds: &Bounds, picks: &[Matrix]) {
     within(&exact_total(scheme, picks), bounds.total);
 }
 
-/// Checks that the picks that follow the steps of each bound come within
-/// `year` of it, and leave no other.
+/// Checks that the picks that follow the steps of each bound come close to it,
+/// and leave no other.
 fn check_close(scheme: &Scheme, bounds: &Bounds, year: u64) {
-    let premiums = premiums(scheme);
+    let premiums = premium_tenths(scheme);
     for high in [false, true] {
         let near = |exact: &Fraction, (low, top): (u64, u64)| match high {
             false => exact.between(low, low + year),
@@ -67,10 +69,13 @@ fn check_close(scheme: &Scheme, bounds: &Bounds, year: u64) {
             check_inside(scheme, bounds, &picks);
         }
         let picks = extreme_picks(scheme, &premiums, None, year, high);
-        assert!(near(&exact_mean(scheme, &picks), bounds.mean));
+        let bound = |(low, top): (u64, u64)| if high { top } else { low };
+        let exact = exact_mean(scheme, &picks);
+        assert!(near_money(&exact, bound(bounds.mean), year));
         check_inside(scheme, bounds, &picks);
         let picks = extreme_picks(scheme, &[0; 32], Some(&premiums), year, high);
-        assert!(near(&exact_total(scheme, &picks), bounds.total));
+        let exact = exact_total(scheme, &picks);
+        assert!(near_money(&exact, bound(bounds.total), year));
         check_inside(scheme, bounds, &picks);
     }
 }

@@ -7,7 +7,9 @@ use lent::{check_one, near, of_length, Lent};
 use plain::{Figures, Scheme, ONE};
 use trials::exact::Fraction;
 use trials::made::{self, Shape};
-use trials::picks::{exact_mean, exact_shares, exact_total, inside, picks_by, premiums, Row};
+use trials::picks::{
+    exact_mean, exact_shares, exact_total, inside, near_money, picks_by, premium_tenths, Row,
+};
 use trials::rng::Rng;
 
 /// Marks that no call writes.
@@ -179,7 +181,7 @@ fn extreme_picks_come_close() {
 fn check_close(scheme: &Scheme, year: u64) {
     let record = made::record_of(scheme);
     let s = scheme.classes;
-    let premiums = premiums(scheme);
+    let premiums = premium_tenths(scheme);
     for high in [false, true] {
         let step = if high {
             library::high_step
@@ -205,9 +207,17 @@ fn check_close(scheme: &Scheme, year: u64) {
         }
         let picks = picks_by(one, s, &premiums, None, year);
         library::mean(&record, year, &mut out).expect("a mean");
-        near(exact_mean(scheme, &picks), out);
+        assert!(near_money(
+            &exact_mean(scheme, &picks),
+            out[usize::from(high)],
+            year
+        ));
         let picks = picks_by(one, s, &[0; 32], Some(&premiums), year);
         library::total(&record, year, &mut out).expect("a total");
-        near(exact_total(scheme, &picks), out);
+        assert!(near_money(
+            &exact_total(scheme, &picks),
+            out[usize::from(high)],
+            year
+        ));
     }
 }

@@ -11,7 +11,9 @@ pub const MAX_HORIZON: u8 = 100;
 /// The highest premium in cents.
 pub const MAX_PREMIUM: u32 = 10_000_000;
 /// The highest payoff of the one-year step.
-pub const MAX_PAYOFF: u64 = 1_000_000_000;
+pub const MAX_PAYOFF: u64 = 10_000_000_000;
+/// The tenths of a cent in a cent; money is carried in tenths.
+pub const TENTHS: u64 = 10;
 /// The highest base premium of a ready scheme in cents.
 pub const MAX_BASE: u64 = 2_500_000;
 
@@ -60,11 +62,11 @@ impl Scheme {
         &self.rules[index * MAX_COLUMNS..][..self.m()]
     }
 
-    /// The premiums as figures, 0 beyond s.
-    pub(crate) fn premium_figures(&self) -> Figures {
+    /// The premiums in tenths of a cent, 0 beyond s.
+    pub(crate) fn premium_tenths(&self) -> Figures {
         let mut figures = [0; MAX_CLASSES];
         for (figure, &premium) in figures.iter_mut().zip(&self.premiums[..self.s()]) {
-            *figure = u64::from(premium);
+            *figure = u64::from(premium) * TENTHS;
         }
         figures
     }

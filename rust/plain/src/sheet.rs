@@ -2,7 +2,7 @@
 
 use crate::record::read;
 use crate::scheme::{Scheme, MAX_CLASSES};
-use crate::years::{plus, unit, Chain};
+use crate::years::{cents, plus, unit, Chain};
 
 /// The lines of the sheet of a record, or `REFUSED` and the number.
 pub fn sheet(record: &[u8]) -> Vec<u8> {
@@ -21,7 +21,7 @@ fn lines(scheme: &Scheme) -> Vec<u8> {
     let s = scheme.s();
     let start = chain.start;
     let horizon = u64::from(scheme.horizon);
-    let premiums = scheme.premium_figures();
+    let premiums = scheme.premium_tenths();
 
     // No line is longer than 48 bytes.
     let mut text = Vec::with_capacity(48 * ((s + 1) * (horizon as usize + 1) + 2));
@@ -58,9 +58,11 @@ fn lines(scheme: &Scheme) -> Vec<u8> {
         }
         text.extend_from_slice(b"YEAR ");
         number(&mut text, year);
-        line(&mut text, b" PREMIUM", &[low_mean[start], high_mean[start]]);
+        let (low, high) = cents((low_mean[start], high_mean[start]));
+        line(&mut text, b" PREMIUM", &[low, high]);
     }
-    line(&mut text, b"TOTAL", &[low_total[start], high_total[start]]);
+    let (low, high) = cents((low_total[start], high_total[start]));
+    line(&mut text, b"TOTAL", &[low, high]);
     text
 }
 

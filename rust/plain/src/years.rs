@@ -2,7 +2,7 @@
 
 use crate::rows::interval;
 use crate::scheme::{
-    accept, index_of, within_horizon, Figures, Scheme, MAX_CLASSES, MAX_COLUMNS, ONE,
+    accept, index_of, within_horizon, Figures, Scheme, MAX_CLASSES, MAX_COLUMNS, ONE, TENTHS,
 };
 use crate::step::Order;
 
@@ -20,7 +20,7 @@ pub fn mean(scheme: &Scheme, year: u64) -> Result<(u64, u64), u8> {
     accept(scheme)?;
     within_horizon(scheme, year)?;
     let chain = Chain::new(scheme);
-    Ok(chain.bounds(&scheme.premium_figures(), year))
+    Ok(cents(chain.bounds(&scheme.premium_tenths(), year)))
 }
 
 /// Low and high cents of the total of the premiums of years 0 to `year` - 1.
@@ -28,13 +28,13 @@ pub fn total(scheme: &Scheme, year: u64) -> Result<(u64, u64), u8> {
     accept(scheme)?;
     within_horizon(scheme, year)?;
     let chain = Chain::new(scheme);
-    let premiums = scheme.premium_figures();
+    let premiums = scheme.premium_tenths();
     let (mut low, mut high) = ([0; MAX_CLASSES], [0; MAX_CLASSES]);
     for _ in 0..year {
         low = plus(chain.low_year(&low), &premiums);
         high = plus(chain.high_year(&high), &premiums);
     }
-    Ok((low[chain.start], high[chain.start]))
+    Ok(cents((low[chain.start], high[chain.start])))
 }
 
 /// Fills two slices of s numbers with the low and the high share of each class
@@ -55,6 +55,11 @@ pub fn share_sheet(
         (*low, *high) = chain.bounds(&unit(index), year);
     }
     Ok(())
+}
+
+/// Low and high in tenths of a cent, rounded outward to cents.
+pub(crate) fn cents((low, high): (u64, u64)) -> (u64, u64) {
+    (low / TENTHS, high.div_ceil(TENTHS))
 }
 
 /// The payoff for the share of the class at `index`.

@@ -117,6 +117,14 @@ impl Fraction {
         left.cmp(&other.numerator.mul(&self.denominator))
     }
 
+    /// Nearer to `bound` than a number of tenths.
+    pub fn nearer(&self, bound: u64, tenths: u64) -> bool {
+        let exact = self.numerator.mul_small(10);
+        let bound = self.denominator.mul_small(10 * bound);
+        let room = self.denominator.mul_small(tenths);
+        exact < bound.add(&room) && bound < exact.add(&room)
+    }
+
     /// From `low` to `high`, both included.
     pub fn between(&self, low: u64, high: u64) -> bool {
         self.denominator.mul_small(low) <= self.numerator

@@ -3,7 +3,7 @@
 
 use crate::made::{damage, record_in, record_of, scheme_of, Shape, DAMAGES};
 use crate::rng::Rng;
-use plain::{Figures, Scheme, MAX_CLASSES, MAX_COLUMNS, MAX_HORIZON, MAX_RECORD, ONE};
+use plain::{Figures, Scheme, MAX_CLASSES, MAX_COLUMNS, MAX_HORIZON, MAX_PAYOFF, MAX_RECORD};
 use std::fmt::Write;
 
 /// Example A of the scope.
@@ -359,14 +359,14 @@ fn report_ready(out: &mut String) {
 /// A payoff of the kinds that the format names.
 fn payoff(scheme: &Scheme, number: u64, kind: u64) -> Figures {
     let s = u64::from(scheme.classes);
-    let mut payoff = [4_000_000_000; MAX_CLASSES];
+    let mut payoff = [4 * MAX_PAYOFF; MAX_CLASSES];
     for class in 1..=s {
         let index = class as usize - 1;
-        let mixed = (618_033_989 * class + 271_828_183 * number) % (ONE + 1);
+        let mixed = (6_180_339_887 * class + 2_718_281_828 * number) % (MAX_PAYOFF + 1);
         payoff[index] = match kind {
-            0 => 100 * u64::from(scheme.premiums[index]),
+            0 => 1000 * u64::from(scheme.premiums[index]),
             1 => mixed % 3,
-            2 if class == s => ONE + 1,
+            2 if class == s => MAX_PAYOFF + 1,
             _ => mixed,
         };
     }

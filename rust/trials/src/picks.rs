@@ -185,14 +185,20 @@ pub fn picks_by(
     picks
 }
 
-/// The premiums of a scheme as figures, 0 beyond s.
-pub fn premiums(scheme: &Scheme) -> Figures {
+/// The premiums of a scheme in tenths of a cent, 0 beyond s.
+pub fn premium_tenths(scheme: &Scheme) -> Figures {
     let mut figures = [0; MAX_CLASSES];
     let used = &scheme.premiums[..usize::from(scheme.classes)];
     for (figure, &premium) in figures.iter_mut().zip(used) {
-        *figure = u64::from(premium);
+        *figure = u64::from(premium) * 10;
     }
     figures
+}
+
+/// Whether an exact figure of money comes close enough to a bound: nearer than
+/// one cent plus a tenth for each year.
+pub fn near_money(exact: &Fraction, bound: u64, years: u64) -> bool {
+    exact.nearer(bound, 10 + years)
 }
 
 /// The exact shares of all classes: the start class's row in the product of

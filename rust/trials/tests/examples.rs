@@ -270,6 +270,41 @@ fn thirds() {
     assert_eq!(mean(&thirds, 1), Ok((10, 11)));
 }
 
+/// A tenth of class 1 leaves for class 2 each year, with premiums of 10 and 20
+/// cents: the exact mean of year 3 is 12.71, the exact total of 4 premiums
+/// 45.61. Rounded to cents in every year, the low mean would stay 11, and the
+/// low total would be 44.
+#[test]
+fn money_in_tenths() {
+    let tenth = 100_000_000;
+    let leaving = scheme(
+        1,
+        5,
+        &[&[1, 2], &[2, 2]],
+        &[(9 * tenth, 9 * tenth), (tenth, tenth)],
+        &[10, 20],
+    );
+    let means = [(10, 10), (11, 11), (11, 12), (12, 13)];
+    for (year, bounds) in (0..).zip(means) {
+        assert_eq!(mean(&leaving, year), Ok(bounds));
+    }
+    assert_eq!(total(&leaving, 4), Ok((45, 46)));
+}
+
+#[test]
+fn payoff_limit() {
+    let a = example_a();
+    let mut payoff = padded(&[0, 10_000_000_000]);
+    payoff[2..].fill(10_000_000_001);
+    assert_eq!(low_step(&a, &payoff, 2).unwrap().0, 1_000_000_000);
+    assert_eq!(high_step(&a, &payoff, 2).unwrap().0, 2_000_000_000);
+    payoff[0] = 10_000_000_000;
+    assert_eq!(high_step(&a, &payoff, 1).unwrap().0, 10_000_000_000);
+    payoff[0] += 1;
+    assert_eq!(low_step(&a, &payoff, 1), Err(10));
+    assert_eq!(high_step(&a, &payoff, 3), Err(10));
+}
+
 #[test]
 fn ready_schemes() {
     let tenths: [&[u64]; 3] = [

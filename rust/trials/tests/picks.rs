@@ -1,13 +1,14 @@
 //! Demand 3 by exact arithmetic: no picks leave the bounds, and some come
-//! within t of each.
+//! within t parts of each share, and nearer than one cent plus t tenths to each
+//! figure of money.
 
 use plain::{mean, share, share_sheet, total, Scheme, MAX_HORIZON, ONE};
 use std::cmp::Ordering;
 use trials::exact::{Fraction, Nat};
 use trials::made::{self, Shape};
 use trials::picks::{
-    any_picks, any_row, exact_mean, exact_shares, exact_total, extreme_picks, inside, premiums,
-    Matrix,
+    any_picks, any_row, exact_mean, exact_shares, exact_total, extreme_picks, inside, near_money,
+    premium_tenths, Matrix,
 };
 use trials::rng::Rng;
 
@@ -48,6 +49,19 @@ fn naturals() {
         let turned = part(b, e).add(&part(a, d));
         assert_eq!(sum.compare(&turned), Ordering::Equal);
         assert!(part(a, d).between(a / d, a.div_ceil(d)));
+    }
+}
+
+/// After 2 years 12 tenths are too far, above and below, and what is nearer
+/// is near enough.
+#[test]
+fn nearness_of_money() {
+    let hundredths = |value: u64| Fraction {
+        numerator: value.into(),
+        denominator: 100u64.into(),
+    };
+    for (value, near) in [(880, false), (881, true), (1119, true), (1120, false)] {
+        assert_eq!(near_money(&hundredths(value), 10, 2), near, "{value}");
     }
 }
 
@@ -113,10 +127,10 @@ fn no_picks_leave() {
     }
 }
 
-/// Checks that the extreme picks of each bound come within `year` of it, and
-/// leave no bound where `all` is set.
+/// Checks that the extreme picks of each bound come close to it, and leave no
+/// bound where `all` is set.
 fn check_close(scheme: &Scheme, year: u64, classes: &[usize], all: bool) {
-    let premiums = premiums(scheme);
+    let premiums = premium_tenths(scheme);
     for high in [false, true] {
         // The picks of a low bound lie from it to `year` above, those of a
         // high bound from `year` below to it.
@@ -135,18 +149,15 @@ fn check_close(scheme: &Scheme, year: u64, classes: &[usize], all: bool) {
             }
         }
         let picks = extreme_picks(scheme, &premiums, None, year, high);
-        assert!(near(
-            &exact_mean(scheme, &picks),
-            mean(scheme, year).unwrap()
-        ));
+        let bound = |(low, top): (u64, u64)| if high { top } else { low };
+        let mean = bound(mean(scheme, year).unwrap());
+        assert!(near_money(&exact_mean(scheme, &picks), mean, year));
         if all {
             check_inside(scheme, year, &picks);
         }
         let picks = extreme_picks(scheme, &[0; 32], Some(&premiums), year, high);
-        assert!(near(
-            &exact_total(scheme, &picks),
-            total(scheme, year).unwrap()
-        ));
+        let total = bound(total(scheme, year).unwrap());
+        assert!(near_money(&exact_total(scheme, &picks), total, year));
         if all {
             check_inside(scheme, year, &picks);
         }

@@ -6,7 +6,7 @@ use plain::{
     Scheme, ONE,
 };
 use trials::made::{self, Shape};
-use trials::picks::{inside, premiums, Row};
+use trials::picks::{inside, premium_tenths, Row};
 use trials::rng::Rng;
 
 /// The interval row by its sums.
@@ -196,7 +196,7 @@ fn all_a_year(scheme: &Scheme, pairs: &mut [(Figures, Figures)]) {
     }
     let (low, high) = pairs.last_mut().expect("the total");
     for figures in [low, high] {
-        for (figure, premium) in figures.iter_mut().zip(premiums(scheme)) {
+        for (figure, premium) in figures.iter_mut().zip(premium_tenths(scheme)) {
             *figure += premium;
         }
     }
@@ -206,12 +206,13 @@ fn all_a_year(scheme: &Scheme, pairs: &mut [(Figures, Figures)]) {
 fn sheet_by_steps(scheme: &Scheme) -> String {
     let s = usize::from(scheme.classes);
     let start = usize::from(scheme.start) - 1;
-    let premiums = premiums(scheme);
+    let premiums = premium_tenths(scheme);
     let mut text = format!(
         "SCHEME {s} {} {} {}\n",
         scheme.columns, scheme.start, scheme.horizon
     );
-    // Low and high figures: one pair a class, then the mean, then the total.
+    // Low and high figures: one pair a class, then the mean, then the total,
+    // both in tenths of a cent.
     let mut pairs: Vec<(Figures, Figures)> = (0..s)
         .map(|j| {
             let mut payoff = [0; 32];
@@ -234,12 +235,16 @@ fn sheet_by_steps(scheme: &Scheme) -> String {
         }
         let class = 1 + year % s as u64;
         assert_eq!(share(scheme, class, year), Ok(at_start(class as usize - 1)));
-        assert_eq!(mean(scheme, year), Ok(at_start(s)));
-        assert_eq!(total(scheme, year), Ok(at_start(s + 1)));
-        let (low, high) = at_start(s);
+        let cents = |(low, high): (u64, u64)| (low / 10, high.div_ceil(10));
+        assert_eq!(mean(scheme, year), Ok(cents(at_start(s))));
+        assert_eq!(total(scheme, year), Ok(cents(at_start(s + 1))));
+        let (low, high) = cents(at_start(s));
         text += &format!("YEAR {year} PREMIUM {low} {high}\n");
     }
-    let (low, high) = (pairs[s + 1].0[start], pairs[s + 1].1[start]);
+    let (low, high) = (
+        pairs[s + 1].0[start] / 10,
+        pairs[s + 1].1[start].div_ceil(10),
+    );
     text + &format!("TOTAL {low} {high}\n")
 }
 

@@ -9,21 +9,26 @@ use Rattle.bounds.proofs.mean.Tie as tie
 money-cause-requires : tie.Need-money-cause-requires
 money-cause-requires c κs = search needs
 
-widened-requires : tie.Need-widened-requires
-widened-requires c κs = search needs
+in-tenths-requires : tie.Need-in-tenths-requires
+in-tenths-requires c κs = search needs
 
 start-bounds-requires : tie.Need-start-bounds-requires
 start-bounds-requires c κs =
     let at-money-cause = c .before .before in
     let start = at-money-cause .before in
-    mean-ready (start .args .scheme) (start .args .year) (at-money-cause .money-cause .ensures) (c .widened .ensures) (omega arith)
+    mean-ready (start .args .scheme) (start .args .year) (at-money-cause .money-cause .ensures) (c .in-tenths .ensures) (omega arith)
+
+in-cents-requires : tie.Need-in-cents-requires
+in-cents-requires c κs = tt
 
 returns : tie.Need-returns
 returns c =
-    let at-widened = c .before in
-    let at-money-cause = at-widened .before .before in
+    let at-start-bounds = c .before in
+    let at-in-tenths = at-start-bounds .before in
+    let at-money-cause = at-in-tenths .before .before in
     let start = at-money-cause .before in
-    mean-answer (start .args .scheme) (start .args .year) (at-money-cause .money-cause .ensures) (at-widened .widened .ensures) (c .start-bounds .ensures)
+    mean-answer (start .args .scheme) (start .args .year) (at-money-cause .money-cause .ensures) (at-in-tenths .in-tenths .ensures)
+    (at-start-bounds .start-bounds .ensures) (c .in-cents .ensures)
 
 pub mean-spec : {M : Type 1} → statement M
-mean-spec = tie.close (tie.spec money-cause-requires widened-requires start-bounds-requires returns)
+mean-spec = tie.close (tie.spec money-cause-requires in-tenths-requires start-bounds-requires in-cents-requires returns)

@@ -4,7 +4,8 @@ use mathlib.Core.Path.{_≡_, refl, ap, _∙_}
 use mathlib.Core.Bool.{Bool, cond}
 use lib.Dec.{ltb}
 use native.Mathlib.Omega.{arith}
-use Rattle.setchain.specs.Years.{yearsFigure, shareFigure, meanFigure, totalFigure}
+use Rattle.setchain.specs.Years.{yearsFigure, shareFigure, CENT, tenths, meanFigure, totalFigure}
+use Rattle.setchain.specs.Rounding.{rounded}
 use Rattle.setchain.specs.Laws.Agreeing.{Agree, years-agree}
 use Rattle.scheme.specs.declared.Scheme.{Scheme}
 use Rattle.scheme.specs.Tables.{tab}
@@ -33,15 +34,18 @@ module _ {s s′ : Scheme} (v : SameValues s s′) (none : causeOf s ≡ 0) wher
     figure-start : yearsFigure high (chainOf s) payoff gain t (startOf s) ≡ yearsFigure high (chainOf s′) payoff′ gain′ t (startOf s′)
     figure-start = years-agree (v .others .classes) rows payoffs gains high t (startOf s) within ∙ ap (yearsFigure high (chainOf s′) payoff′ gain′ t) start
 
+  premiums : (i : ℕ) → i < s .classes → tenths (premiumAt s) i ≡ tenths (premiumAt s′) i
+  premiums i l = ap (λ x. x * CENT) (v .others .premiums i l)
+
   module _ (high : Bool) where
     pub share-same : (t j : ℕ) → shareFigure high (chainOf s) j t (startOf s) ≡ shareFigure high (chainOf s′) j t (startOf s′)
     share-same t j = figure-start high (λ i l. refl) (λ i l. refl) t
 
     pub mean-same : (t : ℕ) → meanFigure high (chainOf s) (premiumAt s) t (startOf s) ≡ meanFigure high (chainOf s′) (premiumAt s′) t (startOf s′)
-    mean-same t = figure-start high (v .others .premiums) (λ i l. refl) t
+    mean-same t = ap (rounded high CENT) (figure-start high premiums (λ i l. refl) t)
 
     pub total-same : (t : ℕ) → totalFigure high (chainOf s) (premiumAt s) t (startOf s) ≡ totalFigure high (chainOf s′) (premiumAt s′) t (startOf s′)
-    total-same t = figure-start high (λ i l. refl) (v .others .premiums) t
+    total-same t = ap (rounded high CENT) (figure-start high (λ i l. refl) premiums t)
 
     pub shares-same : (year : ℕ) → figureShares high s year ≡ figureShares high s′ year
     unfolding figureShares

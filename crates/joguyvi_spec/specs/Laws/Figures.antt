@@ -3,15 +3,12 @@
 use Prim.Native.Nat.{ℕ}
 use mathlib.Core.Path.{_≡_, sym, _∙_}
 use mathlib.Core.List.{List}
-use Rattle.setchain.specs.Fractions.{Fraction}
-use Rattle.setchain.specs.Picks.{Matrix}
 use Rattle.scheme.specs.declared.Scheme.{Scheme}
 use Rattle.scheme.specs.Laws.FirstCause.{answered, first-none, second-none}
 use Rattle.record_spec.specs.Layout.{schemeIn}
 use Rattle.record_spec.specs.Read.{readCause}
 use Rattle.bounds_spec.specs.declared.Bounds.{Bounds}
 use Rattle.bounds_spec.specs.Answers.{numberOf, lowOf, highOf, shareAnswer, meanAnswer, totalAnswer}
-use Rattle.bounds_spec.specs.Promises.{Kept}
 use Rattle.bounds_spec.specs.Laws.Kept.{share-kept, mean-kept, total-kept}
 use Rattle.joguyvi_spec.specs.Buffers.{bufferCause, BufferPost}
 use Rattle.joguyvi_spec.specs.Figures.{putNumber, lowAndHigh, boundsNumber, BoundsCall, ShareCall, MeanCall, TotalCall}
@@ -20,16 +17,16 @@ use Rattle.joguyvi_spec.specs.Figures.{putNumber, lowAndHigh, boundsNumb
 abbrev pub RecordBoundsPost : (query : Scheme → Bounds) (bytes out : List ℕ) (number : ℕ) (out′ : List ℕ) → Type 0
 RecordBoundsPost query bytes out = BufferPost (boundsNumber bytes (query (schemeIn bytes)) out) (lowAndHigh (query (schemeIn bytes))) out
 
--- What low and high of a scheme promise where they are answered.
-abbrev pub BoundsPromise : (exact : Scheme → List Matrix → Fraction) (year : ℕ) → Scheme → Bounds → Type 0
-BoundsPromise exact year s b = numberOf b ≡ 0 → Kept s year (exact s) (lowOf b) (highOf b)
+-- What low and high promise where they are answered.
+abbrev pub BoundsPromise : (kept : (low high : ℕ) → Type 0) → Bounds → Type 0
+BoundsPromise kept b = numberOf b ≡ 0 → kept (lowOf b) (highOf b)
 
 -- The buffer keeps it where the number is 0.
-pub bounds-call : {query : Scheme → Bounds} {exact : Scheme → List Matrix → Fraction} {year : ℕ} (bytes out : List ℕ) {number : ℕ} {out′ : List ℕ}
-    → BoundsPromise exact year (schemeIn bytes) (query (schemeIn bytes)) → RecordBoundsPost query bytes out number out′
-    → BoundsCall query exact bytes year out number out′
+pub bounds-call : {query : Scheme → Bounds} {kept : Scheme → (low high : ℕ) → Type 0} (bytes out : List ℕ) {number : ℕ} {out′ : List ℕ}
+    → BoundsPromise (kept (schemeIn bytes)) (query (schemeIn bytes)) → RecordBoundsPost query bytes out number out′
+    → BoundsCall query kept bytes out number out′
 unfolding putNumber
-bounds-call {query} bytes out {number} {out′} kept put =
+bounds-call {query} bytes out {number} {out′} promise put =
     let b = query (schemeIn bytes) in
     record {
       answer = put .answer;
@@ -37,7 +34,7 @@ bounds-call {query} bytes out {number} {out′} kept put =
       promise = λ z.
           let none : putNumber b out ≡ 0 = second-none (readCause bytes) (putNumber b out) (sym (put .answer) ∙ z) in
           let full : out′ ≡ lowAndHigh b = put .filled ∙ answered number (lowAndHigh b) out z in
-          rw full (kept (first-none (numberOf b) (bufferCause 2 out) none));
+          rw full (promise (first-none (numberOf b) (bufferCause 2 out) none));
     }
 
 -- The share of a class, the mean premium of a year, and the total.

@@ -4,8 +4,9 @@ use mathlib.Core.Bool.{Bool}
 use native.Mathlib.Omega.{arith}
 use lib.Dec.{eqb}
 use Rattle.setchain.specs.Rows.{ONE}
-use Rattle.setchain.specs.Years.{yearsFigure, nothing, sharePayoff, shareFigure, meanFigure, totalFigure}
+use Rattle.setchain.specs.Years.{yearsFigure, nothing, sharePayoff, shareFigure, CENT, tenths, meanFigure, totalFigure}
 use Rattle.setchain.specs.Laws.Sums.{onlyIf-le}
+use Rattle.setchain.specs.Laws.Rounding.{rounded-at-most}
 use Rattle.setchain.specs.Laws.Step.{years-at-most}
 use Rattle.scheme.specs.declared.Scheme.{Scheme}
 use Rattle.scheme.specs.Accepted.{Accepted}
@@ -25,8 +26,13 @@ module _ (high : Bool) (s : Scheme) (ok : Accepted s) where
   pub share-at-most : (j t : ℕ) → shareFigure high (chainOf s) j t (startOf s) ≤ ONE
   share-at-most j t = omega (arith, start-at-most (sharePayoff j) nothing ONE 0 (λ i l. onlyIf-le (eqb i j) ONE) (λ i l. omega arith) t)
 
+  premium-at-most : (i : ℕ) → i < s .classes → tenths (premiumAt s) i ≤ 100000000
+  premium-at-most i l = omega (arith, ok .premiums .within i l)
+
   pub mean-at-most : (t : ℕ) → meanFigure high (chainOf s) (premiumAt s) t (startOf s) ≤ 10000000
-  mean-at-most t = omega (arith, start-at-most (premiumAt s) nothing 10000000 0 (ok .premiums .within) (λ i l. omega arith) t)
+  mean-at-most t =
+      rounded-at-most CENT (omega arith) high _ 10000000 (omega (arith, start-at-most (tenths (premiumAt s)) nothing 100000000 0 premium-at-most (λ i l. omega arith) t))
 
   pub total-at-most : (t : ℕ) → totalFigure high (chainOf s) (premiumAt s) t (startOf s) ≤ t * 10000000
-  total-at-most t = omega (arith, start-at-most nothing (premiumAt s) 0 10000000 (λ i l. omega arith) (ok .premiums .within) t)
+  total-at-most t =
+      rounded-at-most CENT (omega arith) high _ (t * 10000000) (omega (arith, start-at-most nothing (tenths (premiumAt s)) 0 100000000 (λ i l. omega arith) premium-at-most t))

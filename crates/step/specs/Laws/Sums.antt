@@ -10,7 +10,8 @@ use lib.Seq.{getD-set-same, getD-set-other}
 use Rattle.setchain.specs.Sums.{at, sumTo, dot}
 use Rattle.setchain.specs.Rows.{ONE}
 use Rattle.setchain.specs.Laws.Sums.{sumTo-le, sumTo-scale, sumTo-more, sumTo-front, sumTo-change}
-use Rattle.step.specs.Figure.{LARGEST, WeighPre}
+use Rattle.step_spec.specs.StepAnswer.{MOST_PAYOFF}
+use Rattle.step.specs.Figure.{WeighPre}
 
 -- A store changes the sum by what it changes at its place.
 pub sumTo-set : (n : ℕ) (l : List ℕ) (j v : ℕ) → j < n → length l ≡ n → sumTo n (at (set l j v)) + at l j ≡ sumTo n (at l) + v
@@ -20,19 +21,19 @@ sumTo-set n l j v h e =
 
 -- The sum of part times payoff over a front fits.
 weighed-front : (row payoff : List ℕ) (i : ℕ) → WeighPre row payoff → i ≤ length row
-    → sumTo i (λ j. at row j * at payoff j) ≤ LARGEST * ONE
+    → sumTo i (λ j. at row j * at payoff j) ≤ MOST_PAYOFF * ONE
 weighed-front row payoff i w h =
     omega (
       arith,
       sumTo-front (λ j. at row j * at payoff j) (length row) i h,
-      sumTo-le (length row) (λ j. at row j * at payoff j) (λ j. at row j * LARGEST) (λ j l. mul-le-mul-left (at row j) (w .small j l)),
-      sumTo-scale (length row) (at row) LARGEST,
-      ap (λ s. s * LARGEST) (w .sums),
+      sumTo-le (length row) (λ j. at row j * at payoff j) (λ j. at row j * MOST_PAYOFF) (λ j l. mul-le-mul-left (at row j) (w .small j l)),
+      sumTo-scale (length row) (at row) MOST_PAYOFF,
+      ap (λ s. s * MOST_PAYOFF) (w .sums),
     )
 
 -- One more term of it.
 pub weighed-more : (row payoff : List ℕ) (i sum : ℕ) → WeighPre row payoff → i < length row → sum ≡ dot i (at row) (at payoff)
-    → (sum + at row i * at payoff i ≡ dot (i + 1) (at row) (at payoff)) × (sum + at row i * at payoff i ≤ LARGEST * ONE)
+    → (sum + at row i * at payoff i ≡ dot (i + 1) (at row) (at payoff)) × (sum + at row i * at payoff i ≤ MOST_PAYOFF * ONE)
 weighed-more row payoff i sum w h e =
     omega
     (arith, sumTo-more (λ j. at row j * at payoff j) i, weighed-front row payoff (i + 1) w (omega arith))

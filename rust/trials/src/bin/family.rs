@@ -50,13 +50,13 @@
 //!                                  high, filled with 7 beforehand
 //! ```
 //!
-//! The kinds of payoff, for class j from 1 to s (beyond s it is 4000000000):
+//! The kinds of payoff, for class j from 1 to s (beyond s it is 40000000000):
 //!
 //! ```text
-//! 0  100 x premium of j
+//! 0  1000 x premium of j
 //! 1  as 3, mod 3
-//! 2  as 3, but 1000000001 at class s
-//! 3  (618033989 x j + 271828183 x record number) mod 1000000001
+//! 2  as 3, but 10000000001 at class s
+//! 3  (6180339887 x j + 2718281828 x record number) mod 10000000001
 //! ```
 //!
 //! The classes and years named are asked in that order also where two of them

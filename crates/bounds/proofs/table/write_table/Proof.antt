@@ -5,11 +5,13 @@ use mathlib.Core.Path.{_≡_, sym, _∙_}
 use mathlib.Core.List.{List, _++_}
 use native.Mathlib.Omega.{arith}
 use lib.ListN.{length, take, drop}
+use Rattle.setchain.specs.Years.{meanFigure}
+use Rattle.scheme.specs.Access.{premiumAt}
+use Rattle.scheme.specs.Rows.{chainOf}
+use Rattle.bounds_spec.specs.Answers.{startOf}
 use Rattle.bounds_spec.specs.Causes.{tableSize}
-use Rattle.bounds.proofs.FrontLaws.{zeros}
 use Rattle.bounds.proofs.ListSchemeLaws.{lists-empty}
-use Rattle.bounds.proofs.TableLaws.{ColumnStored, column-stored, mean-ready, total-ready, last-fits, last-length, table-made}
-use Rattle.bounds.specs.Series.{startFigure}
+use Rattle.bounds.proofs.TableLaws.{ColumnStored, column-stored, total-ready, last-fits, last-length, table-made}
 use borrow.Author.Needs.{needs}
 use Rattle.bounds.proofs.table.write_table.Statement.{statement}
 use Rattle.bounds.proofs.table.write_table.Tie as tie
@@ -22,120 +24,128 @@ list-scheme-requires c κs =
 share-columns-requires : tie.Need-share-columns-requires
 share-columns-requires c κs = search needs
 
-widened-requires : tie.Need-widened-requires
-widened-requires c κs = search needs
-
-cast-years : tie.Need-cast-years
-cast-years c = search needs
+in-tenths-requires : tie.Need-in-tenths-requires
+in-tenths-requires c κs = search needs
 
 cast-mean : tie.Need-cast-mean
 cast-mean c = search needs
 
-add-series : tie.Need-add-series
-add-series c = search needs
+mul-mean-column : tie.Need-mul-mean-column
+mul-mean-column c = search needs
 
-mul-series : tie.Need-mul-series
-mul-series c = search needs
-
-sub-series : tie.Need-sub-series
-sub-series c =
-    let at-widened = c .before .before .before .before in
-    let at-share-columns = at-widened .before .before .before .before in
+sub-mean-column : tie.Need-sub-mean-column
+sub-mean-column c =
+    let at-in-tenths = c .before .before .before in
+    let at-share-columns = at-in-tenths .before .before .before .before in
     omega (arith, at-share-columns .share-columns .ensures .size)
 
-part-series-start : tie.Need-part-series-start
-part-series-start c = search needs
+part-mean-column-start : tie.Need-part-mean-column-start
+part-mean-column-start c = search needs
 
-part-series-end : tie.Need-part-series-end
-part-series-end c = search needs
+part-mean-column-end : tie.Need-part-mean-column-end
+part-mean-column-end c = search needs
 
-series-requires : tie.Need-series-requires
-series-requires c κs =
-    let at-widened = c .before .before .before .before .before in
-    let at-share-columns = at-widened .before .before .before .before in
+mean-column-requires : tie.Need-mean-column-requires
+mean-column-requires c κs =
+    let at-in-tenths = c .before .before .before .before in
+    let at-share-columns = at-in-tenths .before .before .before .before in
     let at-list-scheme = at-share-columns .before .before .before .before in
     let start = at-list-scheme .before .before .before .before in
-    (mean-ready (start .args .scheme) (start .pre .accepted) (at-widened .widened .ensures), at-list-scheme .list-scheme .ensures)
+    (record { accepted = start .pre .accepted; tenths = at-in-tenths .in-tenths .ensures }, at-list-scheme .list-scheme .ensures)
 
 -- The slice with the shares alone, and with the mean's column too.
-abbrev shares : tie.After-series → List ℕ
+abbrev shares : tie.After-mean-column → List ℕ
 shares c =
-    let at-share-columns = c .before .before .before .before .before .before .before .before .before .before in
+    let at-in-tenths = c .before .before .before .before .before in
+    let at-share-columns = at-in-tenths .before .before .before .before in
     at-share-columns .share-columns .last .1 .1 .1 .1 .0
 
-abbrev table : tie.After-series → List ℕ
+abbrev table : tie.After-mean-column → List ℕ
 table c =
-    let at-share-columns = c .before .before .before .before .before .before .before .before .before .before in
+    let at-in-tenths = c .before .before .before .before .before in
+    let at-share-columns = at-in-tenths .before .before .before .before in
     let start = at-share-columns .before .before .before .before .before .before .before .before in
     let n = start .args .scheme .classes in
-    take n (shares c) ++ (c .series .last .1 .1 .1 .1 .1 .1 .1 .1 .0 ++ drop (length (shares c) - n) (drop n (shares c)))
+    take n (shares c) ++ (c .mean-column .last .1 .1 .1 .1 .1 .0 ++ drop (length (shares c) - n) (drop n (shares c)))
 
-column : (c : tie.After-series)
-    → let at-widened = c .before .before .before .before .before .before in
-    let at-share-columns = at-widened .before .before .before .before in
+column : (c : tie.After-mean-column)
+    → let at-arg = c .before in
+    let at-in-tenths = at-arg .before .before .before .before in
+    let at-share-columns = at-in-tenths .before .before .before .before in
     let start = at-share-columns .before .before .before .before .before .before .before .before in
     let s = start .args .scheme in
-    ColumnStored s (startFigure (start .args .high) s zeros (at-widened .widened .result)) (s .classes) (shares c) (table c)
+    ColumnStored s (λ t. meanFigure (start .args .high) (chainOf s) (premiumAt s) t (startOf s)) (s .classes) (shares c) (table c)
 column c =
-    let at-share-columns = c .before .before .before .before .before .before .before .before .before .before in
+    let at-in-tenths = c .before .before .before .before .before in
+    let at-share-columns = at-in-tenths .before .before .before .before in
     let start = at-share-columns .before .before .before .before .before .before .before .before in
     column-stored (start .args .scheme) (start .args .scheme .classes) (shares c) _ (omega arith)
-    (at-share-columns .share-columns .ensures .size) (c .series .ensures .series)
+    (at-share-columns .share-columns .ensures .size) (c .mean-column .ensures)
 
-size : (c : tie.After-series)
-    → let at-share-columns = c .before .before .before .before .before .before .before .before .before .before in
+size : (c : tie.After-mean-column)
+    → let at-arg = c .before in
+    let at-in-tenths = at-arg .before .before .before .before in
+    let at-share-columns = at-in-tenths .before .before .before .before in
     let start = at-share-columns .before .before .before .before .before .before .before .before in
     length (table c) ≡ tableSize (start .args .scheme)
 size c =
-    let at-share-columns = c .before .before .before .before .before .before .before .before .before .before in
+    let at-in-tenths = c .before .before .before .before .before in
+    let at-share-columns = at-in-tenths .before .before .before .before in
     column c .size ∙ at-share-columns .share-columns .ensures .size
 
-sub-last : tie.Need-sub-last
-sub-last c =
-    let at-series = c .before .before in
-    omega (arith, size at-series)
+cast-years : tie.Need-cast-years
+cast-years c = search needs
 
 slice-aggregate-series : tie.Need-slice-aggregate-series
 slice-aggregate-series c = search needs
 
-series-requires-2 : tie.Need-series-requires-2
-series-requires-2 c κs =
-    let at-series = c .before .before .before .before .before in
-    let at-widened = at-series .before .before .before .before .before .before in
-    let at-share-columns = at-widened .before .before .before .before in
+series-requires : tie.Need-series-requires
+series-requires c κs =
+    let at-mean-column = c .before .before .before .before .before .before in
+    let at-in-tenths = at-mean-column .before .before .before .before .before in
+    let at-share-columns = at-in-tenths .before .before .before .before in
     let at-list-scheme = at-share-columns .before .before .before .before in
     let start = at-list-scheme .before .before .before .before in
-    (total-ready (start .args .scheme) (start .pre .accepted) (at-widened .widened .ensures), at-list-scheme .list-scheme .ensures)
+    (total-ready (start .args .scheme) (start .pre .accepted) (at-in-tenths .in-tenths .ensures), at-list-scheme .list-scheme .ensures)
+
+sub-last : tie.Need-sub-last
+sub-last c =
+    let at-mean-column = c .before .before .before .before .before .before .before .before in
+    omega (arith, size at-mean-column)
+
+round-requires : tie.Need-round-requires
+round-requires c κs = tt
 
 mul-out : tie.Need-mul-out
 mul-out c =
-    let at-series = c .before .before .before .before .before .before .before in
-    let at-share-columns = at-series .before .before .before .before .before .before .before .before .before .before in
+    let at-mean-column = c .before .before .before .before .before .before .before .before .before in
+    let at-in-tenths = at-mean-column .before .before .before .before .before in
+    let at-share-columns = at-in-tenths .before .before .before .before in
     let start = at-share-columns .before .before .before .before .before .before .before .before in
-    last-fits (start .args .scheme) (start .pre .accepted) (size at-series)
+    last-fits (start .args .scheme) (start .pre .accepted) (size at-mean-column)
 
 slice-write-out : tie.Need-slice-write-out
 slice-write-out c =
-    let at-series = c .before .before .before .before .before .before .before in
-    omega (arith, size at-series)
+    let at-mean-column = c .before .before .before .before .before .before .before .before .before in
+    omega (arith, size at-mean-column)
 
 same-length : tie.Need-same-length
 same-length c =
-    let at-series2 = c .before in
-    let at-series = at-series2 .before .before .before .before .before .before in
-    let at-share-columns = at-series .before .before .before .before .before .before .before .before .before .before in
+    let at-mean-column = c .before .before .before .before .before .before .before .before .before in
+    let at-in-tenths = at-mean-column .before .before .before .before .before in
+    let at-share-columns = at-in-tenths .before .before .before .before in
     let start = at-share-columns .before .before .before .before .before .before .before .before in
-    last-length (table at-series) (at-series2 .series2 .result) (size at-series ∙ sym (start .pre .size))
+    last-length (table at-mean-column) (c .round .result) (size at-mean-column ∙ sym (start .pre .size))
 
 returns : tie.Need-returns
 returns c =
-    let at-series2 = c .before in
-    let at-series = at-series2 .before .before .before .before .before .before in
-    let at-widened = at-series .before .before .before .before .before .before in
-    let at-share-columns = at-widened .before .before .before .before in
+    let at-series = c .before .before in
+    let at-mean-column = at-series .before .before .before .before .before .before .before in
+    let at-in-tenths = at-mean-column .before .before .before .before .before in
+    let at-share-columns = at-in-tenths .before .before .before .before in
     let start = at-share-columns .before .before .before .before .before .before .before .before in
-    table-made (start .args .scheme) (start .pre .accepted) (at-widened .widened .ensures) (at-share-columns .share-columns .ensures) (column at-series)
-    (at-series2 .series2 .result) (at-series2 .series2 .ensures .figure)
+    table-made (start .args .scheme) (start .pre .accepted) (at-in-tenths .in-tenths .ensures) (at-share-columns .share-columns .ensures) (column at-mean-column)
+    (c .round .result) (at-series .series .ensures .figure) (c .round .ensures)
 
 pub write-table-spec : {M : Type 1} → statement M
 write-table-spec =
@@ -143,18 +153,18 @@ write-table-spec =
     (tie.spec
     list-scheme-requires
     share-columns-requires
-    widened-requires
-    cast-years
+    in-tenths-requires
     cast-mean
-    add-series
-    mul-series
-    sub-series
-    part-series-start
-    part-series-end
+    mul-mean-column
+    sub-mean-column
+    part-mean-column-start
+    part-mean-column-end
+    mean-column-requires
+    cast-years
+    slice-aggregate-series
     series-requires
     sub-last
-    slice-aggregate-series
-    series-requires-2
+    round-requires
     mul-out
     slice-write-out
     same-length

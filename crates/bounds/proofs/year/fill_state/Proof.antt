@@ -6,7 +6,7 @@ use native.Mathlib.Omega.{arith}
 use lib.ListN.{length}
 use Rattle.setchain.specs.Rows.{ONE}
 use Rattle.setchain.specs.Sums.{at}
-use Rattle.step.specs.Figure.{LARGEST}
+use Rattle.step_spec.specs.StepAnswer.{MOST_PAYOFF}
 use Rattle.bounds.specs.Entries.{lowerEnds, capacities}
 use Rattle.bounds.proofs.FillStateLaws.{EntriesTaken, entries-none, row-inside, entry-fits, entries-more, entries-all}
 use Rattle.bounds.proofs.year.fill_state.Statement.{statement}
@@ -61,7 +61,7 @@ fits : (c : tie.After-sums Inv-loop μ-loop)
     let start = at-loop .before .before .before in
     let a = start .args in
     let l = at-loop .loop in
-    at (l .sums) (at (a .entries .now) (l .e)) + (at (a .entries .now) (lowerEnds + l .e) + c .before .smaller .result) * a .payoff ≤ LARGEST * ONE
+    at (l .sums) (at (a .entries .now) (l .e)) + (at (a .entries .now) (lowerEnds + l .e) + c .before .smaller .result) * a .payoff ≤ MOST_PAYOFF * ONE
 fits c =
     let at-smaller = c .before in
     let at-loop = at-smaller .before .before .before .before .before in

@@ -3,11 +3,12 @@
 use Prim.Native.Nat.{_-_}
 use native.Mathlib.Omega.{arith}
 use Rattle.scheme.specs.Laws.Limits.{NoneAbove, above-none, above-more, above-found, above-end}
+use Rattle.step_spec.specs.StepAnswer.{MOST_PAYOFF}
 use Rattle.step.proofs.answer.payoff_cause.Statement.{statement}
 use Rattle.step.proofs.answer.payoff_cause.Tie as tie
 
 abbrev Inv-loop : tie.InvT-loop
-Inv-loop payoff classes n i₀ i = NoneAbove 1000000000 payoff n i
+Inv-loop payoff classes n i₀ i = NoneAbove MOST_PAYOFF payoff n i
 
 abbrev μ-loop : tie.MeasureT-loop
 μ-loop payoff classes n i₀ i = n - i
@@ -24,7 +25,7 @@ shared-slice-read-if1 c = omega arith
 returns : tie.Need-returns Inv-loop μ-loop
 returns c =
     let at-loop = c .before .before .before in
-    above-found (at-loop .loop .inv) (omega arith) (c .if1 .taken)
+    above-found (at-loop .loop .inv) (omega arith) (omega (arith, c .if1 .taken))
 
 add-i : tie.Need-add-i Inv-loop μ-loop
 add-i c = omega arith

@@ -7,7 +7,7 @@ use lib.ListN.{length}
 use Rattle.setchain.specs.Sums.{at, dot}
 use Rattle.setchain.specs.Rows.{ONE}
 use Rattle.setchain.specs.Laws.Sums.{total-start}
-use Rattle.step.specs.Figure.{LARGEST}
+use Rattle.step_spec.specs.StepAnswer.{MOST_PAYOFF}
 use Rattle.step.specs.Laws.Sums.{weighed-more}
 use Rattle.step.proofs.figure.weigh.Statement.{statement}
 use Rattle.step.proofs.figure.weigh.Tie as tie
@@ -24,7 +24,7 @@ one-more : (c : tie.In-loop Inv-loop μ-loop)
     let a = at-loop .before .args in
     let l = at-loop .loop in
     let t = l .sum + at (a .row .now) (l .j) * at (a .payoff .now) (l .j) in
-    (t ≡ dot (l .j + 1) (at (a .row .now)) (at (a .payoff .now))) × (t ≤ LARGEST * ONE)
+    (t ≡ dot (l .j + 1) (at (a .row .now)) (at (a .payoff .now))) × (t ≤ MOST_PAYOFF * ONE)
 one-more c =
     let at-loop = c .before in
     let start = at-loop .before in

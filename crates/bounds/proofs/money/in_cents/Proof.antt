@@ -1,0 +1,42 @@
+-- `in_cents` rounds both figures outward, and hands a refusal on.
+-- Assumes nothing.
+use mathlib.Core.Path.{ap, ap₂, sym, _∙_}
+use Rattle.bounds_spec.specs.declared.Bounds.the-variants.{Answered}
+use Rattle.bounds.specs.Money.{inCents}
+use borrow.Author.Needs.{needs}
+use Rattle.bounds.proofs.money.in_cents.Statement.{statement}
+use Rattle.bounds.proofs.money.in_cents.Tie as tie
+
+enum-known-tenths : tie.Need-enum-known-tenths
+enum-known-tenths c = search needs
+
+round-requires : tie.Need-round-requires
+round-requires c κs = tt
+
+round-requires-2 : tie.Need-round-requires-2
+round-requires-2 c κs = tt
+
+enum-known-tenths-2 : tie.Need-enum-known-tenths-2
+enum-known-tenths-2 c = search needs
+
+returns : tie.Need-returns
+returns c =
+    let at-round = c .before in
+    let at-match = at-round .before .before in
+    ap₂ Answered (at-round .round .ensures) (c .round2 .ensures) ∙ sym (ap inCents (at-match .tenths .given .1))
+
+returns-2 : tie.Need-returns-2
+returns-2 c =
+    let at-match = c .before in
+    sym (ap inCents (at-match .tenths2 .given .1))
+
+pub in-cents-spec : {M : Type 1} → statement M
+in-cents-spec =
+    tie.close
+    (tie.spec
+    enum-known-tenths
+    round-requires
+    round-requires-2
+    enum-known-tenths-2
+    returns
+    returns-2)
