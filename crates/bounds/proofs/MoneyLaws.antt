@@ -21,6 +21,7 @@ use Rattle.bounds_spec.specs.Answers.{answerBy}
 use Rattle.bounds.specs.Years.{SeriesStored}
 use Rattle.bounds.specs.Money.{TenthsPost, inCents, RoundMeansPost}
 
+-- All premiums written in tenths.
 pub tenths-all : {premiums out : List ℕ} {i : ℕ} → 32 ≤ i → Written 32 (tenths (at premiums)) out i → TenthsPost premiums out
 tenths-all h w = record { each = λ k l. w .done k (omega arith) }
 
@@ -37,7 +38,7 @@ pub record Rounded (high : Bool) (stride : ℕ) (before after : List ℕ) (place
   pub years : ℕ
   pub next : place ≡ years * stride
   pub size : length after ≡ length before
-  pub done : (u : ℕ) → u < years → u * stride < length before → at after (u * stride) ≡ rounded high CENT (at before (u * stride))
+  pub done : (u : ℕ) → u < years → at after (u * stride) ≡ rounded high CENT (at before (u * stride))
   pub rest : (p : ℕ) → ((u : ℕ) → u < years → p ≡ u * stride → ⊥) → at after p ≡ at before p
 
 -- Places of different years are different.
@@ -55,28 +56,28 @@ module _ {high : Bool} {stride : ℕ} {before : List ℕ} where
         years = suc (w .years);
         next = omega (arith, w .next);
         size = length-set after place v ∙ w .size;
-        done = λ u g h. by u h (eq-or-lt-of-le (le-of-suc-le-suc g));
+        done = λ u g. by u (eq-or-lt-of-le (le-of-suc-le-suc g));
         rest = λ p h. getD-set-other after place p v 0 (λ g. h (w .years) (omega arith) (g ∙ w .next)) ∙ w .rest p (λ u g. h u (omega arith));
       }
     where
       untouched : at after place ≡ at before place
       untouched = w .rest place (λ u g k. places-apart stride u (w .years) positive g (sym k ∙ w .next))
 
-      by : (u : ℕ) → u * stride < length before → (u ≡ w .years) ⊎ (u < w .years) → at (set after place v) (u * stride) ≡ rounded high CENT (at before (u * stride))
-      by u h (inl z) =
+      by : (u : ℕ) → (u ≡ w .years) ⊎ (u < w .years) → at (set after place v) (u * stride) ≡ rounded high CENT (at before (u * stride))
+      by u (inl z) =
           let here : u * stride ≡ place = ap (λ y. y * stride) z ∙ sym (w .next) in
           ap (at (set after place v)) here
           ∙ getD-set-same after place v 0 l
           ∙ e
           ∙ ap (rounded high CENT) (untouched ∙ ap (at before) (sym here))
-      by u h (inr g) =
-          getD-set-other after place (u * stride) v 0 (λ k. places-apart stride u (w .years) positive g (k ∙ w .next)) ∙ w .done u g h
+      by u (inr g) =
+          getD-set-other after place (u * stride) v 0 (λ k. places-apart stride u (w .years) positive g (k ∙ w .next)) ∙ w .done u g
 
   pub rounded-all : {after : List ℕ} {place : ℕ} → length after ≤ place → Rounded high stride before after place → RoundMeansPost high stride before after
   rounded-all l w =
       record {
         size = w .size;
-        own = λ u h. w .done u (lt-of-mul-lt-mul-right stride (omega (arith, w .next, w .size))) h;
+        own = λ u h. w .done u (lt-of-mul-lt-mul-right stride (omega (arith, w .next, w .size)));
         other = λ p h. w .rest p (λ u g. h u);
       }
 

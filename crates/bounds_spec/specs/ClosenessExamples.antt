@@ -1,17 +1,16 @@
--- What "less than one cent plus t tenths" allows and forbids (document 02, item 6), on schemes whose exact mean of year 1 is known: just nearer, and exactly that far;
--- and the largest total.
-use Prim.Native.Nat.{ℕ, zero, suc, _+_, _*_, _≤_, _<_}
+-- What "less than one cent plus t tenths" allows and forbids (document 02, item 6), on schemes whose exact mean of year 1 is known: just nearer, and exactly that far.
+use Prim.Native.Nat.{ℕ, _+_, _*_, _≤_, _<_}
 use mathlib.Core.Path.{_≡_, refl}
-use mathlib.Core.Bool.{Bool, true, false}
+use mathlib.Core.Bool.{true, false}
 use mathlib.Core.List.{List, [], _∷_}
 use native.Mathlib.Omega.{arith}
 use native.Mathlib.Nat.{mul-le-mul-right}
 use Rattle.setchain.specs.Sums.{at, sumTo, onlyIf}
 use Rattle.setchain.specs.Tests.{anyBelow}
 use Rattle.setchain.specs.Fractions.{whole, _⊗_, sumFractions}
-use Rattle.setchain.specs.Rows.{Row, Inside, SetChain, SoundChain}
+use Rattle.setchain.specs.Rows.{Row, Inside, SoundChain}
 use Rattle.setchain.specs.Step.{capacityBefore, fillRow, stepFigure}
-use Rattle.setchain.specs.Years.{yearsFigure, tenths, meanTenths, lowMean, highMean, totalTenths}
+use Rattle.setchain.specs.Years.{yearsFigure, CENT, meanTenths, lowMean, highMean}
 use Rattle.setchain.specs.Picks.{Matrix, none, also, PicksFor, product, exactMean}
 use Rattle.setchain.specs.Promise.{Between}
 use Rattle.setchain.specs.Laws.Sums.{below-two}
@@ -20,13 +19,12 @@ use Rattle.scheme.specs.declared.Scheme.{Scheme}
 use Rattle.scheme.specs.Access.{premiumAt}
 use Rattle.scheme.specs.Cause.{sizeOut, startOut, horizonOut, ruleOut, bandOut, sumOut, premiumOut, causeOf}
 use Rattle.scheme.specs.Rows.{chainOf}
-use Rattle.scheme.specs.Examples.{single}
 use Rattle.scheme.specs.Laws.Judged.{accepted-cause}
 use Rattle.scheme.specs.Laws.Sound.{accepted-sound}
 use Rattle.bounds_spec.specs.declared.Bounds.the-variants.{Answered}
 use Rattle.bounds_spec.specs.Answers.{startOf}
 use Rattle.bounds_spec.specs.Promises.{startMean, MeanPromise}
-use Rattle.bounds_spec.specs.Examples.{fixedBands, only-step}
+use Rattle.bounds_spec.specs.Examples.{fixedBands}
 
 -- A row over a hundred, and picks for one year that have it for both classes.
 abbrev hundredth : (first second : ℕ) → Row
@@ -57,7 +55,7 @@ module _ {s : Scheme} (fixed : Fixed s) where
 
   -- The exact mean in tenths, whatever is picked.
   exact-tenths : (ps : List Matrix) → PicksFor (chainOf s) 1 ps
-      → Between (meanTenths false (chainOf s) (premiumAt s) 1 (startOf s)) (meanTenths true (chainOf s) (premiumAt s) 1 (startOf s)) (startMean s ps ⊗ whole 10)
+      → Between (meanTenths false (chainOf s) (premiumAt s) 1 (startOf s)) (meanTenths true (chainOf s) (premiumAt s) 1 (startOf s)) (startMean s ps ⊗ whole CENT)
   exact-tenths ps picks = mean-tenths (chainOf s) sound (premiumAt s) 1 .contains ps picks (startOf s) within
 
   -- What contains 10 to 11 contains it.
@@ -110,16 +108,3 @@ money-edges =
             highClose = record { picks = hundredths 9 91; made = picks-fixed 9 91 refl; close = record { under = omega arith; over = omega arith } };
           };
     }
-
--- With one class every total in tenths is exact.
-only-total : (high : Bool) (c : SetChain) (sound : SoundChain c) → c .states ≡ 1 → (premium : ℕ → ℕ) (t : ℕ) → totalTenths high c premium t 0 ≡ t * tenths premium 0
-unfolding yearsFigure
-only-total high c sound one premium zero = omega arith
-only-total high c sound one premium (suc t) = omega (arith, only-step high c sound one (totalTenths high c premium t), only-total high c sound one premium t)
-
--- 100 years of the largest premium: 10,000,000,000 tenths, which is the payoff limit of the one-year step.
-pub largest-total : (high : Bool) → let s = single 1 0 1000000000 10000000 in totalTenths high (chainOf s) (premiumAt s) 100 0 ≡ 10000000000
-unfolding causeOf sizeOut startOut horizonOut ruleOut bandOut sumOut premiumOut anyBelow sumTo
-largest-total high =
-    let s = single 1 0 1000000000 10000000 in
-    only-total high (chainOf s) (accepted-sound s (accepted-cause s refl)) refl (premiumAt s) 100

@@ -11,7 +11,7 @@ use Rattle.setchain.specs.Tests.{anyBelow}
 use Rattle.setchain.specs.Rows.{ONE, IntervalRow, SoundRow, SetChain, SoundChain}
 use Rattle.setchain.specs.Rounding.{rounded}
 use Rattle.setchain.specs.Step.{capacityBefore, fillRow, extremeRow, stepFigure}
-use Rattle.setchain.specs.Years.{yearsFigure, shareFigure}
+use Rattle.setchain.specs.Years.{yearsFigure, shareFigure, tenths, totalTenths}
 use Rattle.setchain.specs.Examples.{StepExamples, step-examples}
 use Rattle.setchain.specs.Laws.Step.{extreme-parts}
 use Rattle.scheme.specs.declared.Scheme.{Scheme}
@@ -20,11 +20,12 @@ use Rattle.scheme.specs.Accepted.{Accepted}
 use Rattle.scheme.specs.FirstCause.{orElse}
 use Rattle.scheme.specs.Cause.{outside, sizeOut, startOut, horizonOut, ruleOut, bandOut, sumOut, premiumOut, causeOf, classCause, yearCause}
 use Rattle.scheme.specs.Rows.{chainOf}
-use Rattle.scheme.specs.Examples.{padded, schemeA, RowsA, rows-a}
+use Rattle.scheme.specs.Access.{premiumAt}
+use Rattle.scheme.specs.Examples.{padded, schemeA, single, RowsA, rows-a}
 use Rattle.scheme.specs.RowExamples.{RowAnswersA, row-answers-a}
 use Rattle.scheme.specs.Laws.FirstCause.{answered, second-cause, cond-false}
 use Rattle.scheme.specs.Laws.Cause.{inside-outside}
-use Rattle.scheme.specs.Laws.Judged.{cause-accepted}
+use Rattle.scheme.specs.Laws.Judged.{accepted-cause, cause-accepted}
 use Rattle.scheme.specs.Laws.Sound.{accepted-sound}
 use Rattle.bounds_spec.specs.declared.Bounds.the-variants.{Answered, Refused}
 use Rattle.bounds_spec.specs.Answers.{startOf, shareAnswer, meanAnswer, totalAnswer, figureShares, lowShares, highShares}
@@ -62,7 +63,7 @@ one-step high r sound f =
     ap (rounded high ONE) units ∙ rounded-units high (f 0)
 
 module _ (high : Bool) (c : SetChain) (sound : SoundChain c) (one : c .states ≡ 1) where
-  pub only-step : (f : ℕ → ℕ) → stepFigure high (c .states) (c .row 0) f ≡ f 0
+  only-step : (f : ℕ → ℕ) → stepFigure high (c .states) (c .row 0) f ≡ f 0
   only-step f =
       subst (λ n. SoundRow n (c .row 0) → stepFigure high n (c .row 0) f ≡ f 0) (sym one) (λ w. one-step high (c .row 0) w f) (sound 0 (omega arith))
 
@@ -70,6 +71,19 @@ module _ (high : Bool) (c : SetChain) (sound : SoundChain c) (one : c .states �
   unfolding yearsFigure onlyIf
   only-share zero = refl
   only-share (suc t) = omega (arith, only-step (shareFigure high c 0 t), only-share t)
+
+  only-total : (premium : ℕ → ℕ) (t : ℕ) → totalTenths high c premium t 0 ≡ t * tenths premium 0
+  unfolding yearsFigure
+  only-total premium zero = omega arith
+  only-total premium (suc t) = omega (arith, only-step (totalTenths high c premium t), only-total premium t)
+
+-- 100 years of the largest premium: 10,000,000,000 tenths, which is the payoff limit of the one-year step (document 02, item 6).
+abbrev dearest : Scheme
+dearest = single 1 0 1000000000 10000000
+
+pub largest-total : (high : Bool) → totalTenths high (chainOf dearest) (premiumAt dearest) 100 0 ≡ 10000000000
+unfolding causeOf sizeOut startOut horizonOut ruleOut bandOut sumOut premiumOut anyBelow sumTo
+largest-total high = only-total high (chainOf dearest) (accepted-sound dearest (accepted-cause dearest refl)) refl (premiumAt dearest) 100
 
 -- A call for a class and a year that are there.
 no-year-cause : (s : Scheme) (t : ℕ) → t ≤ s .horizon → yearCause s t ≡ 0

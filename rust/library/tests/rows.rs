@@ -162,8 +162,8 @@ fn damaged() {
     }
 }
 
-/// The picks made of the rows that the library's own steps hand back come
-/// within t of its bounds.
+/// The picks made of the rows that the library's own steps hand back come close
+/// to its bounds.
 #[test]
 fn extreme_picks_come_close() {
     let mut rng = Rng::new(133);

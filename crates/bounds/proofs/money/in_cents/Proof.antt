@@ -1,6 +1,9 @@
 -- `in_cents` rounds both figures outward, and hands a refusal on.
 -- Assumes nothing.
-use mathlib.Core.Path.{ap, ap₂, sym, _∙_}
+use mathlib.Core.Path.{_≡_, ap, ap₂, sym, _∙_}
+use mathlib.Core.Bool.{true, false}
+use Rattle.setchain.specs.Rounding.{rounded}
+use Rattle.setchain.specs.Years.{CENT}
 use Rattle.bounds_spec.specs.declared.Bounds.the-variants.{Answered}
 use Rattle.bounds.specs.Money.{inCents}
 use borrow.Author.Needs.{needs}
@@ -23,7 +26,10 @@ returns : tie.Need-returns
 returns c =
     let at-round = c .before in
     let at-match = at-round .before .before in
-    ap₂ Answered (at-round .round .ensures) (c .round2 .ensures) ∙ sym (ap inCents (at-match .tenths .given .1))
+    let figures = at-match .tenths .given .0 in
+    let least : at-round .round .result ≡ rounded false CENT (figures .0) = at-round .round .ensures in
+    let most : c .round2 .result ≡ rounded true CENT (figures .1 .0) = c .round2 .ensures in
+    ap₂ Answered least most ∙ sym (ap inCents (at-match .tenths .given .1))
 
 returns-2 : tie.Need-returns-2
 returns-2 c =
