@@ -7,8 +7,9 @@
  * 3 s or m out of range, 4 a wrong length, 5 start, 6 horizon, 7 a rule,
  * 8 a band, 9 the bands' sums, 10 a premium or a payoff, 11 the class asked
  * for, 12 the year asked for, 13 a lent buffer, 14 the ready scheme's number,
- * 15 the base, 16 no count of years to 1,024 that mixes. Cause 13 is tested
- * last, also after 14, 15 and 16.
+ * 15 the base, 16 no count of years to 1,024 that mixes, 18 a count of a book
+ * above 1,000,000, 19 a book without a chamber. Cause 13 is tested last, also
+ * after 14 to 19.
  *
  * Lent buffers are filled only where the answer is 0, and otherwise left as
  * they were. A buffer passes as a pointer and its length in elements. A
@@ -51,6 +52,55 @@ uint8_t joguyvi_share_sheet(const uint8_t *bytes, size_t bytes_length,
                             uint64_t year,
                             uint64_t *low, size_t low_length,
                             uint64_t *high, size_t high_length);
+
+/* A book says how many chambers begin in each class: 32 counts, that of class i
+ * at i - 1. The pooled figures below are the mean of the figures of all classes,
+ * weighed by these counts and rounded once, low down and high up; counts beyond
+ * s are ignored. A count up to s above 1,000,000 is 18, and 19 is told where
+ * all of them are 0. A book of another length than 32 is 13; before that, counts
+ * that it lacks are taken for 0, and what it has beyond 32 is left out.
+ *
+ * With the same probabilities of each year for the whole book, none inside the
+ * bands lead outside low and high; for each of the two some come within one
+ * part, and one for each year, or, for money, nearer than one cent and a tenth
+ * for each year. A book of one chamber in the start class gives the figures of
+ * joguyvi_share, joguyvi_mean, joguyvi_total and joguyvi_share_sheet. */
+
+/* The share of a class, 1 to s, after a number of years, pooled over a book, in
+ * parts of 1,000,000,000: low and high into `out`, of 2 numbers. */
+uint8_t joguyvi_pooled_share(const uint8_t *bytes, size_t bytes_length,
+                             const uint32_t *book, size_t book_length,
+                             uint64_t class_number, uint64_t year,
+                             uint64_t *out, size_t out_length);
+
+/* The mean premium of a year, pooled over a book, in cents: low and high into
+ * `out`, of 2 numbers. The figures of the classes enter in tenths of a cent. */
+uint8_t joguyvi_pooled_mean(const uint8_t *bytes, size_t bytes_length,
+                            const uint32_t *book, size_t book_length,
+                            uint64_t year,
+                            uint64_t *out, size_t out_length);
+
+/* The total of as many premiums as there are years, pooled over a book, in
+ * cents: low and high into `out`, of 2 numbers. It is a mean too: the premiums
+ * of one chamber. */
+uint8_t joguyvi_pooled_total(const uint8_t *bytes, size_t bytes_length,
+                             const uint32_t *book, size_t book_length,
+                             uint64_t year,
+                             uint64_t *out, size_t out_length);
+
+/* The shares of all classes after a number of years, pooled over a book, in
+ * parts: `low` and `high` are of s numbers each. */
+uint8_t joguyvi_pooled_share_sheet(const uint8_t *bytes, size_t bytes_length,
+                                   const uint32_t *book, size_t book_length,
+                                   uint64_t year,
+                                   uint64_t *low, size_t low_length,
+                                   uint64_t *high, size_t high_length);
+
+/* Two books joined: all 32 counts added, into `out`, of 32 counts. A count of
+ * either book, or a joined one, above 1,000,000 is 18; no sum wraps round. */
+uint8_t joguyvi_join(const uint32_t *first, size_t first_length,
+                     const uint32_t *second, size_t second_length,
+                     uint32_t *out, size_t out_length);
 
 /* The sheet's text of any bytes into `out`, from the front on, and its length
  * into `length`, of 1 number. The line REFUSED of bytes that are not read is a

@@ -11,9 +11,11 @@ pub mod YearsLaws
 pub mod SeriesLaws
 pub mod PayoffsLaws
 pub mod MoneyLaws
+pub mod PooledLaws
 pub mod StartBoundsLaws
 pub mod SlicesLaws
 pub mod SheetLaws
+pub mod PooledBoundsLaws
 pub mod ShareSheetLaws
 pub mod TableLaws
 pub mod FiguresLaws

@@ -13,6 +13,8 @@ use borrow.Author.Tests.{eq-eqb, ne-eqb}
 use Rattle.setchain.specs.Rows.{ONE}
 use Rattle.setchain.specs.Rounding.{rounded}
 use Rattle.setchain.specs.Years.{yearsFigure, nothing, sharePayoff, shareFigure, CENT, tenths, meanFigure, totalFigure}
+use Rattle.setchain.specs.Pooled.{pooledFigure}
+use Rattle.setchain.specs.Laws.Pooled.{pooled-agree}
 use Rattle.setchain.specs.Laws.Sums.{onlyIf-le, onlyIf-true, onlyIf-false}
 use Rattle.setchain.specs.Laws.Agreeing.{agree-refl, years-agree}
 use Rattle.scheme.specs.declared.Scheme.{Scheme}
@@ -22,10 +24,12 @@ use Rattle.scheme.specs.Rows.{chainOf}
 use Rattle.setchain.specs.Sums.{at}
 use Rattle.step_spec.specs.StepAnswer.{MOST_PAYOFF}
 use Rattle.bounds_spec.specs.Answers.{startOf}
+use Rattle.bounds_spec.specs.Pooled.{Figure, pooled}
 use Rattle.bounds.specs.Years.{FiguresFit}
 use Rattle.bounds.specs.Series.{SharePayoffPost, startFigure}
 use Rattle.bounds.specs.Money.{TenthsPost}
 use Rattle.bounds.specs.Sheets.{shareOf}
+use Rattle.bounds.specs.Pooled.{pooledYears}
 use Rattle.bounds.proofs.FrontLaws.{zeros}
 
 -- An array of zeros with ONE at a class is its share's payoff.
@@ -61,12 +65,16 @@ module _ (s : Scheme) (ok : Accepted s) where
         small = omega arith;
       }
 
-  -- Payoffs and gains in arrays, and as functions of the state.
-  as-functions : (high : Bool) (gain payoff : List ℕ) (g f : ℕ → ℕ) (t : ℕ) → ((j : ℕ) → j < 32 → at payoff j ≡ f j) → ((j : ℕ) → j < 32 → at gain j ≡ g j)
-      → startFigure high s gain payoff t ≡ yearsFigure high (chainOf s) f g t (startOf s)
-  as-functions high gain payoff g f t p q =
-      years-agree refl (λ i l. agree-refl (s .classes) (chainOf s .row i)) (λ j l. p j (below-32 j l)) (λ j l. q j (below-32 j l)) high t (startOf s)
-      (omega (arith, ok .start .positive, ok .start .within))
+  -- Payoffs and gains in arrays, and as functions of the state: of the start class, and pooled.
+  module _ (high : Bool) (gain payoff : List ℕ) (g f : ℕ → ℕ) (t : ℕ) (p : (j : ℕ) → j < 32 → at payoff j ≡ f j) (q : (j : ℕ) → j < 32 → at gain j ≡ g j) where
+    class-functions : (i : ℕ) → i < s .classes → yearsFigure high (chainOf s) (at payoff) (at gain) t i ≡ yearsFigure high (chainOf s) f g t i
+    class-functions = years-agree refl (λ i l. agree-refl (s .classes) (chainOf s .row i)) (λ j l. p j (below-32 j l)) (λ j l. q j (below-32 j l)) high t
+
+    as-functions : startFigure high s gain payoff t ≡ yearsFigure high (chainOf s) f g t (startOf s)
+    as-functions = class-functions (startOf s) (omega (arith, ok .start .positive, ok .start .within))
+
+    pooled-functions : (book : List ℕ) (units : ℕ) → pooledYears high s book units gain payoff t ≡ pooledFigure high units (s .classes) (at book) (yearsFigure high (chainOf s) f g t)
+    pooled-functions book units = pooled-agree high units (s .classes) (at book) (at book) _ _ (λ j l. refl) class-functions
 
   -- The share of a class.
   module _ {class : ℕ} {payoff : List ℕ} (held : SharePayoffPost class payoff) (positive : 1 ≤ class) (inside : class ≤ 32) (t : ℕ) where
@@ -75,6 +83,9 @@ module _ (s : Scheme) (ok : Accepted s) where
 
     pub share-figure : (high : Bool) → startFigure high s zeros payoff t ≡ shareFigure high (chainOf s) (class - 1) t (startOf s)
     share-figure high = as-functions high zeros payoff nothing (sharePayoff (class - 1)) t (held .each positive inside) zero-at
+
+    pub pooled-share-is : (high : Bool) (book : List ℕ) → pooledYears high s book 1 zeros payoff t ≡ pooled high s book (Figure.share class) t
+    pooled-share-is high book = pooled-functions high zeros payoff nothing (sharePayoff (class - 1)) t (held .each positive inside) zero-at book 1
 
   -- The share of the class of state j.
   module _ {j : ℕ} {payoff : List ℕ} (held : SharePayoffPost (j + 1) payoff) (inside : j < s .classes) (t : ℕ) where
@@ -86,6 +97,9 @@ module _ (s : Scheme) (ok : Accepted s) where
         let again : j + 1 - 1 ≡ j = omega arith in
         share-figure held (omega arith) (omega (arith, below-32 j inside)) t high ∙ ap (shareOf high s t) again
 
+    pub pooled-state-is : (high : Bool) (book : List ℕ) → pooledYears high s book 1 zeros payoff t ≡ pooled high s book (Figure.share (j + 1)) t
+    pooled-state-is = pooled-share-is held (omega arith) (omega (arith, below-32 j inside)) t
+
   -- The mean premium, and the total of premiums, where an array holds the premiums in tenths.
   module _ {premiums : List ℕ} (are : TenthsPost (s .premiums) premiums) (t : ℕ) where
     premium-most : (j : ℕ) → j < s .classes → at premiums j ≤ 100000000
@@ -96,6 +110,9 @@ module _ (s : Scheme) (ok : Accepted s) where
 
     pub mean-figure : (high : Bool) → rounded high CENT (startFigure high s zeros premiums t) ≡ meanFigure high (chainOf s) (premiumAt s) t (startOf s)
     mean-figure high = ap (rounded high CENT) (as-functions high zeros premiums nothing (tenths (premiumAt s)) t (are .each) zero-at)
+
+    pub pooled-mean-is : (high : Bool) (book : List ℕ) → pooledYears high s book CENT zeros premiums t ≡ pooled high s book Figure.mean t
+    pooled-mean-is high book = pooled-functions high zeros premiums nothing (tenths (premiumAt s)) t (are .each) zero-at book CENT
 
     -- 100 years of the largest premium reach the limit.
     pub total-fits : t ≤ 100 → FiguresFit (s .classes) premiums zeros t
@@ -111,3 +128,6 @@ module _ (s : Scheme) (ok : Accepted s) where
 
     pub total-figure : (high : Bool) → rounded high CENT (startFigure high s premiums zeros t) ≡ totalFigure high (chainOf s) (premiumAt s) t (startOf s)
     total-figure high = ap (rounded high CENT) (as-functions high premiums zeros (tenths (premiumAt s)) nothing t zero-at (are .each))
+
+    pub pooled-total-is : (high : Bool) (book : List ℕ) → pooledYears high s book CENT premiums zeros t ≡ pooled high s book Figure.total t
+    pooled-total-is high book = pooled-functions high premiums zeros (tenths (premiumAt s)) nothing t zero-at (are .each) book CENT

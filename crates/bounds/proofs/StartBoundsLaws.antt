@@ -31,19 +31,19 @@ use Rattle.bounds.proofs.MoneyLaws.{cents-answer}
 use Rattle.bounds_spec.specs.Causes.{shareCause, moneyCause}
 
 -- Answers with the same cause are the same, where their figures are.
-answer-same : {n m low high low′ high′ : ℕ} → n ≡ m → (n ≡ 0 → low ≡ low′) → (n ≡ 0 → high ≡ high′) → answerBy n low high ≡ answerBy m low′ high′
+pub answer-same : {n m low high low′ high′ : ℕ} → n ≡ m → (n ≡ 0 → low ≡ low′) → (n ≡ 0 → high ≡ high′) → answerBy n low high ≡ answerBy m low′ high′
 answer-same e p q = by-cause e (λ z. ap₂ Answered (p z) (q z)) (ap Refused e)
 
 -- An answer keeps the promise that the definition's answer keeps.
-with-promise : (P : Bounds → Type 0) {a r : Bounds} → P a → r ≡ a → (r ≡ a) × P r
+pub with-promise : (P : Bounds → Type 0) {a r : Bounds} → P a → r ≡ a → (r ≡ a) × P r
 with-promise P kept e = (e, subst P (sym e) kept)
 
 -- The share of a class.
 module _ (s : Scheme) (class year : ℕ) {n : ℕ} (e : n ≡ shareCause s class year) where
-  share-accepted : n ≡ 0 → Accepted s
+  pub share-accepted : n ≡ 0 → Accepted s
   share-accepted z = accepted-cause s (first-none (causeOf s) (orElse (classCause s class) (yearCause s year)) (sym e ∙ z))
 
-  class-inside : n ≡ 0 → (1 ≤ class) × (class ≤ 32)
+  pub class-inside : n ≡ 0 → (1 ≤ class) × (class ≤ 32)
   class-inside z =
       let inside : (1 ≤ class) × (class ≤ s .classes) =
       outside-false (s .classes) class

@@ -9,7 +9,7 @@ use native.Mathlib.Nat.{le-trans, mul-le-mul-right}
 use lib.ListN.{length, set, length-set}
 use lib.Seq.{getD-set-same, getD-set-other}
 use borrow.Author.Count.{below-more}
-use Rattle.setchain.specs.Rows.{SetChain}
+use Rattle.setchain.specs.Rows.{SetChain, SoundChain}
 use Rattle.setchain.specs.Years.{yearsFigure}
 use Rattle.setchain.specs.Laws.Agreeing.{agree-refl, step-agrees}
 use Rattle.setchain.specs.Laws.Step.{years-at-most}
@@ -50,6 +50,12 @@ fits-less w u fewer =
       small = w .small;
     }
 
+-- Figures that fit are not too large.
+pub figures-small : {gain payoff : List ℕ} {t : ℕ} (high : Bool) (c : SetChain) → SoundChain c → FiguresFit (c .states) gain payoff t
+    → (i : ℕ) → i < c .states → yearsFigure high c (at payoff) (at gain) t i ≤ MOST_PAYOFF
+figures-small {gain} {payoff} {t} high c sound w i l =
+    le-trans (years-at-most high c sound (at payoff) (at gain) (w .payoffMost) (w .gainMost) (w .payoffs) (w .gains) t i l) (w .figures)
+
 module _ {entries slack gain order payoff : List ℕ} {t state stride : ℕ} (w : YearsPre entries slack gain order payoff t state stride) where
   abbrev chain : SetChain
   chain = chainListed (length gain) entries
@@ -87,17 +93,11 @@ module _ {entries slack gain order payoff : List ℕ} {t state stride : ℕ} (w 
     module _ {high : Bool} {order′ figures before out : List ℕ}
         (r : YearsPost entries gain payoff high u state stride (u + 1) order′ figures before out) where
       pub years-step : YearPre entries slack gain order′ figures
-      unfolding years-less fits-less
       years-step =
           record {
             lists = w .lists;
             permutation = r .permutation;
-            small = λ j l.
-                subst (λ x. x ≤ MOST_PAYOFF) (sym (r .each j l))
-                (le-trans
-                (years-at-most high chain (w .lists .sound) (at payoff) (at gain)
-                (w .fits .payoffMost) (w .fits .gainMost) (w .fits .payoffs) (w .fits .gains) u j l)
-                (years-less .fits .figures));
+            small = λ j l. subst (λ x. x ≤ MOST_PAYOFF) (sym (r .each j l)) (figures-small high chain (w .lists .sound) (years-less .fits) j l);
             gains = λ j l. le-trans (w .fits .gains j l) (w .fits .small);
           }
 

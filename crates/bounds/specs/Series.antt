@@ -28,6 +28,11 @@ pub record SeriesPre (s : Scheme) (gain payoff : List ℕ) (t stride : ℕ) : Ty
   pub apart : 1 ≤ stride
   pub counted : Fits w64 (t * stride)
 
+-- What they leave: each class's figure of year t, and the start class's of all years to t at their places.
+pub record ClassFiguresPost (high : Bool) (s : Scheme) (gain payoff : List ℕ) (t stride : ℕ) (before after figures : List ℕ) : Type 0 where
+  pub each : (i : ℕ) → i < s .classes → at figures i ≡ yearsFigure high (chainOf s) (at payoff) (at gain) t i
+  pub series : SeriesStored (startFigure high s gain payoff) stride (t + 1) before after
+
 -- What they leave: the figure of year t, and those of all years to t at their places.
 pub record SeriesPost (high : Bool) (s : Scheme) (gain payoff : List ℕ) (t stride : ℕ) (before after : List ℕ) (last : ℕ) : Type 0 where
   pub figure : last ≡ startFigure high s gain payoff t

@@ -5,8 +5,10 @@ use scheme::or_else;
 use scheme::slices_cause;
 ghost use mathlib.Core.Path.{_≡_};
 ghost use lib.Dec.{ltb};
-ghost use Rattle.scheme.specs.FirstCause.{_when_};
+ghost use Rattle.scheme.specs.FirstCause.{_when_, orElse};
 ghost use Rattle.scheme.specs.Cause.{outside};
+ghost use Rattle.book_spec.specs.Book.{bookCause};
+ghost use Rattle.bounds_spec.specs.Pooled.{pooledLengthsCause};
 ghost use Rattle.bounds_spec.specs.Causes.{moneyCause, shareCause, sheetLengthsCause, tableLengthsCause};
 
 // Cause 11: a class that is not one of 1 to s.
@@ -56,6 +58,25 @@ pub fn sheet_cause(scheme: Scheme, year: u64, low: usize, high: usize) -> u8
     let money = money_cause(scheme, year);
     let slices = slices_cause(scheme.classes as usize, low, high);
     or_else(money, slices)
+}
+
+// The first cause of a pooled figure: that of the figure itself, then the book's.
+pub fn pooled_cause(figure: u8, book: [u32; 32], classes: u8) -> u8
+    ensures { λ r. ⌜ r ≡ orElse figure (bookCause classes book) ⌝ }
+{
+    let counts = book::cause(book, classes);
+    or_else(figure, counts)
+}
+
+// The first cause of a call for a pooled share sheet with slices of two lengths, or 0.
+pub fn pooled_sheet_cause(scheme: Scheme, book: [u32; 32], year: u64, low: usize, high: usize) -> u8
+    ensures { λ r. ⌜ r ≡ pooledLengthsCause scheme book year low high ⌝ }
+{
+    let money = money_cause(scheme, year);
+    let counts = book::cause(book, scheme.classes);
+    let lent = slices_cause(scheme.classes as usize, low, high);
+    let rest = or_else(counts, lent);
+    or_else(money, rest)
 }
 
 // The first cause of a call for all figures with slices of two lengths, or 0.

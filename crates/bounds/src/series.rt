@@ -10,11 +10,11 @@ ghost use mathlib.Core.Bool.{false, true};
 ghost use Rattle.scheme.specs.Rows.{chainOf};
 ghost use Rattle.bounds_spec.specs.Answers.{answerBy};
 ghost use Rattle.bounds.specs.Entries.{ListRowsPost};
-ghost use Rattle.bounds.specs.Series.{SeriesPost, SeriesPre, startFigure};
+ghost use Rattle.bounds.specs.Series.{ClassFiguresPost, SeriesPost, SeriesPre, startFigure};
 
-// The low figure of a scheme's start class after t years, or, where `high` is set, the high one.
-// Of each year u to t the figure is written at place u × stride, where the slice has it.
-pub fn series(
+// The low figures of all classes after t years, or, where `high` is set, the high ones.
+// Of each year u to t the start class's figure is written at place u × stride, where the slice has it.
+pub fn class_figures(
     scheme: Scheme,
     entries: &[u32; 3104],
     slack: &[u32; 32],
@@ -24,9 +24,9 @@ pub fn series(
     t: u64,
     stride: usize,
     out: &mut [u64],
-) -> u64
+) -> [u64; 32]
     requires { ⌜ (SeriesPre scheme gain payoff t stride) × ListRowsPost (chainOf scheme) (now entries) (now slack) ⌝ }
-    ensures { λ r. ⌜ SeriesPost high scheme gain payoff t stride (now (out .entry)) (now (out .exit)) r ⌝ }
+    ensures { λ r. ⌜ ClassFiguresPost high scheme gain payoff t stride (now (out .entry)) (now (out .exit)) r ⌝ }
 {
     let n = scheme.classes as usize;
     let mut order = [0u8; 32];
@@ -45,7 +45,27 @@ pub fn series(
         stride,
         out,
     );
-    figures[begins]
+    figures
+}
+
+// The low figure of a scheme's start class after t years, or, where `high` is set, the high one.
+// Of each year u to t the figure is written at place u × stride, where the slice has it.
+pub fn series(
+    scheme: Scheme,
+    entries: &[u32; 3104],
+    slack: &[u32; 32],
+    gain: [u64; 32],
+    high: bool,
+    payoff: [u64; 32],
+    t: u64,
+    stride: usize,
+    out: &mut [u64],
+) -> u64
+    requires { ⌜ (SeriesPre scheme gain payoff t stride) × ListRowsPost (chainOf scheme) (now entries) (now slack) ⌝ }
+    ensures { λ r. ⌜ SeriesPost high scheme gain payoff t stride (now (out .entry)) (now (out .exit)) r ⌝ }
+{
+    let figures = class_figures(scheme, entries, slack, gain, high, payoff, t, stride, out);
+    figures[state(scheme.start)]
 }
 
 // Both figures of the start class where there is no cause: low and high run on their own.

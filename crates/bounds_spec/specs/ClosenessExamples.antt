@@ -30,7 +30,7 @@ use Rattle.bounds_spec.specs.Examples.{fixedBands}
 abbrev hundredth : (first second : ℕ) → Row
 hundredth first second = record { over = 100; entry = at (first ∷ second ∷ []) }
 
-abbrev hundredths : (first second : ℕ) → List Matrix
+abbrev pub hundredths : (first second : ℕ) → List Matrix
 hundredths first second = (λ i. hundredth first second) ∷ []
 
 -- A nine-tenths band and a tenth: the exact mean is 10.1 cents, 1.1 from 9. With .91 and .09 it is 10.09. The other way round it is 10.9, 1.1 from 12, and 10.91.
@@ -41,13 +41,13 @@ pub record MoneyEdges : Type 0 where
   pub highNearer : MeanPromise (fixedBands 90000000 910000000) 1 (Answered 10 12)
 
 -- Such a scheme is accepted, and its mean lies from 10 to 11 cents.
-record Fixed (s : Scheme) : Type 0 where
+pub record Fixed (s : Scheme) : Type 0 where
   pub accepted : causeOf s ≡ 0
   pub low : lowMean (chainOf s) (premiumAt s) 1 (startOf s) ≡ 10
   pub high : highMean (chainOf s) (premiumAt s) 1 (startOf s) ≡ 11
 
 module _ {s : Scheme} (fixed : Fixed s) where
-  sound : SoundChain (chainOf s)
+  pub sound : SoundChain (chainOf s)
   sound = accepted-sound s (accepted-cause s (fixed .accepted))
 
   within : startOf s < s .classes
@@ -68,7 +68,7 @@ module _ {s : Scheme} (fixed : Fixed s) where
       record { least = omega (arith, between .least, mul-le-mul-right (x .den) least); most = omega (arith, between .most, mul-le-mul-right (x .den) most) }
 
 -- So it is with each of the four.
-all-fixed : Fixed (fixedBands 900000000 100000000) × Fixed (fixedBands 910000000 90000000) × Fixed (fixedBands 100000000 900000000) × Fixed (fixedBands 90000000 910000000)
+pub all-fixed : Fixed (fixedBands 900000000 100000000) × Fixed (fixedBands 910000000 90000000) × Fixed (fixedBands 100000000 900000000) × Fixed (fixedBands 90000000 910000000)
 unfolding yearsFigure stepFigure fillRow capacityBefore sumTo onlyIf causeOf sizeOut startOut horizonOut ruleOut bandOut sumOut premiumOut anyBelow
 all-fixed = (
   record { accepted = refl; low = refl; high = refl },
@@ -78,7 +78,7 @@ all-fixed = (
 )
 
 -- A year with the row of the bands themselves for both classes.
-picks-fixed : (first second : ℕ) → first + second ≡ 100 → PicksFor (chainOf (fixedBands (first * 10000000) (second * 10000000))) 1 (hundredths first second)
+pub picks-fixed : (first second : ℕ) → first + second ≡ 100 → PicksFor (chainOf (fixedBands (first * 10000000) (second * 10000000))) 1 (hundredths first second)
 unfolding sumTo onlyIf
 picks-fixed first second whole =
     let inside : Inside 2 (chainOf (fixedBands (first * 10000000) (second * 10000000)) .row 0) (hundredth first second) =

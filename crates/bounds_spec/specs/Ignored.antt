@@ -16,7 +16,9 @@ use Rattle.bounds_spec.specs.declared.Bounds.the-variants.{Answered, Ref
 use Rattle.bounds_spec.specs.Causes.{shareCause, moneyCause, sheetLengthsCause, tableLengthsCause}
 use Rattle.bounds_spec.specs.Answers.{answerBy, startOf, shareAnswer, meanAnswer, totalAnswer, sheetCause, sheetSlice, figureShares, lowShares, highShares}
 use Rattle.bounds_spec.specs.Table.{figureTable, lowTable, highTable, tableCause}
-use Rattle.bounds_spec.specs.Laws.Causes.{of-share, of-money, of-sheet, of-table, share-cause, money-cause, sheet-cause, table-cause}
+use Rattle.bounds_spec.specs.Pooled.{Figure, pooled, pooledCause, pooledAnswer, pooledSheetCause, pooledShares}
+use Rattle.bounds_spec.specs.Laws.Causes.{of-share, of-money, of-sheet, of-table, share-cause, money-cause, sheet-cause, pooled-cause, pooled-sheet-cause, table-cause}
+use Rattle.bounds_spec.specs.Laws.Pooled.{of-pooled, sheet-money}
 use Rattle.bounds_spec.specs.Laws.Alike as alike
 
 -- Every answer for one scheme is that for the other, and the slices hold the same afterwards.
@@ -31,6 +33,12 @@ pub record SameAnswers (s s′ : Scheme) : Type 0 where
   pub sheet : (year : ℕ) (low high : List ℕ) → sheetCause s year low high ≡ sheetCause s′ year low high
   pub lowSheet : (year : ℕ) (low high : List ℕ) → sheetSlice (sheetCause s year low high) (lowShares s year) low ≡ sheetSlice (sheetCause s′ year low high) (lowShares s′ year) low
   pub highSheet : (year : ℕ) (low high : List ℕ) → sheetSlice (sheetCause s year low high) (highShares s year) high ≡ sheetSlice (sheetCause s′ year low high) (highShares s′ year) high
+  pub pooledNumber : (book : List ℕ) (figure : Figure) (year : ℕ) → pooledCause s book figure year ≡ pooledCause s′ book figure year
+  pub pooledFigures : (book : List ℕ) (figure : Figure) (year : ℕ) → pooledAnswer s book figure year ≡ pooledAnswer s′ book figure year
+  pub pooledSheet : (book : List ℕ) (year : ℕ) (low high : List ℕ) → pooledSheetCause s book year low high ≡ pooledSheetCause s′ book year low high
+  pub pooledSlice : (side : Bool) (book : List ℕ) (year : ℕ) (low high before : List ℕ)
+      → sheetSlice (pooledSheetCause s book year low high) (pooledShares side s book year) before
+      ≡ sheetSlice (pooledSheetCause s′ book year low high) (pooledShares side s′ book year) before
   pub table : (low high : List ℕ) → tableCause s low high ≡ tableCause s′ low high
   pub lows : (low high : List ℕ) → sheetSlice (tableCause s low high) (lowTable s) low ≡ sheetSlice (tableCause s′ low high) (lowTable s′) low
   pub highs : (low high : List ℕ) → sheetSlice (tableCause s low high) (highTable s) high ≡ sheetSlice (tableCause s′ low high) (highTable s′) high
@@ -56,13 +64,28 @@ module _ {s s′ : Scheme} (w : Alike s s′) where
       → totalFigure high (chainOf s) (premiumAt s) year (startOf s) ≡ totalFigure high (chainOf s′) (premiumAt s′) year (startOf s′)
   total-figure high year z = let none = of-money s year z in alike.total-same (alike-values w none) none high year
 
-  -- One slice of a share sheet, and of all figures.
+  -- One slice of a share sheet, pooled or not, and of all figures.
   sheet-slice : (side : Bool) (year : ℕ) (low high before : List ℕ)
       → sheetSlice (sheetCause s year low high) (figureShares side s year) before ≡ sheetSlice (sheetCause s′ year low high) (figureShares side s′ year) before
   unfolding sheetCause
   sheet-slice side year low high before =
       by-cause (sheet-cause cause year (length low) (length high))
       (λ z. let none = of-sheet s year (length low) (length high) z in alike.shares-same (alike-values w none) none side year) refl
+
+  pooled-slice : (side : Bool) (book : List ℕ) (year : ℕ) (low high before : List ℕ)
+      → sheetSlice (pooledSheetCause s book year low high) (pooledShares side s book year) before
+      ≡ sheetSlice (pooledSheetCause s′ book year low high) (pooledShares side s′ book year) before
+  unfolding pooledSheetCause
+  pooled-slice side book year low high before =
+      by-cause (pooled-sheet-cause cause book year (length low) (length high))
+      (λ z. let none = of-money s year (sheet-money s book year (length low) (length high) z) in alike.pooled-shares-same (alike-values w none) none side book year) refl
+
+  pooled-answer : (book : List ℕ) (figure : Figure) (year : ℕ) → pooledAnswer s book figure year ≡ pooledAnswer s′ book figure year
+  unfolding pooledAnswer
+  pooled-answer book figure year = answer-same (pooled-cause cause book figure year) (figure-same false) (figure-same true)
+    where
+      figure-same : (high : Bool) → pooledCause s book figure year ≡ 0 → pooled high s book figure year ≡ pooled high s′ book figure year
+      figure-same high z = let none = of-pooled s book figure year z in alike.pooled-same (alike-values w none) none high book figure year
 
   table-slice : (side : Bool) (low high before : List ℕ)
       → sheetSlice (tableCause s low high) (figureTable side s) before ≡ sheetSlice (tableCause s′ low high) (figureTable side s′) before
@@ -72,7 +95,7 @@ module _ {s s′ : Scheme} (w : Alike s s′) where
       (λ z. let none = of-table s (length low) (length high) z in alike.table-same (alike-values w none) none side) refl
 
   alike-answers : SameAnswers s s′
-  unfolding shareAnswer meanAnswer totalAnswer sheetCause tableCause
+  unfolding shareAnswer meanAnswer totalAnswer sheetCause pooledSheetCause tableCause
   alike-answers =
       record {
         shareNumber = share-cause cause;
@@ -85,6 +108,10 @@ module _ {s s′ : Scheme} (w : Alike s s′) where
         sheet = λ year low high. sheet-cause cause year (length low) (length high);
         lowSheet = λ year low high. sheet-slice false year low high low;
         highSheet = λ year low high. sheet-slice true year low high high;
+        pooledNumber = pooled-cause cause;
+        pooledFigures = pooled-answer;
+        pooledSheet = λ book year low high. pooled-sheet-cause cause book year (length low) (length high);
+        pooledSlice = pooled-slice;
         table = λ low high. table-cause cause (length low) (length high);
         lows = λ low high. table-slice false low high low;
         highs = λ low high. table-slice true low high high;

@@ -1,5 +1,5 @@
 -- Narrower bands move bounds inward (document 02, item 1), of what the calls answer: "The trimmed scheme's low figures must be no smaller and its high
--- figures no larger", for every class, year, mean and total, and for each number of a share sheet and of all figures.
+-- figures no larger", for every class, year, mean and total, pooled or not, and for each number of a share sheet and of all figures.
 use Prim.Native.Nat.{ℕ, suc, _+_, _-_, _*_, _/_, _%_, _≤_, _<_}
 use mathlib.Core.Path.{_≡_, refl, ap, ap₂, sym, subst}
 use mathlib.Core.Bool.{Bool, true, false, cond}
@@ -12,7 +12,9 @@ use Rattle.setchain.specs.Sums.{at}
 use Rattle.setchain.specs.Step.{NotAfter}
 use Rattle.setchain.specs.Years.{yearsFigure, nothing, sharePayoff, shareFigure, CENT, tenths, meanFigure, totalFigure}
 use Rattle.setchain.specs.Laws.NotAfter.{not-after-same}
+use Rattle.setchain.specs.Pooled.{pooledFigure}
 use Rattle.setchain.specs.Inward.{rounded-inward, years-inward}
+use Rattle.setchain.specs.PooledTheorems.{pooled-inward}
 use Rattle.scheme.specs.declared.Scheme.{Scheme}
 use Rattle.scheme.specs.Access.{premiumAt}
 use Rattle.scheme.specs.Accepted.{Accepted}
@@ -27,7 +29,8 @@ use Rattle.bounds_spec.specs.declared.Bounds.{Bounds}
 use Rattle.bounds_spec.specs.Causes.{totalPlace, tableSize}
 use Rattle.bounds_spec.specs.Answers.{numberOf, lowOf, highOf, answerBy, startOf, shareAnswer, meanAnswer, totalAnswer, sheetCause, sheetSlice, figureShares, lowShares, highShares}
 use Rattle.bounds_spec.specs.Table.{tableEntry, figureTable, lowTable, highTable, tableCause}
-use Rattle.bounds_spec.specs.Laws.Causes.{share-cause, money-cause, sheet-cause, table-cause}
+use Rattle.bounds_spec.specs.Pooled.{Figure, unitsOf, classFigure, pooled, pooledAnswer, pooledSheetCause, pooledShares}
+use Rattle.bounds_spec.specs.Laws.Causes.{share-cause, money-cause, sheet-cause, pooled-cause, pooled-sheet-cause, table-cause}
 
 -- The same call is answered, its low no smaller and its high no larger.
 pub record BoundsInward (wide narrow : Bounds) : Type 0 where
@@ -53,6 +56,12 @@ sheetSlices s year low high =
     let number : ℕ = sheetCause s year low high in
     record { number = number; low = sheetSlice number (lowShares s year) low; high = sheetSlice number (highShares s year) high }
 
+-- What a pooled share sheet leaves there.
+abbrev pub pooledSlices : Scheme → (book : List ℕ) → ℕ → (low high : List ℕ) → Slices
+pooledSlices s book year low high =
+    let number : ℕ = pooledSheetCause s book year low high in
+    record { number = number; low = sheetSlice number (pooledShares false s book year) low; high = sheetSlice number (pooledShares true s book year) high }
+
 -- What a call for all figures leaves there.
 abbrev pub tableSlices : Scheme → (low high : List ℕ) → Slices
 tableSlices s low high =
@@ -65,6 +74,8 @@ pub record AnswersInward (wide narrow : Scheme) : Type 0 where
   pub mean : (year : ℕ) → BoundsInward (meanAnswer wide year) (meanAnswer narrow year)
   pub total : (year : ℕ) → BoundsInward (totalAnswer wide year) (totalAnswer narrow year)
   pub sheet : (year : ℕ) (low high : List ℕ) → SlicesInward (sheetSlices wide year low high) (sheetSlices narrow year low high)
+  pub pooledFigures : (book : List ℕ) (figure : Figure) (year : ℕ) → BoundsInward (pooledAnswer wide book figure year) (pooledAnswer narrow book figure year)
+  pub pooledSheet : (book : List ℕ) (year : ℕ) (low high : List ℕ) → SlicesInward (pooledSlices wide book year low high) (pooledSlices narrow book year low high)
   pub table : (low high : List ℕ) → SlicesInward (tableSlices wide low high) (tableSlices narrow low high)
 
 -- Low and high by their cause.
@@ -97,15 +108,17 @@ module _ {wide narrow : Scheme} (okWide : Accepted wide) (okNarrow : Accepted na
   cause = trimmed-cause trimmed okWide okNarrow
 
   module _ (high : Bool) where
-    -- Any payoff and gain, each no further out.
-    pub figure-inward : (payoff payoff′ gain gain′ : ℕ → ℕ)
-        → ((i : ℕ) → i < wide .classes → NotAfter high (payoff i) (payoff′ i)) → ((i : ℕ) → i < wide .classes → NotAfter high (gain i) (gain′ i))
-        → (t : ℕ) → NotAfter high (yearsFigure high (chainOf wide) payoff gain t (startOf wide)) (yearsFigure high (chainOf narrow) payoff′ gain′ t (startOf narrow))
-    figure-inward payoff payoff′ gain gain′ payoffs gains t =
-        subst (λ i. NotAfter high (yearsFigure high (chainOf wide) payoff gain t (startOf wide)) (yearsFigure high (chainOf narrow) payoff′ gain′ t i))
-        (ap (λ x. x - 1) (trimmed .others .start))
-        (years-inward high (accepted-sound wide okWide) (accepted-sound narrow okNarrow) (trimmed-covers trimmed) payoff payoff′ gain gain′ payoffs gains
-        t (startOf wide) (omega (arith, okWide .start .positive, okWide .start .within)))
+    -- Any payoff and gain, each no further out: of every class, and of the start class.
+    module _ (payoff payoff′ gain gain′ : ℕ → ℕ)
+        (payoffs : (i : ℕ) → i < wide .classes → NotAfter high (payoff i) (payoff′ i)) (gains : (i : ℕ) → i < wide .classes → NotAfter high (gain i) (gain′ i)) (t : ℕ) where
+      class-inward : (i : ℕ) → i < wide .classes → NotAfter high (yearsFigure high (chainOf wide) payoff gain t i) (yearsFigure high (chainOf narrow) payoff′ gain′ t i)
+      class-inward = years-inward high (accepted-sound wide okWide) (accepted-sound narrow okNarrow) (trimmed-covers trimmed) payoff payoff′ gain gain′ payoffs gains t
+
+      pub figure-inward : NotAfter high (yearsFigure high (chainOf wide) payoff gain t (startOf wide)) (yearsFigure high (chainOf narrow) payoff′ gain′ t (startOf narrow))
+      figure-inward =
+          subst (λ i. NotAfter high (yearsFigure high (chainOf wide) payoff gain t (startOf wide)) (yearsFigure high (chainOf narrow) payoff′ gain′ t i))
+          (ap (λ x. x - 1) (trimmed .others .start))
+          (class-inward (startOf wide) (omega (arith, okWide .start .positive, okWide .start .within)))
 
     abbrev share : Scheme → (t j : ℕ) → ℕ
     share s t j = shareFigure high (chainOf s) j t (startOf s)
@@ -133,6 +146,22 @@ module _ {wide narrow : Scheme} (okWide : Accepted wide) (okNarrow : Accepted na
     total-inward t =
         rounded-inward high CENT _ _ (figure-inward nothing nothing (tenths (premiumAt wide)) (tenths (premiumAt narrow)) (same nothing) premiums t)
 
+    -- Pooled figures.
+    class-figure-inward : (figure : Figure) (t i : ℕ) → i < wide .classes → NotAfter high (classFigure high wide figure t i) (classFigure high narrow figure t i)
+    class-figure-inward (Figure.share class) = class-inward (sharePayoff (class - 1)) (sharePayoff (class - 1)) nothing nothing (same (sharePayoff (class - 1))) (same nothing)
+    class-figure-inward Figure.mean = class-inward (tenths (premiumAt wide)) (tenths (premiumAt narrow)) nothing nothing premiums (same nothing)
+    class-figure-inward Figure.total = class-inward nothing nothing (tenths (premiumAt wide)) (tenths (premiumAt narrow)) (same nothing) premiums
+
+    pooled-figure-inward : (book : List ℕ) (figure : Figure) (t : ℕ) → NotAfter high (pooled high wide book figure t) (pooled high narrow book figure t)
+    pooled-figure-inward book figure t =
+        subst (λ n. NotAfter high (pooled high wide book figure t) (pooledFigure high (unitsOf figure) n (at book) (classFigure high narrow figure t))) (trimmed .others .classes)
+        (pooled-inward high (unitsOf figure) (wide .classes) (at book) (classFigure high wide figure t) (classFigure high narrow figure t) (class-figure-inward figure t))
+
+    pooled-shares-inward : (book : List ℕ) (year j : ℕ) → NotAfter high (at (pooledShares high wide book year) j) (at (pooledShares high narrow book year) j)
+    unfolding pooledShares
+    pooled-shares-inward book year =
+        tab-related (NotAfter high) (not-after-same high refl) (trimmed .others .classes) _ _ (λ j l. pooled-figure-inward book (Figure.share (j + 1)) year)
+
     shares-inward : (year j : ℕ) → NotAfter high (at (figureShares high wide year) j) (at (figureShares high narrow year) j)
     unfolding figureShares
     shares-inward year = tab-related (NotAfter high) (not-after-same high refl) (trimmed .others .classes) _ _ (λ j l. share-inward year j)
@@ -149,10 +178,14 @@ module _ {wide narrow : Scheme} (okWide : Accepted wide) (okNarrow : Accepted na
         at-horizon : NotAfter high (total wide (wide .horizon)) (total narrow (narrow .horizon))
         at-horizon = subst (λ t. NotAfter high (total wide (wide .horizon)) (total narrow t)) (trimmed .others .horizon) (total-inward (wide .horizon))
 
-    -- One slice of a share sheet, and of all figures.
+    -- One slice of a share sheet, of a pooled one, and of all figures.
     sheet-slice : (year : ℕ) (before : List ℕ) {n n′ : ℕ} → n ≡ n′ → (j : ℕ)
         → NotAfter high (at (sheetSlice n (figureShares high wide year) before) j) (at (sheetSlice n′ (figureShares high narrow year) before) j)
     sheet-slice year before e = slice-inward high (figureShares high wide year) (figureShares high narrow year) before e (shares-inward year)
+
+    pooled-slice : (book : List ℕ) (year : ℕ) (before : List ℕ) {n n′ : ℕ} → n ≡ n′ → (j : ℕ)
+        → NotAfter high (at (sheetSlice n (pooledShares high wide book year) before) j) (at (sheetSlice n′ (pooledShares high narrow book year) before) j)
+    pooled-slice book year before e = slice-inward high (pooledShares high wide book year) (pooledShares high narrow book year) before e (pooled-shares-inward book year)
 
     table-slice : (before : List ℕ) {n n′ : ℕ} → n ≡ n′ → (j : ℕ)
         → NotAfter high (at (sheetSlice n (figureTable high wide) before) j) (at (sheetSlice n′ (figureTable high narrow) before) j)
@@ -160,7 +193,7 @@ module _ {wide narrow : Scheme} (okWide : Accepted wide) (okNarrow : Accepted na
 
   -- Item 1 on what the calls answer.
   pub answers-inward : AnswersInward wide narrow
-  unfolding shareAnswer meanAnswer totalAnswer sheetCause tableCause
+  unfolding shareAnswer meanAnswer totalAnswer sheetCause pooledAnswer pooledSheetCause tableCause
   answers-inward =
       record {
         share = λ class year. answer-inward (share-cause cause class year) (share-inward false year (class - 1)) (share-inward true year (class - 1));
@@ -169,6 +202,11 @@ module _ {wide narrow : Scheme} (okWide : Accepted wide) (okNarrow : Accepted na
         sheet = λ year low high.
             let e = sheet-cause cause year (length low) (length high) in
             record { number = e; low = sheet-slice false year low e; high = sheet-slice true year high e };
+        pooledFigures = λ book figure year.
+            answer-inward (pooled-cause cause book figure year) (pooled-figure-inward false book figure year) (pooled-figure-inward true book figure year);
+        pooledSheet = λ book year low high.
+            let e = pooled-sheet-cause cause book year (length low) (length high) in
+            record { number = e; low = pooled-slice false book year low e; high = pooled-slice true book year high e };
         table = λ low high.
             let e = table-cause cause (length low) (length high) in
             record { number = e; low = table-slice false low e; high = table-slice true high e };

@@ -13,6 +13,8 @@ const ROOM: usize = 460;
 // One more than the most classes.
 const SHARES: usize = 33;
 
+mod books;
+
 // The checksum of numbers.
 fn checksum_of(figures: &[u64]) -> u64 {
     let mut sum: u64 = 0;
@@ -33,26 +35,37 @@ fn show_cause(cause: u8) {
     }
 }
 
-// Two figures or the cause, and the end of the line.
-fn pair(cause: u8, low: u64, high: u64) {
+// Two figures or the cause.
+fn figures(cause: u8, low: u64, high: u64) {
     show_cause(cause);
     if cause == 0 {
         console::number(low);
         console::number(high);
     }
+}
+
+// Two figures or the cause, and the end of the line.
+fn pair(cause: u8, low: u64, high: u64) {
+    figures(cause, low, high);
     console::end();
+}
+
+// What a call for bounds answered.
+fn show_bounds(b: Bounds) {
+    match b {
+        Bounds::Answered { low, high } => {
+            figures(0, low, high);
+        }
+        Bounds::Refused(cause) => {
+            figures(cause, 0, 0);
+        }
+    }
 }
 
 // What a call for bounds answered, and the end of the line.
 fn answer(b: Bounds) {
-    match b {
-        Bounds::Answered { low, high } => {
-            pair(0, low, high);
-        }
-        Bounds::Refused(cause) => {
-            pair(cause, 0, 0);
-        }
-    }
+    show_bounds(b);
+    console::end();
 }
 
 // The bytes of a part as numbers, and the end of the line.
@@ -313,6 +326,7 @@ fn accepted(scheme: Scheme, number: u64, bytes: &[u8]) {
     of_year(scheme, 2);
     of_year(scheme, horizon);
     of_year(scheme, late);
+    books::books(scheme, number);
 }
 
 // The lines of one record.

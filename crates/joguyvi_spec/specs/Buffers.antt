@@ -5,7 +5,13 @@ use mathlib.Core.Bool.{cond}
 use mathlib.Core.List.{List}
 use lib.Dec.{eqb}
 use lib.ListN.{length}
+use Rattle.setchain.specs.Sums.{at}
+use Rattle.scheme.specs.Tables.{tab}
 use Rattle.scheme.specs.Cause.{sliceCause, slicesCause}
+
+-- 32 numbers of a lent payoff or book: what is missing counts as 0, and what lies beyond 32 is ignored.
+unfoldable pub first32 : List ℕ → List ℕ
+first32 numbers = tab 32 (at numbers)
 
 -- Cause 13: a buffer that is not of so many numbers.
 abbrev pub bufferCause : ℕ → List ℕ → ℕ

@@ -43,7 +43,8 @@ use Rattle.joguyvi_spec.specs.Shares.{ShareSheetCall}
 use Rattle.joguyvi_spec.specs.Texts.{SheetCall}
 use Rattle.joguyvi_spec.specs.Rows.{RowCall, RuleRowCall, BandsCall}
 use Rattle.joguyvi_spec.specs.Records.{CheckCall, RewriteCall, ReadyCall}
-use Rattle.joguyvi_spec.specs.Steps.{payoffRead, StepCall}
+use Rattle.joguyvi_spec.specs.Buffers.{first32}
+use Rattle.joguyvi_spec.specs.Steps.{StepCall}
 use Rattle.joguyvi_spec.specs.Mixing.{PutCountPost, MixingCall}
 use Rattle.joguyvi_spec.specs.Examples.{one, two, three, long, inA, after-a, oneClassRecord, edgelessRecord, mixing-numbers}
 use Rattle.joguyvi_spec.specs.Laws.Figures.{RecordBoundsPost, share-call, mean-call, total-call}
@@ -232,7 +233,7 @@ pub step-calls :
     × StepCall false [] thirtyTen 2 one long 1 one long
     × ¬ StepCall false [] thirtyTen 2 one long 1 one fourFifths
     × ¬ StepCall false [] thirtyTen 2 one long 2 one long
-unfolding layoutIn payoffRead payoffOut stepFigure fillRow capacityBefore onlyIf frameCause beAt schemeOf upTo tab causeOf sizeOut startOut horizonOut ruleOut bandOut sumOut premiumOut anyBelow sumTo
+unfolding layoutIn first32 payoffOut stepFigure fillRow capacityBefore onlyIf frameCause beAt schemeOf upTo tab causeOf sizeOut startOut horizonOut ruleOut bandOut sumOut premiumOut anyBelow sumTo
 step-calls =
     let reached = step-answers .answered .reaches refl in (
       record {

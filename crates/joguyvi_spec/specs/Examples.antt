@@ -27,19 +27,23 @@ use Rattle.ready_spec.specs.Ready.{readyScheme}
 use Rattle.ready_spec.specs.Answer.{readyAnswer}
 use Rattle.step_spec.specs.StepAnswer.{payoffOut}
 use Rattle.setchain.specs.Mixing.{path}
+use Rattle.book_spec.specs.Book.{countOut, noChamber}
 use Rattle.mixing_spec.specs.MixingAnswer.{mixesScheme, firstCount}
 use Rattle.bounds_spec.specs.declared.Bounds.{Bounds}
 use Rattle.bounds_spec.specs.declared.Bounds.the-variants.{Answered, Refused}
 use Rattle.bounds_spec.specs.Answers.{sheetCause}
+use Rattle.bounds_spec.specs.Pooled.{pooledSheetCause}
 use Rattle.sheet_spec.specs.Text.{digitsWithin}
 use Rattle.sheet_spec.specs.Sheet.{refusedLine, sheetText}
 use Rattle.sheet_spec.specs.Answer.{spaceFor, sheetAnswer}
 use Rattle.joguyvi_spec.specs.Figures.{putNumber, lowAndHigh, boundsNumber}
 use Rattle.joguyvi_spec.specs.Shares.{sharesNumber}
+use Rattle.joguyvi_spec.specs.Books.{lentAnswer, pooledNumber}
 use Rattle.joguyvi_spec.specs.Texts.{sheetNumber, sheetLength}
 use Rattle.joguyvi_spec.specs.Rows.{putRowNumber, rowOfRecord, rowNumber, partNumber, ruleRowNumber, bandsNumber, lowerBands, upperBands}
 use Rattle.joguyvi_spec.specs.Records.{checkNumber, lengthAlone, rewriteNumber, readyNumber}
-use Rattle.joguyvi_spec.specs.Steps.{payoffRead, stepBuffers, stepNumber, figureOf}
+use Rattle.joguyvi_spec.specs.Buffers.{first32}
+use Rattle.joguyvi_spec.specs.Steps.{stepBuffers, stepNumber, figureOf}
 use Rattle.joguyvi_spec.specs.Mixing.{putCountNumber, mixingCallNumber}
 
 -- Buffers of one, two, three, 32 and 33 numbers.
@@ -93,6 +97,27 @@ low-and-high-a = (refl, after-a _)
 pub share-sheets : (sharesNumber [] 3 two three ≡ 1) × (sharesNumber exampleA 2 two two ≡ 0) × (sharesNumber exampleA 2 two three ≡ 13) × (sharesNumber exampleA 2 three two ≡ 13)
 unfolding layoutIn sheetCause frameCause beAt schemeOf upTo tab causeOf sizeOut startOut horizonOut ruleOut bandOut sumOut premiumOut anyBelow sumTo
 share-sheets = (refl, after-a _, after-a _, after-a _)
+
+-- Two chambers in class 1 and one in class 2: in a buffer of 32 counts, and in one of 2.
+abbrev pub lentA : List ℕ
+lentA = padded 30 (2 ∷ 1 ∷ [])
+
+abbrev pub shortA : List ℕ
+shortA = 2 ∷ 1 ∷ []
+
+-- An answer over a book of 32 counts, and of another length: 13, after the answer's own cause.
+pub lent-answers :
+    (lentAnswer lentA (Answered 3 5) ≡ Answered 3 5) × (lentAnswer shortA (Answered 3 5) ≡ Refused 13) × (lentAnswer (replicate 33 1) (Answered 3 5) ≡ Refused 13)
+    × (lentAnswer shortA (Refused 19) ≡ Refused 19) × (lentAnswer lentA (Refused 12) ≡ Refused 12)
+lent-answers = (refl, refl, refl, refl, refl)
+
+-- The number of a pooled share sheet: the record, the year, 18, 19, then 13 by each buffer.
+pub pooled-numbers :
+    (pooledNumber [] shortA 3 two three ≡ 1) × (pooledNumber exampleA (1000001 ∷ []) 3 two three ≡ 12) × (pooledNumber exampleA (1000001 ∷ []) 2 two three ≡ 18)
+    × (pooledNumber exampleA (replicate 31 0) 2 two three ≡ 19) × (pooledNumber exampleA shortA 2 two two ≡ 13) × (pooledNumber exampleA lentA 2 three two ≡ 13)
+    × (pooledNumber exampleA lentA 2 two two ≡ 0)
+unfolding layoutIn first32 pooledSheetCause countOut noChamber frameCause beAt schemeOf upTo tab causeOf sizeOut startOut horizonOut ruleOut bandOut sumOut premiumOut anyBelow sumTo
+pooled-numbers = (refl, after-a _, after-a _, after-a _, after-a _, after-a _, after-a _)
 
 -- The sheet of no bytes, "REFUSED 1", takes 11 bytes of space and a buffer of one number for its length, 10 with the end of the line.
 pub sheets :
@@ -160,18 +185,18 @@ abbrev thirtyTen : List ℕ
 thirtyTen = 30 ∷ 10 ∷ []
 
 -- It counts as one of 32 numbers.
-pub payoffs : (length (payoffRead thirtyTen) ≡ 32) × (at (payoffRead thirtyTen) 1 ≡ 10) × (at (payoffRead thirtyTen) 2 ≡ 0)
-unfolding payoffRead tab
+pub payoffs : (length (first32 thirtyTen) ≡ 32) × (at (first32 thirtyTen) 1 ≡ 10) × (at (first32 thirtyTen) 2 ≡ 0)
+unfolding first32 tab
 payoffs = (refl, refl, refl)
 
 -- A payoff not of 32 numbers is declined after the class, and a record before the class.
 pub step-a : (stepNumber [] thirtyTen 3 one long ≡ 1) × (stepNumber exampleA thirtyTen 3 one long ≡ 11) × (stepNumber exampleA thirtyTen 2 one long ≡ 13)
-unfolding layoutIn payoffRead payoffOut frameCause beAt schemeOf upTo tab causeOf sizeOut startOut horizonOut ruleOut bandOut sumOut premiumOut anyBelow sumTo
+unfolding layoutIn first32 payoffOut frameCause beAt schemeOf upTo tab causeOf sizeOut startOut horizonOut ruleOut bandOut sumOut premiumOut anyBelow sumTo
 step-a = (refl, after-a _, after-a _)
 
 -- The low figure of Example A's class 2, and the high one.
 pub figures-a : (figureOf false inA thirtyTen 2 ≡ 26 ∷ []) × (figureOf true inA thirtyTen 2 ≡ 28 ∷ [])
-unfolding layoutIn payoffRead stepFigure fillRow capacityBefore sumTo onlyIf beAt schemeOf upTo tab
+unfolding layoutIn first32 stepFigure fillRow capacityBefore sumTo onlyIf beAt schemeOf upTo tab
 figures-a = (refl, refl)
 
 -- A count takes a buffer of one number, after its own cause.

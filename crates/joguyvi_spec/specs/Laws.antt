@@ -3,5 +3,6 @@ pub mod Buffers
 pub mod Causes
 pub mod Texts
 pub mod Figures
+pub mod Books
 pub mod Steps
 pub mod Mixing

@@ -13,8 +13,8 @@ use Rattle.record_spec.specs.Read.{readAnswer}
 use Rattle.record_spec.specs.Laws.Read.{read-in}
 use Rattle.step_spec.specs.declared.StepAnswer.{StepAnswer}
 use Rattle.step_spec.specs.StepAnswer.{StepAnswered}
-use Rattle.joguyvi_spec.specs.Buffers.{bufferCause}
-use Rattle.joguyvi_spec.specs.Steps.{payoffRead, stepBuffers, StepBuffersPost, StepCall}
+use Rattle.joguyvi_spec.specs.Buffers.{bufferCause, first32}
+use Rattle.joguyvi_spec.specs.Steps.{stepBuffers, StepBuffersPost, StepCall}
 use Rattle.joguyvi_spec.specs.Laws.Buffers.{buffer-size, unfilled}
 use Rattle.joguyvi_spec.specs.Laws.Causes.{stopped-number, passed-number}
 use Rattle.joguyvi_spec.specs.Laws.Steps.{step-call}
@@ -37,11 +37,11 @@ module _ (high : Bool) (bytes payoff : List ℕ) (class : ℕ) (figure row : Lis
         reaches = λ z. absurd (some z);
       }
 
-  pub step-passed : {numbers : List ℕ} {answer : StepAnswer} {n : ℕ} {figure′ row′ : List ℕ} → a .number ≡ 0 → numbers ≡ payoffRead payoff
+  pub step-passed : {numbers : List ℕ} {answer : StepAnswer} {n : ℕ} {figure′ row′ : List ℕ} → a .number ≡ 0 → numbers ≡ first32 payoff
       → StepAnswered high (a .scheme) numbers class answer → StepBuffersPost answer payoff figure row n figure′ row′
       → StepCall high bytes payoff class figure row n figure′ row′
   step-passed {numbers} {answer} none same step put =
-      let found : StepAnswered high (schemeIn bytes) (payoffRead payoff) class answer =
+      let found : StepAnswered high (schemeIn bytes) (first32 payoff) class answer =
       subst₂ (λ s p. StepAnswered high s p class answer) (read-in bytes is none) same step in
       step-call high bytes payoff class figure row found
       (record {

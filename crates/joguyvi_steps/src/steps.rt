@@ -8,8 +8,8 @@ ghost use lib.ListN.{getD};
 ghost use Rattle.scheme.specs.FirstCause.{orElse};
 ghost use Rattle.scheme.specs.Cause.{sliceCause};
 ghost use Rattle.step_spec.specs.StepAnswer.{StepAnswered};
-ghost use Rattle.joguyvi_spec.specs.Buffers.{bufferCause};
-ghost use Rattle.joguyvi_spec.specs.Steps.{StepCall, StepBuffersPost, payoffRead};
+ghost use Rattle.joguyvi_spec.specs.Buffers.{bufferCause, first32};
+ghost use Rattle.joguyvi_spec.specs.Steps.{StepCall, StepBuffersPost};
 
 // The number at a place of a buffer, or 0 past its end.
 fn number_at(numbers: &[u64], place: usize) -> u64
@@ -23,7 +23,7 @@ fn number_at(numbers: &[u64], place: usize) -> u64
 
 // A payoff of 32 numbers: what is missing counts as 0, and what lies beyond 32 is ignored.
 fn payoff_of(numbers: &[u64]) -> [u64; 32]
-    ensures { λ r. ⌜ r ≡ payoffRead (now (numbers .entry)) ⌝ }
+    ensures { λ r. ⌜ r ≡ first32 (now (numbers .entry)) ⌝ }
 {
     let mut out = [0u64; 32];
     let mut k: usize = 0;

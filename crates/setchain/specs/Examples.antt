@@ -1,4 +1,4 @@
--- Worked figures, computed: document 01's two examples of the step, Example A's figures on its interval rows, exact figures of small picks, tight rows, and counts of years that mix.
+-- Worked figures, computed: document 01's two examples of the step, Example A's figures on its interval rows, exact figures of small picks, pooled figures, tight rows, and counts of years that mix.
 use Prim.Native.Nat.{ℕ, zero, suc, _*_}
 use mathlib.Core.Path.{_≡_, refl}
 use mathlib.Core.Bool.{Bool, true, false, _&&_, _||_}
@@ -7,12 +7,13 @@ use lib.Dec.{eqb, ltb}
 use lib.ListN.{getD}
 use Rattle.setchain.specs.Sums.{at, sumTo, onlyIf}
 use Rattle.setchain.specs.Tests.{anyBelow, allBelow, firstFrom}
-use Rattle.setchain.specs.Fractions.{sumFractions}
+use Rattle.setchain.specs.Fractions.{_≈_, sumFractions}
 use Rattle.setchain.specs.Rows.{ONE, IntervalRow, SetChain, listsRow}
 use Rattle.setchain.specs.Cells.{Cells, rowOf}
 use Rattle.setchain.specs.Rounding.{rounded}
 use Rattle.setchain.specs.Step.{capacityBefore, fillRow, stepFigure, lowStep, highStep}
 use Rattle.setchain.specs.Years.{yearsFigure, nothing, lowShare, highShare, meanTenths, lowMean, highMean, totalTenths, lowTotal, highTotal}
+use Rattle.setchain.specs.Pooled.{pooledFigure, exactPooled}
 use Rattle.setchain.specs.Tight.{tightRow, tightChain}
 use Rattle.setchain.specs.Mixing.{edgesOf, path, mixes}
 use Rattle.setchain.specs.Picks.{Matrix, product, exactMean, exactTotal}
@@ -50,6 +51,20 @@ pub record RoundedExamples : Type 0 where
 
 pub rounded-examples : RoundedExamples
 rounded-examples = record { parts = (refl, refl, refl, refl); tenths = (refl, refl, refl, refl); wholes = (refl, refl); none = (refl, refl) }
+
+-- Two states pooled, with two chambers and one: 10 and 12 weigh 32 thirds; the same in tenths, over 10 × 3; one chamber alone; counts of a third state left out; no chamber, which gives 0.
+pub record PooledFigures : Type 0 where
+  pub wholes : (pooledFigure false 1 2 (at (2 ∷ 1 ∷ 9 ∷ [])) (at (10 ∷ 12 ∷ [])) ≡ 10) × (pooledFigure true 1 2 (at (2 ∷ 1 ∷ 9 ∷ [])) (at (10 ∷ 12 ∷ [])) ≡ 11)
+  pub tenths : (pooledFigure false 10 2 (at (2 ∷ 1 ∷ [])) (at (19 ∷ 21 ∷ [])) ≡ 1) × (pooledFigure true 10 2 (at (2 ∷ 1 ∷ [])) (at (19 ∷ 21 ∷ [])) ≡ 2)
+  pub once : (pooledFigure false 10 2 (at (1 ∷ 1 ∷ [])) (at (19 ∷ 21 ∷ [])) ≡ 2) × (pooledFigure true 10 2 (at (1 ∷ 1 ∷ [])) (at (19 ∷ 21 ∷ [])) ≡ 2)
+  pub alone : (pooledFigure false 1 2 (at (0 ∷ 1 ∷ [])) (at (10 ∷ 12 ∷ [])) ≡ 12) × (pooledFigure true 1 2 (at (0 ∷ 1 ∷ [])) (at (10 ∷ 12 ∷ [])) ≡ 12)
+  pub none : (pooledFigure false 1 2 (at []) (at (10 ∷ 12 ∷ [])) ≡ 0) × (pooledFigure true 1 2 (at []) (at (10 ∷ 12 ∷ [])) ≡ 0)
+  -- The exact mean of a half and two thirds: two chambers and one make 5/9.
+  pub exact : exactPooled 2 (at (2 ∷ 1 ∷ 9 ∷ [])) (λ i. record { num = suc i; den = suc (suc i) }) ≈ record { num = 5; den = 9 }
+
+pub pooled-figures : PooledFigures
+unfolding sumTo sumFractions
+pooled-figures = record { wholes = (refl, refl); tenths = (refl, refl); once = (refl, refl); alone = (refl, refl); none = (refl, refl); exact = refl }
 
 -- Example A's class 1: the first two columns lead to class 1 and are summed, also the upper ends, which are held to ONE; the third leads to class 2.
 abbrev cellsA : Cells

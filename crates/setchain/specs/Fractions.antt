@@ -4,6 +4,7 @@ use mathlib.Core.Path.{_≡_}
 
 infixl 60 _⊕_
 infixl 70 _⊗_
+infixl 70 _dividedBy_
 infix 40 _≼_
 infix 40 _≺_
 infix 40 _≈_
@@ -23,6 +24,10 @@ x ⊕ y = record { num = x .num * y .den + y .num * x .den; den = x .den * y .de
 -- The product.
 abbrev pub _⊗_ : Fraction → Fraction → Fraction
 x ⊗ y = record { num = x .num * y .num; den = x .den * y .den }
+
+-- A whole number's part.
+abbrev pub _dividedBy_ : Fraction → ℕ → Fraction
+x dividedBy k = record { num = x .num; den = x .den * k }
 
 -- x is at most y, multiplied out.
 abbrev pub _≼_ : Fraction → Fraction → Type 0

@@ -1,9 +1,10 @@
 -- Theorems for answers: a promise seen from one state, and how little room a promise leaves its bounds.
-use Prim.Native.Nat.{ℕ, _<_}
+use Prim.Native.Nat.{ℕ, _*_, _<_}
+use mathlib.Core.Path.{ap}
 use mathlib.Core.List.{List}
 use native.Mathlib.Omega.{arith}
-use native.Mathlib.Nat.{mul-le-mul-right, le-of-mul-le-mul-right, lt-of-mul-lt-mul-right}
-use Rattle.setchain.specs.Fractions.{Fraction, whole, _⊕_, _≼_, _≺_, Proper}
+use native.Mathlib.Nat.{mul-le-mul-right, mul-lt-mul-of-pos-right, le-of-mul-le-mul-right, lt-of-mul-lt-mul-right}
+use Rattle.setchain.specs.Fractions.{Fraction, whole, _⊕_, _≼_, _≺_, _≈_, Proper}
 use Rattle.setchain.specs.Rows.{SetChain}
 use Rattle.setchain.specs.Picks.{Matrix, PicksFor}
 use Rattle.setchain.specs.Promise.{Between, NoFurther, Nearer, Nearness, Promise, SomeNear, KeptBy}
@@ -17,6 +18,35 @@ at-state i l p =
       lowClose = record { picks = p .lowClose .picks; made = p .lowClose .made; close = p .lowClose .close i l };
       highClose = record { picks = p .highClose .picks; made = p .highClose .made; close = p .highClose .close i l };
     }
+
+-- What is kept of an exact figure is kept of the same value, written otherwise.
+module _ {x y : Fraction} (px : Proper x) (py : Proper y) (e : x ≈ y) where
+  between-same : {low high : ℕ} → Between low high x → Between low high y
+  between-same {low} {high} h =
+      record {
+        least = le-of-mul-le-mul-right {k = x .den} (omega (arith, mul-le-mul-right (y .den) (h .least), e)) px;
+        most = le-of-mul-le-mul-right {k = x .den} (omega (arith, mul-le-mul-right (y .den) (h .most), e)) px;
+      }
+
+  nearer-same : {d : Fraction} {bound : ℕ} → Nearer d bound x → Nearer d bound y
+  nearer-same {d} {bound} h =
+      record {
+        under = lt-of-mul-lt-mul-right (x .den) (omega (arith, mul-lt-mul-of-pos-right (h .under) py, ap (λ v. v * d .den) e));
+        over = lt-of-mul-lt-mul-right (x .den) (omega (arith, mul-lt-mul-of-pos-right (h .over) py, ap (λ v. v * d .den) e));
+      }
+
+pub kept-as : {c : SetChain} {t : ℕ} {d : Fraction} {exact exact′ : List Matrix → Fraction} {low high : ℕ}
+    → ((ps : List Matrix) → PicksFor c t ps → Proper (exact ps) × Proper (exact′ ps) × (exact ps ≈ exact′ ps))
+    → KeptBy c t (Nearer d) exact low high → KeptBy c t (Nearer d) exact′ low high
+kept-as {c} {t} {d} {exact} {exact′} same k =
+    record {
+      contains = λ ps picks. let w = same ps picks in between-same (w .0) (w .1) (w .2) (k .contains ps picks);
+      lowClose = near (k .lowClose);
+      highClose = near (k .highClose);
+    }
+  where
+    near : {bound : ℕ} → SomeNear c t (Nearer d) bound exact → SomeNear c t (Nearer d) bound exact′
+    near s = let w = same (s .picks) (s .made) in record { picks = s .picks; made = s .made; close = nearer-same (w .0) (w .1) (w .2) (s .close) }
 
 -- A bound near the interval from low to high: at most d below low, and at most d above high; or, where `below` is `_≺_`, less than d.
 pub record NearInterval (below : Fraction → Fraction → Type 0) (d : Fraction) (low high bound : ℕ) : Type 0 where

@@ -14,5 +14,6 @@ pub mod Mean
 pub mod Obeys
 pub mod Follows
 pub mod Wholes
+pub mod Pooled
 pub mod Tight
 pub mod Mixing

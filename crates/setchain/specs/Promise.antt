@@ -1,7 +1,7 @@
 -- What demand 3 asks of a low and a high figure (document 01, "Years"; of money, document 02, item 6).
-use Prim.Native.Nat.{ℕ, _*_, _<_}
+use Prim.Native.Nat.{ℕ, _<_}
 use mathlib.Core.List.{List}
-use Rattle.setchain.specs.Fractions.{Fraction, whole, _⊕_, _⊗_, _≼_, _≺_}
+use Rattle.setchain.specs.Fractions.{Fraction, whole, _⊕_, _⊗_, _dividedBy_, _≼_, _≺_}
 use Rattle.setchain.specs.Rows.{ONE, SetChain}
 use Rattle.setchain.specs.Years.{CENT}
 use Rattle.setchain.specs.Picks.{Matrix, PicksFor, exactShare}
@@ -27,7 +27,7 @@ pub record Nearer (d : Fraction) (bound : ℕ) (exact : Fraction) : Type 0 where
 
 -- 1 and d / m: how far off a figure may be that was kept to d in a unit m and then rounded to wholes.
 abbrev pub withRounding : ℕ → Fraction → Fraction
-withRounding m d = whole 1 ⊕ record { num = d .num; den = d .den * m }
+withRounding m d = whole 1 ⊕ d dividedBy m
 
 -- "one cent plus t tenths", in cents.
 abbrev pub centAndTenths : ℕ → Fraction

@@ -6,7 +6,7 @@
 //! Both sides start from the record's bytes, and answer into lent slices; only
 //! the plain version's sheet comes as text of its own.
 
-use plain::Scheme;
+use plain::{Book, Scheme, MAX_CLASSES};
 use std::hint::black_box;
 use std::time::Duration;
 use trials::made::{record_of, scheme_of, Shape};
@@ -85,19 +85,21 @@ fn batch(call: &mut Call) -> u32 {
     count
 }
 
-/// Runs the batches of both sides in turns.
-fn race(operation: &mut Operation) -> Times {
-    let counts = [batch(&mut operation.library), batch(&mut operation.plain)];
+/// Runs the batches of two calls in turns: the best times of each.
+fn in_turns(first: &mut Call, second: &mut Call) -> [f64; 2] {
+    let counts = [batch(first), batch(second)];
     let mut best = [Duration::MAX; 2];
     for _ in 0..ROUNDS {
-        best[0] = best[0].min(time(&mut operation.library, counts[0]));
-        best[1] = best[1].min(time(&mut operation.plain, counts[1]));
+        best[0] = best[0].min(time(first, counts[0]));
+        best[1] = best[1].min(time(second, counts[1]));
     }
-    let each = |side: usize| best[side].as_secs_f64() * 1e6 / f64::from(counts[side]);
-    Times {
-        library: each(0),
-        plain: each(1),
-    }
+    [0, 1].map(|side| best[side].as_secs_f64() * 1e6 / f64::from(counts[side]))
+}
+
+/// Runs both sides of an operation.
+fn race(operation: &mut Operation) -> Times {
+    let [library, plain] = in_turns(&mut operation.library, &mut operation.plain);
+    Times { library, plain }
 }
 
 /// The plain version from the record's bytes on.
@@ -116,6 +118,31 @@ fn share(record: &[u8], class: u64, year: u64) -> Operation<'_> {
         }),
         plain: Box::new(move || {
             black_box(plain::share(&read(record), class, year).expect("a share"));
+        }),
+    }
+}
+
+/// A book with chambers in every class.
+fn book() -> Book {
+    let mut book = [0; MAX_CLASSES];
+    for (class, count) in (1..).zip(&mut book) {
+        *count = 31_000 * class;
+    }
+    book
+}
+
+/// The same share pooled over a book.
+fn pooled_share(record: &[u8], book: Book, class: u64, year: u64) -> Operation<'_> {
+    let mut out = [0; 2];
+    Operation {
+        name: "pooled share",
+        library: Box::new(move || {
+            library::pooled_share(black_box(record), &book, class, year, &mut out)
+                .expect("a share");
+            black_box(&out);
+        }),
+        plain: Box::new(move || {
+            black_box(plain::pooled_share(&read(record), &book, class, year).expect("a share"));
         }),
     }
 }
@@ -160,6 +187,24 @@ fn share_sheet(record: &[u8], s: usize, year: u64) -> Operation<'_> {
         plain: Box::new(move || {
             plain::share_sheet(&read(record), year, &mut plain_low, &mut plain_high)
                 .expect("a sheet");
+            black_box((&plain_low, &plain_high));
+        }),
+    }
+}
+
+fn pooled_share_sheet(record: &[u8], book: Book, s: usize, year: u64) -> Operation<'_> {
+    let (mut low, mut high) = (vec![0; s], vec![0; s]);
+    let (mut plain_low, mut plain_high) = (vec![0; s], vec![0; s]);
+    Operation {
+        name: "pooled share sheet",
+        library: Box::new(move || {
+            library::pooled_share_sheet(black_box(record), &book, year, &mut low, &mut high)
+                .expect("a sheet");
+            black_box((&low, &high));
+        }),
+        plain: Box::new(move || {
+            let (low, high) = (&mut plain_low, &mut plain_high);
+            plain::pooled_share_sheet(&read(record), &book, year, low, high).expect("a sheet");
             black_box((&plain_low, &plain_high));
         }),
     }
@@ -283,11 +328,16 @@ fn schemes(s: u8) -> [(&'static str, Vec<u8>); 4] {
     ]
 }
 
+/// How many operations are timed.
+const OPERATIONS: usize = 10;
+
 /// All operations on a record of 32 classes and 100 years.
-fn operations(record: &[u8]) -> [Operation<'_>; 8] {
+fn operations(record: &[u8]) -> [Operation<'_>; OPERATIONS] {
     [
         share(record, 20, 100),
+        pooled_share(record, book(), 20, 100),
         share_sheet(record, 32, 100),
+        pooled_share_sheet(record, book(), 32, 100),
         mean(record, 100),
         total(record, 100),
         sheet(record),
@@ -301,16 +351,16 @@ fn operations(record: &[u8]) -> [Operation<'_>; 8] {
 fn main_table() {
     println!("s 32, m 8, t 100; microseconds a call; the scheme of the worst ratio");
     println!(
-        "{:<12} {:>12} {:>12} {:>8}  {:<9} all ratios",
+        "{:<18} {:>12} {:>12} {:>8}  {:<9} all ratios",
         "operation", "library", "plain", "ratio", "scheme"
     );
     let schemes = schemes(32);
-    let mut all: Vec<[Operation; 8]> = schemes
+    let mut all: Vec<[Operation; OPERATIONS]> = schemes
         .iter()
         .map(|(_, record)| operations(record))
         .collect();
     let mut worst: f64 = 0.0;
-    for at in 0..8 {
+    for at in 0..OPERATIONS {
         let times: Vec<Times> = all
             .iter_mut()
             .map(|operations| race(&mut operations[at]))
@@ -324,7 +374,7 @@ fn main_table() {
             .expect("some schemes");
         worst = worst.max(times[slowest].ratio());
         println!(
-            "{:<12} {:>12.2} {:>12.2} {:>8.2}  {:<9} {}",
+            "{:<18} {:>12.2} {:>12.2} {:>8.2}  {:<9} {}",
             all[slowest][at].name,
             times[slowest].library,
             times[slowest].plain,
@@ -334,6 +384,26 @@ fn main_table() {
         );
     }
     println!("worst ratio: {worst:.2}");
+}
+
+/// What a pooled share takes beside a share, both of the library.
+fn pooled_table() {
+    println!(
+        "\npooled share beside share, both of the library, s 32, m 8, t 100; microseconds a call"
+    );
+    println!(
+        "{:<12} {:>12} {:>12} {:>8}",
+        "scheme", "pooled", "share", "ratio"
+    );
+    for (name, record) in schemes(32) {
+        let mut pooled = pooled_share(&record, book(), 20, 100);
+        let mut alone = share(&record, 20, 100);
+        let [pooled, alone] = in_turns(&mut pooled.library, &mut alone.library);
+        println!(
+            "{name:<12} {pooled:>12.2} {alone:>12.2} {:>8.2}",
+            pooled / alone
+        );
+    }
 }
 
 /// A table of one share at growing sizes.
@@ -356,6 +426,7 @@ fn growth_table(title: &str, letter: &str, rows: &[(u64, Vec<u8>, u64)]) {
 
 fn main() {
     main_table();
+    pooled_table();
     let years = [0, 25, 50, 100].map(|t| (t, record_of(&random(1, 32)), t));
     growth_table("share, s 32, m 8, by years t (random 1)", "t", &years);
     let sizes = [4, 8, 16, 32].map(|s| (u64::from(s), record_of(&random(1, s)), 100));

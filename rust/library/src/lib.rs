@@ -8,8 +8,10 @@
 
 #![warn(missing_docs)]
 
+mod books;
 mod rows;
 
+pub use books::{join, pooled_mean, pooled_share, pooled_share_sheet, pooled_total};
 pub use rows::{bands, high_step, low_step, mixing, row, rule_row};
 
 /// The functions of the archives; a slice passes as a pointer and its length.

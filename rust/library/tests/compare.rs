@@ -1,6 +1,7 @@
 //! The proved library against the plain version, on more than 100,000 records.
 
 mod lent;
+mod pooled;
 
 use lent::{check_one, near, of_length, Lent};
 use plain::{places, Scheme, VERSION_1};
@@ -26,6 +27,8 @@ struct Tally {
     refusals: u64,
     /// Records by the cause of reading them.
     causes: [u64; 11],
+    /// Pooled calls by their cause, 0 where they are answered.
+    pooled: [u64; 20],
 }
 
 impl Tally {
@@ -37,6 +40,14 @@ impl Tally {
         for (sum, count) in self.causes.iter_mut().zip(other.causes) {
             *sum += count;
         }
+        for (sum, count) in self.pooled.iter_mut().zip(other.pooled) {
+            *sum += count;
+        }
+    }
+
+    /// Counts a pooled call by what is wanted of it.
+    fn count_pooled<T>(&mut self, wanted: Result<T, u8>) {
+        self.pooled[usize::from(wanted.err().unwrap_or(0))] += 1;
     }
 }
 
@@ -223,6 +234,7 @@ fn compare(tally: &mut Tally, rng: &mut Rng, record: &[u8]) {
     let years_all = years(rng, horizon.min(few + 400 / (s * s)), horizon);
     check_share_sheet(tally, &trial, rng.pick(&years_all), s as usize, s as usize);
     compare_lengths(tally, rng, &trial);
+    pooled::compare(tally, &trial);
     if rng.once_in(16) || cause != 0 {
         compare_sheet(tally, rng, &trial);
     }
@@ -378,13 +390,21 @@ fn records() {
         }
     });
     let line = format!(
-        "library and plain version agree: {} records, {} calls, {} sheets, {} REFUSED lines; by cause 0 to 10: {:?}",
-        all.records, all.calls, all.sheets, all.refusals, all.causes
+        "library and plain version agree: {} records, {} calls, {} of them pooled, {} sheets, {} REFUSED lines; by cause 0 to 10: {:?}",
+        all.records,
+        all.calls,
+        all.pooled.iter().sum::<u64>(),
+        all.sheets,
+        all.refusals,
+        all.causes
     );
     // Past the capture of tests, so that it always shows.
     writeln!(std::io::stderr(), "{line}").expect("standard error");
     assert!(all.records >= LEAST);
     assert!(all.causes.iter().all(|&count| count >= 100));
+    for cause in (0..=13).chain([18, 19]) {
+        assert!(all.pooled[cause] >= 1_000, "{:?}", all.pooled);
+    }
 }
 
 /// The ready schemes, with every length near the right one.

@@ -1,6 +1,6 @@
 //! Item 1 of document 02 on the library's answers: where each band of a scheme
 //! lies inside the matching band of another, the same calls are answered, no low
-//! is smaller and no high is larger.
+//! is smaller and no high is larger. Pooled ones too.
 
 use std::io::Write;
 use trials::made;
@@ -15,6 +15,13 @@ struct Pair {
     narrow: Vec<u8>,
     s: u64,
     horizon: u64,
+}
+
+impl Pair {
+    /// Whether what takes long is tried too.
+    fn is_small(&self) -> bool {
+        self.s > 1 && self.s * self.s * self.horizon <= 1_000
+    }
 }
 
 /// How many bounds moved, how many stayed, and how many calls both declined.
@@ -60,17 +67,49 @@ impl Moves {
         }
     }
 
-    /// The shares of all classes.
-    fn share_sheet(&mut self, pair: &Pair, year: u64) {
+    /// A call for the shares of all classes.
+    fn share_sheet(
+        &mut self,
+        pair: &Pair,
+        call: impl Fn(&[u8], &mut [u64], &mut [u64]) -> Result<(), u8>,
+    ) {
         let sheet = |record: &[u8]| {
             let (mut low, mut high) = (vec![0; pair.s as usize], vec![0; pair.s as usize]);
-            library::share_sheet(record, year, &mut low, &mut high).map(|()| (low, high))
+            call(record, &mut low, &mut high).map(|()| (low, high))
         };
         if let Some((wide, narrow)) = self.call(pair, sheet) {
             let shares = wide.0.into_iter().zip(wide.1);
             for (share, trimmed) in shares.zip(narrow.0.into_iter().zip(narrow.1)) {
                 self.inward(share.into(), trimmed.into());
             }
+        }
+    }
+
+    /// The figures of a class and a year.
+    fn figures(&mut self, pair: &Pair, class: u64, year: u64) {
+        self.bounds(pair, |record, out| library::share(record, class, year, out));
+        self.bounds(pair, |record, out| library::mean(record, year, out));
+        self.bounds(pair, |record, out| library::total(record, year, out));
+        self.share_sheet(pair, |record, low, high| {
+            library::share_sheet(record, year, low, high)
+        });
+    }
+
+    /// The same, pooled over a book; the share sheet of small schemes only.
+    fn pooled(&mut self, pair: &Pair, book: &[u32], class: u64, year: u64) {
+        self.bounds(pair, |record, out| {
+            library::pooled_share(record, book, class, year, out)
+        });
+        self.bounds(pair, |record, out| {
+            library::pooled_mean(record, book, year, out)
+        });
+        self.bounds(pair, |record, out| {
+            library::pooled_total(record, book, year, out)
+        });
+        if pair.is_small() {
+            self.share_sheet(pair, |record, low, high| {
+                library::pooled_share_sheet(record, book, year, low, high)
+            });
         }
     }
 
@@ -146,16 +185,13 @@ fn trimmed_bands_move_bounds_inward() {
             1 => (1, pair.horizon + 1),
             _ => (rng.between(1, pair.s), rng.between(0, pair.horizon.min(8))),
         };
-        moves.bounds(&pair, |record, out| {
-            library::share(record, class, year, out)
-        });
-        moves.bounds(&pair, |record, out| library::mean(record, year, out));
-        moves.bounds(&pair, |record, out| library::total(record, year, out));
-        moves.share_sheet(&pair, year);
+        moves.figures(&pair, class, year);
+        let book = made::book(&mut rng, scheme.classes);
+        moves.pooled(&pair, &book, class, year);
         moves.row(&pair, class);
         let payoff = made::payoff(&mut rng, scheme.classes);
         moves.steps(&pair, &payoff, class);
-        if pair.s > 1 && pair.s * pair.s * pair.horizon <= 1_000 {
+        if pair.is_small() {
             moves.sheet(&pair);
         }
     }

@@ -29,14 +29,36 @@ fn deepest(record: &[u8]) -> [u64; 70] {
     all
 }
 
+/// The same, pooled over the book of a book and itself.
+fn deepest_pooled(record: &[u8]) -> [u64; 70] {
+    let mut all = [0; 70];
+    let (shares, rest) = all.split_at_mut(64);
+    let (low, high) = shares.split_at_mut(32);
+    let (half, mut book) = ([500_000; 32], [0; 32]);
+    let answers = [
+        library::join(&half, &half, &mut book),
+        library::pooled_share(record, &book, 32, 100, &mut rest[..2]),
+        library::pooled_mean(record, &book, 100, &mut rest[2..4]),
+        library::pooled_total(record, &book, 100, &mut rest[4..]),
+        library::pooled_share_sheet(record, &book, 100, low, high),
+    ];
+    assert_eq!(answers, [Ok(()); 5]);
+    all
+}
+
+/// All of them.
+fn both(record: &[u8]) -> [[u64; 70]; 2] {
+    [deepest(record), deepest_pooled(record)]
+}
+
 #[test]
 fn deepest_calls_on_64_kib() {
     let record = largest();
-    let wanted = deepest(&record);
+    let wanted = both(&record);
     let thread = std::thread::Builder::new()
         .name("a stack of 64 KiB".to_string())
         .stack_size(SMALL)
-        .spawn(move || deepest(&record));
+        .spawn(move || both(&record));
     let got = thread.expect("a thread").join().expect("the calls");
     assert_eq!(got, wanted);
 }

@@ -1,12 +1,13 @@
 //! Bonus-malus bounds: schemes, interval rows and tight rows, the one-year
-//! step, the mixing check, bounds over years, the record, the ready schemes and
-//! the sheet.
+//! step, the mixing check, bounds over years, pooled books, the record, the
+//! ready schemes and the sheet.
 //!
 //! Every operation that can be declined answers the number of the first cause
 //! that applies, and then leaves all lent slices as they were.
 
 #![forbid(unsafe_code)]
 
+mod books;
 mod mixing;
 mod ready;
 mod record;
@@ -16,6 +17,9 @@ mod sheet;
 mod step;
 mod years;
 
+pub use books::{
+    join, pooled_mean, pooled_share, pooled_share_sheet, pooled_total, Book, MAX_COUNT,
+};
 pub use mixing::mixing;
 pub use ready::ready;
 pub use record::{

@@ -12,7 +12,7 @@ pub fn share(scheme: &Scheme, class: u64, year: u64) -> Result<(u64, u64), u8> {
     let index = index_of(scheme, class)?;
     within_horizon(scheme, year)?;
     let chain = Chain::new(scheme);
-    Ok(chain.bounds(&unit(index), year))
+    Ok(chain.at_start(chain.bounds(&unit(index), year)))
 }
 
 /// Low and high cents of the mean premium of `year`.
@@ -20,7 +20,8 @@ pub fn mean(scheme: &Scheme, year: u64) -> Result<(u64, u64), u8> {
     accept(scheme)?;
     within_horizon(scheme, year)?;
     let chain = Chain::new(scheme);
-    Ok(cents(chain.bounds(&scheme.premium_tenths(), year)))
+    let bounds = chain.bounds(&scheme.premium_tenths(), year);
+    Ok(cents(chain.at_start(bounds)))
 }
 
 /// Low and high cents of the total of the premiums of years 0 to `year` - 1.
@@ -28,13 +29,8 @@ pub fn total(scheme: &Scheme, year: u64) -> Result<(u64, u64), u8> {
     accept(scheme)?;
     within_horizon(scheme, year)?;
     let chain = Chain::new(scheme);
-    let premiums = scheme.premium_tenths();
-    let (mut low, mut high) = ([0; MAX_CLASSES], [0; MAX_CLASSES]);
-    for _ in 0..year {
-        low = plus(chain.low_year(&low), &premiums);
-        high = plus(chain.high_year(&high), &premiums);
-    }
-    Ok(cents((low[chain.start], high[chain.start])))
+    let totals = chain.totals(&scheme.premium_tenths(), year);
+    Ok(cents(chain.at_start(totals)))
 }
 
 /// Fills two slices of s numbers with the low and the high share of each class
@@ -52,7 +48,7 @@ pub fn share_sheet(
     }
     let chain = Chain::new(scheme);
     for (index, (low, high)) in low.iter_mut().zip(high).enumerate() {
-        (*low, *high) = chain.bounds(&unit(index), year);
+        (*low, *high) = chain.at_start(chain.bounds(&unit(index), year));
     }
     Ok(())
 }
@@ -176,13 +172,36 @@ impl Chain {
         worths
     }
 
-    /// The start class's low and high figure after `years` steps.
-    fn bounds(&self, payoff: &Figures, years: u64) -> (u64, u64) {
+    /// The low and the high figures of all classes after `years` steps.
+    pub(crate) fn bounds(&self, payoff: &Figures, years: u64) -> (Figures, Figures) {
+        self.run(payoff, years, |figures| figures)
+    }
+
+    /// The low and the high totals of all classes: the premiums of `years`
+    /// years.
+    pub(crate) fn totals(&self, premiums: &Figures, years: u64) -> (Figures, Figures) {
+        self.run(&[0; MAX_CLASSES], years, |figures| plus(figures, premiums))
+    }
+
+    /// Low and high run on their own from the payoff; `then` is done to the
+    /// figures of each step.
+    #[inline]
+    fn run(
+        &self,
+        payoff: &Figures,
+        years: u64,
+        then: impl Fn(Figures) -> Figures,
+    ) -> (Figures, Figures) {
         let (mut low, mut high) = (*payoff, *payoff);
         for _ in 0..years {
-            low = self.low_year(&low);
-            high = self.high_year(&high);
+            low = then(self.low_year(&low));
+            high = then(self.high_year(&high));
         }
+        (low, high)
+    }
+
+    /// The start class's low and high figure.
+    fn at_start(&self, (low, high): (Figures, Figures)) -> (u64, u64) {
         (low[self.start], high[self.start])
     }
 }

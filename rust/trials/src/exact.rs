@@ -111,6 +111,13 @@ impl Fraction {
         }
     }
 
+    pub fn over(&self, divisor: u64) -> Fraction {
+        Fraction {
+            numerator: self.numerator.clone(),
+            denominator: self.denominator.mul_small(divisor),
+        }
+    }
+
     /// Compares multiplied out.
     pub fn compare(&self, other: &Fraction) -> Ordering {
         let left = self.numerator.mul(&other.denominator);

@@ -3,7 +3,9 @@
 
 use crate::made::{damage, record_in, record_of, scheme_of, Shape, DAMAGES};
 use crate::rng::Rng;
-use plain::{Figures, Scheme, MAX_CLASSES, MAX_COLUMNS, MAX_HORIZON, MAX_PAYOFF, MAX_RECORD};
+use plain::{
+    Book, Figures, Scheme, MAX_CLASSES, MAX_COLUMNS, MAX_COUNT, MAX_HORIZON, MAX_PAYOFF, MAX_RECORD,
+};
 use std::fmt::Write;
 
 /// Example A of the scope.
@@ -284,6 +286,13 @@ fn report_scheme(out: &mut String, number: u64, record: &[u8], scheme: &Scheme) 
     for year in years {
         report_year(out, scheme, year);
     }
+    for kind in 0..5 {
+        let book = book(scheme, number, kind, u32::MAX);
+        for year in [1, horizon, horizon + 1] {
+            report_pooled(out, scheme, (kind, &book), year);
+        }
+    }
+    report_joins(out, number, scheme);
 }
 
 fn report_class(out: &mut String, number: u64, scheme: &Scheme, class: u64, years: &[u64]) {
@@ -322,6 +331,43 @@ fn report_year(out: &mut String, scheme: &Scheme, year: u64) {
             answer(result),
             checksum(low.into_iter()),
             checksum(high.into_iter())
+        );
+    }
+}
+
+/// What is pooled over a book of a kind.
+fn report_pooled(out: &mut String, scheme: &Scheme, (kind, book): (u64, &Book), year: u64) {
+    let share = plain::pooled_share(scheme, book, u64::from(scheme.classes), year);
+    let mean = plain::pooled_mean(scheme, book, year);
+    let total = plain::pooled_total(scheme, book, year);
+    let [share, mean, total] = [share, mean, total].map(|bounds| answer(bounds.map(pair)));
+    put!(out, "POOLED {kind} {year} {share} {mean} {total}\n");
+    let s = usize::from(scheme.classes);
+    for (a, b) in [(s, s), (s, s + 1)] {
+        let (mut low, mut high) = (vec![7; a], vec![7; b]);
+        let result = plain::pooled_share_sheet(scheme, book, year, &mut low, &mut high);
+        put!(
+            out,
+            "POOLSHARES {kind} {year} {} {} {}\n",
+            answer(result.map(|()| vec![])),
+            checksum(low.into_iter()),
+            checksum(high.into_iter())
+        );
+    }
+}
+
+/// Books joined, by their kinds and what stands beyond s.
+fn report_joins(out: &mut String, number: u64, scheme: &Scheme) {
+    let joins = [(0, 1, 0), (1, 1, 0), (2, 4, 0), (2, 0, 0), (4, 4, u32::MAX)];
+    for (first, second, beyond) in joins {
+        let of = |kind| book(scheme, number, kind, beyond);
+        let result = plain::join(&of(first), &of(second));
+        let counts = result.unwrap_or([0; MAX_CLASSES]);
+        put!(
+            out,
+            "JOIN {first} {second} {} {}\n",
+            answer(result.map(|_| vec![])),
+            checksum(counts.into_iter().map(u64::from))
         );
     }
 }
@@ -371,6 +417,23 @@ fn payoff(scheme: &Scheme, number: u64, kind: u64) -> Figures {
         };
     }
     payoff
+}
+
+/// A book of the kinds that the format names, with this count beyond s.
+fn book(scheme: &Scheme, number: u64, kind: u64, beyond: u32) -> Book {
+    let s = u64::from(scheme.classes);
+    let mut book = [beyond; MAX_CLASSES];
+    for class in 1..=s {
+        let mixed = (618_033 * class + 271_828 * number) % u64::from(MAX_COUNT + 1);
+        book[class as usize - 1] = match kind {
+            0 => u32::from(class == u64::from(scheme.start)),
+            2 => MAX_COUNT,
+            3 if class == s => MAX_COUNT + 1,
+            4 => 0,
+            _ => mixed as u32,
+        };
+    }
+    book
 }
 
 fn pair((low, high): (u64, u64)) -> Vec<u64> {

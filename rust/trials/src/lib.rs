@@ -1,5 +1,5 @@
-//! Trials of the plain version: made-up schemes, records and payoffs, exact
-//! arithmetic over picked matrices, and a fixed family of answers.
+//! Trials of the plain version: made-up schemes, records, payoffs and books,
+//! exact arithmetic over picked matrices, and a fixed family of answers.
 
 #![forbid(unsafe_code)]
 

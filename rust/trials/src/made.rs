@@ -1,10 +1,11 @@
-//! Made-up schemes, records, damaged ones, and payoffs, with edge values often.
+//! Made-up schemes, records, damaged ones, payoffs and books, with edge values
+//! often.
 
 use crate::rng::Rng;
 use plain::{
-    layout_of, number_at, places, put_number, Figures, Layout, Scheme, END_WIDTH, LAYOUTS,
-    LENGTH_WIDTH, MAX_CLASSES, MAX_COLUMNS, MAX_HORIZON, MAX_PAYOFF, MAX_PREMIUM, MAX_RECORD, ONE,
-    VERSION_1,
+    layout_of, number_at, places, put_number, Book, Figures, Layout, Scheme, END_WIDTH, LAYOUTS,
+    LENGTH_WIDTH, MAX_CLASSES, MAX_COLUMNS, MAX_COUNT, MAX_HORIZON, MAX_PAYOFF, MAX_PREMIUM,
+    MAX_RECORD, ONE, VERSION_1,
 };
 
 /// How the bands of a scheme are given.
@@ -581,4 +582,53 @@ pub fn excess_payoff(rng: &mut Rng, s: u8) -> Figures {
     let class = rng.below(u64::from(s)) as usize;
     payoff[class] = rng.pick(&[MAX_PAYOFF + 1, u64::MAX]);
     payoff
+}
+
+/// A book for s classes; once in eight times one that pooling refuses, and in
+/// half of them junk beyond s.
+pub fn book(rng: &mut Rng, s: u8) -> Book {
+    let mut book = pooled_book(rng, s);
+    if rng.once_in(8) {
+        spoil_book(rng, &mut book[..usize::from(s)]);
+    }
+    book
+}
+
+/// A book for s classes that pooling accepts; in half of them junk beyond s.
+pub fn pooled_book(rng: &mut Rng, s: u8) -> Book {
+    let mut book = [0; MAX_CLASSES];
+    if rng.once_in(2) {
+        let edges = [0, 1, MAX_COUNT, MAX_COUNT + 1, u32::MAX];
+        book.fill_with(|| match rng.below(6) {
+            0 => rng.draw() as u32,
+            _ => rng.pick(&edges),
+        });
+    }
+    let counts = &mut book[..usize::from(s)];
+    let kind = rng.below(6);
+    for count in counts.iter_mut() {
+        *count = match kind {
+            0 => 0,
+            1 => rng.pick(&[0, 1]),
+            2 => rng.between(0, 9) as u32,
+            3 => rng.pick(&[0, 1, MAX_COUNT - 1, MAX_COUNT]),
+            4 => rng.between(0, u64::from(MAX_COUNT / 2)) as u32,
+            _ => rng.between(0, u64::from(MAX_COUNT)) as u32,
+        };
+    }
+    if counts.iter().all(|&count| count == 0) {
+        let class = rng.below(u64::from(s)) as usize;
+        counts[class] = rng.pick(&[1, 2, MAX_COUNT]);
+    }
+    book
+}
+
+/// Puts a count past the limit, or takes all chambers away.
+fn spoil_book(rng: &mut Rng, counts: &mut [u32]) {
+    if rng.once_in(3) {
+        counts.fill(0);
+    } else {
+        let class = rng.below(counts.len() as u64) as usize;
+        counts[class] = rng.pick(&[MAX_COUNT + 1, u32::MAX]);
+    }
 }

@@ -2,7 +2,7 @@
 
 use crate::exact::{Fraction, Nat};
 use crate::rng::Rng;
-use plain::{high_step, low_step, Figures, Scheme, MAX_CLASSES, ONE};
+use plain::{high_step, low_step, Book, Figures, Scheme, MAX_CLASSES, ONE};
 
 /// A stochastic row: whole numbers, one for each class, that sum to `over`.
 #[derive(Clone, Debug)]
@@ -260,4 +260,51 @@ pub fn exact_mean(scheme: &Scheme, picks: &[Matrix]) -> Fraction {
 pub fn exact_total(scheme: &Scheme, picks: &[Matrix]) -> Fraction {
     let means = (0..picks.len()).map(|years| exact_mean(scheme, &picks[..years]));
     means.fold(Fraction::whole(0), |sum, mean| sum.add(&mean))
+}
+
+/// The exact figures of a scheme with each of its classes in turn as the start
+/// class.
+fn for_each_class<T>(scheme: &Scheme, exact: impl Fn(&Scheme) -> T) -> Vec<T> {
+    let starting = |start| Scheme {
+        start,
+        ..scheme.clone()
+    };
+    (1..=scheme.classes)
+        .map(|class| exact(&starting(class)))
+        .collect()
+}
+
+/// The sum of count times exact figure, class by class, over the sum of the
+/// counts.
+fn pooled<'a>(book: &Book, figures: impl Iterator<Item = &'a Fraction>) -> Fraction {
+    let mut sum = Fraction::whole(0);
+    let mut chambers = 0;
+    for (figure, &count) in figures.zip(book) {
+        let count = u64::from(count);
+        sum = sum.add(&figure.times(count));
+        chambers += count;
+    }
+    sum.over(chambers)
+}
+
+/// The exact shares of all classes, pooled over a book: the same matrices hold
+/// for all of it.
+pub fn exact_pooled_shares(scheme: &Scheme, book: &Book, picks: &[Matrix]) -> Vec<Fraction> {
+    let shares = for_each_class(scheme, |scheme| exact_shares(scheme, picks));
+    (0..usize::from(scheme.classes))
+        .map(|j| pooled(book, shares.iter().map(|shares| &shares[j])))
+        .collect()
+}
+
+/// The exact mean premium after the picked years, pooled over a book.
+pub fn exact_pooled_mean(scheme: &Scheme, book: &Book, picks: &[Matrix]) -> Fraction {
+    let means = for_each_class(scheme, |scheme| exact_mean(scheme, picks));
+    pooled(book, means.iter())
+}
+
+/// The exact total of as many premiums as there are picked years, pooled over
+/// a book.
+pub fn exact_pooled_total(scheme: &Scheme, book: &Book, picks: &[Matrix]) -> Fraction {
+    let totals = for_each_class(scheme, |scheme| exact_total(scheme, picks));
+    pooled(book, totals.iter())
 }

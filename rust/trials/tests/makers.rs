@@ -1,8 +1,8 @@
-//! The makers fail where they are asked for what they cannot make, and numbers
-//! are put and read by their width.
+//! The makers fail where they are asked for what they cannot make, books come
+//! in all kinds, and numbers are put and read by their width.
 
-use plain::{layout_of, number_at, put_number, LAYOUTS};
-use trials::made::{damage, record_in, scheme_of, BandLists, Shape, DAMAGES};
+use plain::{join, layout_of, number_at, pooled_mean, put_number, LAYOUTS, MAX_COUNT};
+use trials::made::{book, damage, pooled_book, record_in, scheme_of, BandLists, Shape, DAMAGES};
 use trials::rng::Rng;
 
 /// A shape that can be made.
@@ -66,6 +66,40 @@ fn damage_of_another_kind() {
     let mut rng = Rng::new(33);
     let mut record = record_in(&scheme_of(&mut rng, SHAPE), SHAPE.version);
     damage(&mut rng, &mut record, DAMAGES);
+}
+
+#[test]
+fn the_same_books_from_a_seed() {
+    let (mut first, mut second) = (Rng::new(34), Rng::new(34));
+    for s in (1..=32).cycle().take(320) {
+        assert_eq!(book(&mut first, s), book(&mut second, s));
+        assert_eq!(pooled_book(&mut first, s), pooled_book(&mut second, s));
+    }
+}
+
+/// Most books are pooled, some are refused for either cause, many can be
+/// joined, and the edges occur, up to s and beyond.
+#[test]
+fn books_of_all_kinds() {
+    let mut rng = Rng::new(35);
+    let (mut causes, mut joined) = ([0; 20], 0);
+    let (mut counts, mut beyond) = (Vec::new(), Vec::new());
+    for s in (1..=32).cycle().take(4_000) {
+        let scheme = scheme_of(&mut rng, Shape::of(s, 2));
+        let (any, pooled) = (book(&mut rng, s), pooled_book(&mut rng, s));
+        assert!(pooled_mean(&scheme, &pooled, 0).is_ok());
+        let cause = pooled_mean(&scheme, &any, 0).err().unwrap_or(0);
+        causes[usize::from(cause)] += 1;
+        joined += u64::from(join(&any, &pooled).is_ok());
+        let (to_s, past_s) = any.split_at(usize::from(s));
+        counts.extend_from_slice(to_s);
+        beyond.extend_from_slice(past_s);
+    }
+    assert!(causes[0] > 3_000 && causes[18] > 200 && causes[19] > 100);
+    assert!(joined > 400, "{joined}");
+    for edge in [0, 1, MAX_COUNT, MAX_COUNT + 1, u32::MAX] {
+        assert!(counts.contains(&edge) && beyond.contains(&edge), "{edge}");
+    }
 }
 
 #[test]

@@ -1,14 +1,18 @@
 //! Demand 3 by exact arithmetic: no picks leave the bounds, and some come
 //! within t parts of each share, and nearer than one cent plus t tenths to each
-//! figure of money.
+//! figure of money. Pooled over a book, with the same picks for all of it, some
+//! come within t + 1 parts of each share.
 
-use plain::{mean, share, share_sheet, total, Scheme, MAX_HORIZON, ONE};
+use plain::{
+    mean, pooled_mean, pooled_share, pooled_share_sheet, pooled_total, share, share_sheet, total,
+    Book, Scheme, MAX_HORIZON, ONE,
+};
 use std::cmp::Ordering;
 use trials::exact::{Fraction, Nat};
 use trials::made::{self, Shape};
 use trials::picks::{
-    any_picks, any_row, exact_mean, exact_shares, exact_total, extreme_picks, inside, near_money,
-    premium_tenths, Matrix,
+    any_picks, any_row, exact_mean, exact_pooled_mean, exact_pooled_shares, exact_pooled_total,
+    exact_shares, exact_total, extreme_picks, inside, near_money, premium_tenths, Matrix,
 };
 use trials::rng::Rng;
 
@@ -185,5 +189,96 @@ fn extreme_picks_come_close_on_larger_schemes() {
         let year = rng.between(5, 12);
         let class = rng.below(u64::from(scheme.classes)) as usize;
         check_close(&scheme, year, &[class], false);
+    }
+}
+
+/// Checks all pooled bounds of a year against picks for it.
+fn check_pooled_inside(scheme: &Scheme, book: &Book, year: u64, picks: &[Matrix]) {
+    let s = usize::from(scheme.classes);
+    let told = || format!("{scheme:?} {book:?} {year} {picks:?}");
+    let (mut low, mut high) = (vec![0; s], vec![0; s]);
+    pooled_share_sheet(scheme, book, year, &mut low, &mut high).unwrap();
+    let shares = exact_pooled_shares(scheme, book, picks);
+    for (j, exact) in shares.iter().enumerate() {
+        assert!(exact.times(ONE).between(low[j], high[j]), "{}", told());
+    }
+    let (low, high) = pooled_mean(scheme, book, year).unwrap();
+    let exact = exact_pooled_mean(scheme, book, picks);
+    assert!(exact.between(low, high), "{}", told());
+    let (low, high) = pooled_total(scheme, book, year).unwrap();
+    let exact = exact_pooled_total(scheme, book, picks);
+    assert!(exact.between(low, high), "{}", told());
+}
+
+#[test]
+fn no_picks_leave_pooled_bounds() {
+    let mut rng = Rng::new(26);
+    for _ in 0..2_000 {
+        let scheme = small_scheme(&mut rng);
+        for year in 0..=4 {
+            let book = made::pooled_book(&mut rng, scheme.classes);
+            let picks = any_picks(&mut rng, &scheme, year);
+            check_pooled_inside(&scheme, &book, year, &picks);
+        }
+    }
+}
+
+/// Checks that the extreme picks of each pooled bound come close to it, and
+/// leave no pooled bound where `all` is set. They are those of the bound for
+/// the start class: the start has no part in them.
+fn check_pooled_close(scheme: &Scheme, book: &Book, year: u64, classes: &[usize], all: bool) {
+    let premiums = premium_tenths(scheme);
+    for high in [false, true] {
+        let bound = |(low, top): (u64, u64)| if high { top } else { low };
+        let mut used = Vec::new();
+        for &j in classes {
+            let mut payoff = [0; 32];
+            payoff[j] = ONE;
+            let picks = extreme_picks(scheme, &payoff, None, year, high);
+            let exact = exact_pooled_shares(scheme, book, &picks)[j].times(ONE);
+            let share = bound(pooled_share(scheme, book, j as u64 + 1, year).unwrap());
+            let room = year + 1;
+            assert!(exact.between(share.saturating_sub(room), share + room));
+            used.push(picks);
+        }
+        let picks = extreme_picks(scheme, &premiums, None, year, high);
+        let mean = bound(pooled_mean(scheme, book, year).unwrap());
+        let exact = exact_pooled_mean(scheme, book, &picks);
+        assert!(near_money(&exact, mean, year));
+        used.push(picks);
+        let picks = extreme_picks(scheme, &[0; 32], Some(&premiums), year, high);
+        let total = bound(pooled_total(scheme, book, year).unwrap());
+        let exact = exact_pooled_total(scheme, book, &picks);
+        assert!(near_money(&exact, total, year));
+        used.push(picks);
+        for picks in used.iter().filter(|_| all) {
+            check_pooled_inside(scheme, book, year, picks);
+        }
+    }
+}
+
+#[test]
+fn extreme_picks_come_close_to_pooled_bounds() {
+    let mut rng = Rng::new(27);
+    for _ in 0..400 {
+        let scheme = small_scheme(&mut rng);
+        let classes: Vec<usize> = (0..usize::from(scheme.classes)).collect();
+        for year in 0..=4 {
+            let book = made::pooled_book(&mut rng, scheme.classes);
+            check_pooled_close(&scheme, &book, year, &classes, true);
+        }
+    }
+}
+
+#[test]
+fn extreme_picks_come_close_to_pooled_bounds_of_larger_schemes() {
+    let mut rng = Rng::new(28);
+    for _ in 0..50 {
+        let mut scheme = made::scheme(&mut rng);
+        scheme.horizon = MAX_HORIZON;
+        let book = made::pooled_book(&mut rng, scheme.classes);
+        let year = rng.between(5, 12);
+        let class = rng.below(u64::from(scheme.classes)) as usize;
+        check_pooled_close(&scheme, &book, year, &[class], false);
     }
 }

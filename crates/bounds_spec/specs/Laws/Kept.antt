@@ -58,7 +58,7 @@ answer-number n low high = by (ℕ-discrete n 0)
     by (no h) = ap numberOf (declined n (Answered low high) (Refused n) h)
 
 -- Where there is no cause the figures are those of the definition.
-kept-answer : (kept : (low high : ℕ) → Type 0) (n low high : ℕ) → (n ≡ 0 → kept low high)
+pub kept-answer : (kept : (low high : ℕ) → Type 0) (n low high : ℕ) → (n ≡ 0 → kept low high)
     → numberOf (answerBy n low high) ≡ 0 → kept (lowOf (answerBy n low high)) (highOf (answerBy n low high))
 kept-answer kept n low high k e =
     let z : n ≡ 0 = sym (answer-number n low high) ∙ e in

@@ -14,20 +14,20 @@ use Rattle.record_spec.specs.Read.{readCause}
 use Rattle.step_spec.specs.declared.StepAnswer.{StepAnswer}
 use Rattle.setchain.specs.Sums.{at}
 use Rattle.step_spec.specs.StepAnswer.{stepCause, classRow, StepAnswered}
-use Rattle.joguyvi_spec.specs.Buffers.{BuffersPost}
-use Rattle.joguyvi_spec.specs.Steps.{payoffRead, stepBuffers, stepNumber, StepCall}
+use Rattle.joguyvi_spec.specs.Buffers.{first32, BuffersPost}
+use Rattle.joguyvi_spec.specs.Steps.{stepBuffers, stepNumber, StepCall}
 
 -- An answer of the step, put into its buffers.
 module _ (high : Bool) (bytes payoff : List ℕ) (class : ℕ) (figure row : List ℕ) {answer : StepAnswer}
-    (is : StepAnswered high (schemeIn bytes) (payoffRead payoff) class answer)
+    (is : StepAnswered high (schemeIn bytes) (first32 payoff) class answer)
     {n : ℕ} {figure′ row′ : List ℕ} (put : BuffersPost (stepNumber bytes payoff class figure row) (answer .figure ∷ []) (answer .row) figure row n figure′ row′) where
   abbrev s : Scheme
   s = schemeIn bytes
 
-  none : n ≡ 0 → stepCause s (payoffRead payoff) class ≡ 0
+  none : n ≡ 0 → stepCause s (first32 payoff) class ≡ 0
   none z =
-      first-none (stepCause s (payoffRead payoff) class) (stepBuffers payoff figure row)
-      (second-none (readCause bytes) (orElse (stepCause s (payoffRead payoff) class) (stepBuffers payoff figure row)) (sym (put .answer) ∙ z))
+      first-none (stepCause s (first32 payoff) class) (stepBuffers payoff figure row)
+      (second-none (readCause bytes) (orElse (stepCause s (first32 payoff) class) (stepBuffers payoff figure row)) (sym (put .answer) ∙ z))
 
   own : n ≡ 0 → answer .number ≡ 0
   own z = is .number ∙ none z
@@ -42,12 +42,12 @@ module _ (high : Bool) (bytes payoff : List ℕ) (class : ℕ) (figure row : Lis
   step-call =
       record {
         answer = put .answer;
-        figures = put .filled ∙ by-cause refl (λ z. ap (λ x. x ∷ []) (is .figure ∙ answered (stepCause s (payoffRead payoff) class) _ 0 (none z))) refl;
+        figures = put .filled ∙ by-cause refl (λ z. ap (λ x. x ∷ []) (is .figure ∙ answered (stepCause s (first32 payoff) class) _ 0 (none z))) refl;
         left = λ h. put .otherFilled ∙ declined n (answer .row) row h;
         size = λ z. ap length (whole z) ∙ is .size;
         beyond = λ z j l. ap (λ x. at x j) (whole z) ∙ is .beyond (own z) j l;
         reaches = λ z.
-            subst₂ (λ x y. Reaches high (s .classes) (classRow s class) (at (payoffRead payoff)) (at x) y)
+            subst₂ (λ x y. Reaches high (s .classes) (classRow s class) (at (first32 payoff)) (at x) y)
             (sym (whole z)) (sym (ap (λ x. getD x 0 0) (shown z)))
             (is .reaches (own z));
       }

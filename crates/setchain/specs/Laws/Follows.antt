@@ -2,7 +2,6 @@
 use Prim.Native.Nat.{ℕ, zero, suc, _*_, _<_}
 use mathlib.Core.Path.{_≡_, refl, ap, sym, _∙_, subst}
 use mathlib.Core.List.{List, [], _∷_}
-use mathlib.Core.Bool.{Bool, true, false}
 use lib.Dec.{eqb}
 use lib.ListN.{length, take}
 use native.Mathlib.Omega.{arith}
@@ -14,14 +13,9 @@ use Rattle.setchain.specs.Years.{nothing, sharePayoff}
 use Rattle.setchain.specs.Picks.{Matrix, InsideEach, none, also, entryOf, weigh, product, exactShare, exactMean, exactTotal}
 use Rattle.setchain.specs.Turns.{Turn, add, stay, turnedExact, plain, Follows}
 use Rattle.setchain.specs.Promise.{shareInParts}
-use Rattle.setchain.specs.Laws.Sums.{eqb-flip, sumTo-eq, sumTo-point}
+use Rattle.setchain.specs.Laws.Sums.{onlyIf-times, eqb-flip, sumTo-eq, sumTo-point}
 use Rattle.setchain.specs.Laws.Fractions.{proper-row, proper-sum, same-trans, mul-same, add-same, zero-add, sum-same, sum-first, sum-whole, weigh-right, weigh-sum}
 use Rattle.setchain.specs.Laws.Mean.{proper-mean, proper-turned}
-
-onlyIf-times : (b : Bool) (x y : ℕ) → onlyIf b x * y ≡ onlyIf b (x * y)
-unfolding onlyIf
-onlyIf-times true x y = refl
-onlyIf-times false x y = omega arith
 
 -- The first matrices of picks lie inside too.
 inside-take : {c : SetChain} (u : ℕ) (ps : List Matrix) → InsideEach c ps → InsideEach c (take u ps)

@@ -27,6 +27,10 @@ mul-assoc x y z = fraction (omega arith) (omega arith)
 pub zero-add : (x : Fraction) → whole 0 ⊕ x ≡ x
 zero-add x = fraction (omega arith) (omega arith)
 
+-- In a unit of 1.
+pub mul-whole-one : (x : Fraction) → x ≡ x ⊗ whole 1
+mul-whole-one x = fraction (omega arith) (omega arith)
+
 -- Four summands, the middle two exchanged.
 pub add-middle : (x y z w : Fraction) → (x ⊕ y) ⊕ (z ⊕ w) ≡ (x ⊕ z) ⊕ (y ⊕ w)
 add-middle x y z w = fraction (omega arith) (omega arith)

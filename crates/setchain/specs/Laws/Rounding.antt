@@ -1,9 +1,9 @@
 -- Rounding outward, over any unit: it stays on its side, loses less than a unit, and keeps the order.
 use Prim.Native.Nat.{ℕ, zero, suc, _+_, _-_, _*_, _/_, _≤_, _<_}
-use mathlib.Core.Path.{sym, _∙_}
+use mathlib.Core.Path.{_≡_, sym, _∙_}
 use mathlib.Core.Bool.{Bool, true, false}
 use native.Mathlib.Omega.{arith}
-use native.Mathlib.Nat.{le-of-eq, mul-le-mul-right, le-of-mul-le-mul-right, lt-of-mul-lt-mul-right, div-zero, zero-lt-suc, div-mul-le-self, lt-div-mul-add}
+use native.Mathlib.Nat.{le-of-eq, mul-pos, mul-le-mul-right, le-of-mul-le-mul-right, lt-of-mul-lt-mul-right, div-zero, zero-lt-suc, div-mul-le-self, lt-div-mul-add}
 use Rattle.setchain.specs.Rounding.{rounded}
 use Rattle.setchain.specs.Step.{NotAfter}
 
@@ -27,6 +27,11 @@ module _ (unit : ℕ) (positive : 1 ≤ unit) where
   pub rounded-at-most : (high : Bool) (x b : ℕ) → x ≤ b * unit → rounded high unit x ≤ b
   rounded-at-most high x b h = let less : rounded high unit x < b + 1 = lt-of-mul-lt-mul-right unit (omega (arith, rounded-loss high x .1)) in omega arith
 
+-- Wholes stay as they are.
+pub rounded-one : (high : Bool) (x : ℕ) → rounded high 1 x ≡ x
+rounded-one false x = omega arith
+rounded-one true x = omega arith
+
 div-le : (unit x y : ℕ) → x ≤ y → x / unit ≤ y / unit
 div-le zero x y h = le-of-eq (div-zero x ∙ sym (div-zero y))
 div-le (suc u) x y h =
@@ -37,3 +42,29 @@ div-le (suc u) x y h =
 pub rounded-inward : (high : Bool) (unit x y : ℕ) → NotAfter high x y → NotAfter high (rounded high unit x) (rounded high unit y)
 rounded-inward false unit x y h = div-le unit x y h
 rounded-inward true unit x y h = div-le unit (y + (unit - 1)) (x + (unit - 1)) (omega arith)
+
+-- Only one number bounds x and lies less than a unit from it.
+rounded-unique : (high : Bool) (unit x r : ℕ) → 1 ≤ unit → NotAfter high (r * unit) x → x < r * unit + unit → r * unit < x + unit → r ≡ rounded high unit x
+rounded-unique high unit x r positive outward above below =
+    let orders = by high outward (rounded-outward unit positive high x) in
+    let less : r < rounded high unit x + 1 = lt-of-mul-lt-mul-right unit (orders .0) in
+    let more : rounded high unit x < r + 1 = lt-of-mul-lt-mul-right unit (orders .1) in
+    omega arith
+  where
+    by : (side : Bool) → NotAfter side (r * unit) x → NotAfter side (rounded high unit x * unit) x
+        → (r * unit < (rounded high unit x + 1) * unit) × (rounded high unit x * unit < (r + 1) * unit)
+    by false h k = let loss = rounded-loss unit positive high x in (omega (arith, loss), omega (arith, loss))
+    by true h k = let loss = rounded-loss unit positive high x in (omega (arith, loss), omega (arith, loss))
+
+-- Figure and unit in proportion round alike.
+pub rounded-proportion : (high : Bool) (unit x k : ℕ) → 1 ≤ unit → 1 ≤ k → rounded high (unit * k) (x * k) ≡ rounded high unit x
+rounded-proportion high unit x k positive times =
+    let both : 1 ≤ unit * k = mul-pos positive times in
+    let r = rounded high (unit * k) (x * k) in
+    let loss = rounded-loss (unit * k) both high (x * k) in
+    rounded-unique high unit x r positive (by high (rounded-outward (unit * k) both high (x * k)))
+    (lt-of-mul-lt-mul-right k (omega (arith, loss .0))) (lt-of-mul-lt-mul-right k (omega (arith, loss .1)))
+  where
+    by : (side : Bool) → NotAfter side (rounded high (unit * k) (x * k) * (unit * k)) (x * k) → NotAfter side (rounded high (unit * k) (x * k) * unit) x
+    by false h = le-of-mul-le-mul-right {k = k} (omega arith) times
+    by true h = le-of-mul-le-mul-right {k = k} (omega arith) times

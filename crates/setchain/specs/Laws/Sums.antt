@@ -35,6 +35,11 @@ unfolding onlyIf
 onlyIf-mono true x y h = h
 onlyIf-mono false x y h = le-refl 0
 
+pub onlyIf-times : (b : Bool) (x y : ℕ) → onlyIf b x * y ≡ onlyIf b (x * y)
+unfolding onlyIf
+onlyIf-times true x y = refl
+onlyIf-times false x y = omega arith
+
 -- Equality is tested the same from either side.
 pub eqb-flip : (a b : ℕ) → eqb a b ≡ eqb b a
 eqb-flip a b = by (ℕ-discrete a b)
@@ -62,6 +67,12 @@ pub sumTo-le : (n : ℕ) (f g : ℕ → ℕ) → ((j : ℕ) → j < n → f j �
 unfolding sumTo
 sumTo-le zero f g h = omega arith
 sumTo-le (suc n) f g h = omega (arith, sumTo-le n f g (below-pred _ n h), h n (le-refl (suc n)))
+
+-- Terms that are at most b each.
+pub sumTo-most : (n : ℕ) (f : ℕ → ℕ) (b : ℕ) → ((j : ℕ) → j < n → f j ≤ b) → sumTo n f ≤ n * b
+unfolding sumTo
+sumTo-most zero f b h = omega arith
+sumTo-most (suc n) f b h = omega (arith, sumTo-most n f b (below-pred _ n h), h n (le-refl (suc n)))
 
 pub sumTo-zero : (n : ℕ) → sumTo n (λ j. 0) ≡ 0
 unfolding sumTo

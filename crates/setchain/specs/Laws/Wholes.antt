@@ -13,7 +13,7 @@ use Rattle.setchain.specs.Laws.Rounding.{rounded-outward, rounded-loss}
 
 -- Of one exact figure x, in a unit m.
 module _ (m : ℕ) (positive : 1 ≤ m) (x : Fraction) (proper : Proper x) where
-  rounded-between : (low high : ℕ) → Between low high (x ⊗ whole m) → Between (rounded false m low) (rounded true m high) x
+  pub rounded-between : (low high : ℕ) → Between low high (x ⊗ whole m) → Between (rounded false m low) (rounded true m high) x
   rounded-between low high h =
       record {
         least = le-of-mul-le-mul-right {k = m} (omega (arith, h .least, mul-le-mul-right (x .den) (rounded-outward m positive false low))) positive;
@@ -29,7 +29,7 @@ module _ (m : ℕ) (positive : 1 ≤ m) (x : Fraction) (proper : Proper x) where
         over = omega (arith, h .over, mul-lt-mul-of-pos-right below both);
       }
 
-  rounded-near : (side : Bool) (d : Fraction) → Proper d → (bound : ℕ) → NoFurther d bound (x ⊗ whole m) → Nearer (withRounding m d) (rounded side m bound) x
+  pub rounded-near : (side : Bool) (d : Fraction) → Proper d → (bound : ℕ) → NoFurther d bound (x ⊗ whole m) → Nearer (withRounding m d) (rounded side m bound) x
   rounded-near side d pd bound = let loss = rounded-loss m positive side bound in near-whole d pd bound (rounded side m bound) (loss .0) (loss .1)
 
 -- Figures kept to d in a unit m, and answered outward in wholes, are kept nearer than 1 and d / m for the exact figure itself, with the same picks.

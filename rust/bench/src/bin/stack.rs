@@ -63,18 +63,15 @@ fn largest(seed: u64) -> Vec<u8> {
     made::record_of(&scheme)
 }
 
-/// The depth of each call on a record.
-fn depths(record: &[u8]) -> [(&'static str, usize); 13] {
+/// A call's name, and its depth.
+type Depth = (&'static str, usize);
+
+/// The depth of each call for shares and money.
+fn figures(record: &[u8]) -> [Depth; 6] {
     let mut out = [0; 2];
     let (mut low, mut high) = ([0; 32], [0; 32]);
-    let mut text = vec![0; library::SHEET_ROOM];
-    let mut length = [0];
-    let mut bytes = [0; library::RECORD_ROOM];
-    let payoff: Vec<u64> = (1..=32).collect();
-    let (mut figure, mut row) = ([0], [0; 32]);
     let mut share = |year| used(|| library::share(record, 32, year, &mut out).expect("a share"));
     [
-        ("nothing", used(|| ())),
         ("share of year 0", share(0)),
         ("share of year 50", share(50)),
         ("share", share(100)),
@@ -90,6 +87,50 @@ fn depths(record: &[u8]) -> [(&'static str, usize); 13] {
             "share_sheet",
             used(|| library::share_sheet(record, 100, &mut low, &mut high).expect("a sheet")),
         ),
+    ]
+}
+
+/// The same pooled over a book, and that of joining it with itself.
+fn pooled(record: &[u8]) -> [Depth; 5] {
+    let book = [1_000; 32];
+    let mut joined = [0; 32];
+    let mut out = [0; 2];
+    let (mut low, mut high) = ([0; 32], [0; 32]);
+    [
+        (
+            "pooled_share",
+            used(|| library::pooled_share(record, &book, 32, 100, &mut out).expect("a share")),
+        ),
+        (
+            "pooled_mean",
+            used(|| library::pooled_mean(record, &book, 100, &mut out).expect("a mean")),
+        ),
+        (
+            "pooled_total",
+            used(|| library::pooled_total(record, &book, 100, &mut out).expect("a total")),
+        ),
+        (
+            "pooled_share_sheet",
+            used(|| {
+                library::pooled_share_sheet(record, &book, 100, &mut low, &mut high)
+                    .expect("a sheet");
+            }),
+        ),
+        (
+            "join",
+            used(|| library::join(&book, &book, &mut joined).expect("a book")),
+        ),
+    ]
+}
+
+/// The depth of each other call.
+fn others(record: &[u8]) -> [Depth; 6] {
+    let mut text = vec![0; library::SHEET_ROOM];
+    let mut length = [0];
+    let mut bytes = [0; library::RECORD_ROOM];
+    let payoff: Vec<u64> = (1..=32).collect();
+    let (mut figure, mut row) = ([0], [0; 32]);
+    [
         (
             "sheet",
             used(|| library::sheet(record, &mut text, &mut length).expect("a text")),
@@ -119,6 +160,15 @@ fn depths(record: &[u8]) -> [(&'static str, usize); 13] {
     ]
 }
 
+/// The depth of each call on a record.
+fn depths(record: &[u8]) -> Vec<Depth> {
+    let mut all = vec![("nothing", used(|| ()))];
+    all.extend(figures(record));
+    all.extend(pooled(record));
+    all.extend(others(record));
+    all
+}
+
 fn main() {
     // The most over several schemes.
     let mut rows = depths(&largest(1));
@@ -128,6 +178,6 @@ fn main() {
         }
     }
     for (call, depth) in rows {
-        println!("{call:<17} {depth:>8} bytes");
+        println!("{call:<18} {depth:>8} bytes");
     }
 }

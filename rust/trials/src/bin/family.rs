@@ -50,6 +50,30 @@
 //!                                  high, filled with 7 beforehand
 //! ```
 //!
+//! then for each kind 0 to 4 of book, and for each year of 1, horizon,
+//! horizon + 1:
+//!
+//! ```text
+//! POOLED kind year ANSWER ANSWER ANSWER
+//!                                  share of class s, mean and total, pooled;
+//!                                  OK low high each
+//! POOLSHARES kind year ANSWER sum sum
+//!                                  pooled share sheet into slices of s and s
+//!                                  numbers, of s and s + 1; OK alone; then in
+//!                                  any case the checksums of low and high,
+//!                                  filled with 7 beforehand
+//! ```
+//!
+//! and then:
+//!
+//! ```text
+//! JOIN kind kind ANSWER sum        two books joined, with 0 beyond s: kinds
+//!                                  0 1, 1 1, 2 4, 2 0; OK alone; then the
+//!                                  checksum of the 32 joined counts (0 each
+//!                                  where declined)
+//! JOIN 4 4 ANSWER sum              the same, with 4294967295 beyond s
+//! ```
+//!
 //! The kinds of payoff, for class j from 1 to s (beyond s it is 40000000000):
 //!
 //! ```text
@@ -57,6 +81,17 @@
 //! 1  as 3, mod 3
 //! 2  as 3, but 10000000001 at class s
 //! 3  (6180339887 x j + 2718281828 x record number) mod 10000000001
+//! ```
+//!
+//! The kinds of book, for class j from 1 to s (beyond s it is 4294967295, but
+//! for the first four JOIN lines):
+//!
+//! ```text
+//! 0  1 at the start class, 0 elsewhere
+//! 1  (618033 x j + 271828 x record number) mod 1000001
+//! 2  1000000
+//! 3  as 1, but 1000001 at class s
+//! 4  0
 //! ```
 //!
 //! The classes and years named are asked in that order also where two of them

@@ -4,7 +4,7 @@ use Prim.Native.Nat.{_-_}
 use native.Mathlib.Omega.{arith}
 use lib.ListN.{getD}
 use Rattle.scheme.specs.Laws.Filled.{Filled, fill-none, fill-more, fill-all}
-use Rattle.joguyvi_spec.specs.Steps.{payoffRead}
+use Rattle.joguyvi_spec.specs.Buffers.{first32}
 use Rattle.joguyvi_steps.proofs.steps.payoff_of.Statement.{statement}
 use Rattle.joguyvi_steps.proofs.steps.payoff_of.Tie as tie
 
@@ -36,7 +36,7 @@ loop-again : tie.Need-loop-again Inv-loop μ-loop
 loop-again c = fill-more _ _ _ _ _ (omega arith) (c .number-at .ensures) (c .before .before .loop .inv)
 
 returns : tie.Need-returns Inv-loop μ-loop
-unfolding payoffRead
+unfolding first32
 returns c = fill-all _ _ _ _ (omega arith) (c .before .loop .inv)
 
 pub payoff-of-spec : {M : Type 1} → statement M
