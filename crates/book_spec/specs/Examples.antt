@@ -11,7 +11,7 @@ use Rattle.book_spec.specs.Book.{countOut, noChamber, bookCause, joinedB
 abbrev pub lastTwo : (before last : ℕ) → List ℕ
 lastTwo before last = replicate 30 0 ++ before ∷ last ∷ []
 
--- Counts at and past the limit, in a class that is pooled and in one that is not; no chamber; 18 before 19; and a book that is shorter than its classes.
+-- Counts at and past the limit, in a class that is pooled and in one that is not; no chamber; a count past the limit beside a class without a chamber; and a book that is shorter than its classes.
 pub record CauseExamples : Type 0 where
   pub most : bookCause 2 (1000000 ∷ 1000000 ∷ []) ≡ 0
   pub one : (bookCause 2 (1 ∷ 0 ∷ []) ≡ 0) × (bookCause 2 (0 ∷ 1 ∷ []) ≡ 0)

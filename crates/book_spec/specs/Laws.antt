@@ -63,6 +63,7 @@ pooled-no-cause {n} {book} w =
     ap₂ (λ a b. firstOf (18 when a ∷ 19 when b ∷ [])) (within n book (w .counts))
     (no-chamber n book ∙ ne-eqb (sumTo n (at book)) 0 (λ e. omega (arith, w .some)))
 
+-- Of three tests the last alone counts, where each of the others implies it.
 last-of-three : (a b c : Bool) → (a ≡ true → c ≡ true) → (b ≡ true → c ≡ true) → (a || b || c) ≡ c
 last-of-three true b c h k = sym (h refl)
 last-of-three false true c h k = sym (k refl)
