@@ -33,6 +33,15 @@ uint8_t joguyvi_share(const uint8_t *bytes, size_t bytes_length,
                       uint64_t class_number, uint64_t year,
                       uint64_t *out, size_t out_length);
 
+/* The chance of having stood in a class, 1 to s, at least once in the years 0
+ * to `year`, in parts of 1,000,000,000: low and high into `out`, of 2 numbers.
+ * For the start class it is 1,000,000,000 in every year, and no chance falls
+ * from year to year. No probabilities inside the bands lead outside, and for
+ * each of the two some come within one part for each year. */
+uint8_t joguyvi_reached(const uint8_t *bytes, size_t bytes_length,
+                        uint64_t class_number, uint64_t year,
+                        uint64_t *out, size_t out_length);
+
 /* The mean premium of a year, in cents: low and high into `out`, of 2 numbers.
  * The years carry tenths of a cent, and only the answer is rounded to cents,
  * low down and high up. No probabilities inside the bands lead outside, and

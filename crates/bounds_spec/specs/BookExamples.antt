@@ -10,7 +10,7 @@ use Rattle.setchain.specs.Step.{capacityBefore, fillRow, stepFigure}
 use Rattle.setchain.specs.Years.{yearsFigure}
 use Rattle.setchain.specs.Picks.{product, exactMean, exactTotal}
 use Rattle.setchain.specs.Laws.Sums.{below-two}
-use Rattle.setchain.specs.PromiseExamples.{picksA}
+use Rattle.setchain.specs.Examples.{picksA}
 use Rattle.setchain.specs.DistanceExamples.{fraction}
 use Rattle.scheme.specs.Tables.{tab}
 use Rattle.scheme.specs.Cause.{sizeOut, startOut, horizonOut, ruleOut, bandOut, sumOut, premiumOut, causeOf}
@@ -48,7 +48,8 @@ pub record PooledCauses : Type 0 where
   pub sheetYear : pooledLengthsCause schemeA (1000001 ∷ []) 3 2 3 ≡ 12
   pub sheetCount : pooledLengthsCause schemeA (1000001 ∷ []) 2 2 3 ≡ 18
   pub sheetEmpty : pooledLengthsCause schemeA (0 ∷ 0 ∷ 1 ∷ []) 2 2 3 ≡ 19
-  pub sheetSlices : (pooledLengthsCause schemeA (1 ∷ []) 2 2 3 ≡ 13) × (pooledSheetCause schemeA (1 ∷ []) 2 (7 ∷ []) (7 ∷ 7 ∷ []) ≡ 13) × (pooledSheetCause schemeA (1 ∷ []) 2 (7 ∷ 7 ∷ []) (7 ∷ []) ≡ 13)
+  pub sheetSlices : (pooledLengthsCause schemeA (1 ∷ []) 2 2 3 ≡ 13) × (pooledSheetCause schemeA (1 ∷ []) 2 (7 ∷ []) (7 ∷ 7 ∷ []) ≡ 13)
+      × (pooledSheetCause schemeA (1 ∷ []) 2 (7 ∷ 7 ∷ []) (7 ∷ []) ≡ 13)
   pub sheetNone : pooledSheetCause schemeA (1 ∷ 0 ∷ 1000001 ∷ []) 2 (7 ∷ 7 ∷ []) (7 ∷ 7 ∷ []) ≡ 0
 
 pub pooled-causes : PooledCauses

@@ -147,7 +147,8 @@ pooled-money-edges =
       highNearer = λ z. pooled-edge (all-fixed .3) (money-edges .highNearer z);
     }
 
--- Premiums of 10 and 11 in year 0: over nine chambers and one the exact total of one year is 10.1 cents, 1.1 from 9, over 91 and nine 10.09; over one and nine 10.9, 1.1 from 12, over nine and 91 10.91.
+-- Premiums of 10 and 11 in year 0: over nine chambers and one the exact total of one year is 10.1 cents, 1.1 from 9, over 91 and nine 10.09;
+-- over one and nine 10.9, 1.1 from 12, over nine and 91 10.91.
 pub record PooledTotalEdges : Type 0 where
   pub lowAt : PooledPromise (fixedBands 900000000 100000000) (9 ∷ 1 ∷ []) Figure.total 1 (Answered 9 11) → ⊥
   pub lowNearer : PooledPromise (fixedBands 900000000 100000000) (91 ∷ 9 ∷ []) Figure.total 1 (Answered 9 11)

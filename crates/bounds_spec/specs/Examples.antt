@@ -6,14 +6,13 @@ use mathlib.Core.List.{[], _∷_}
 use native.Mathlib.Omega.{arith}
 use native.Mathlib.Nat.{le-refl}
 use borrow.Author.Tests.{le-ltb}
-use Rattle.setchain.specs.Sums.{sumTo, onlyIf, dot}
+use Rattle.setchain.specs.Sums.{sumTo, onlyIf}
 use Rattle.setchain.specs.Tests.{anyBelow}
 use Rattle.setchain.specs.Rows.{ONE, IntervalRow, SoundRow, SetChain, SoundChain}
-use Rattle.setchain.specs.Rounding.{rounded}
-use Rattle.setchain.specs.Step.{capacityBefore, fillRow, extremeRow, stepFigure}
+use Rattle.setchain.specs.Step.{capacityBefore, fillRow, stepFigure}
 use Rattle.setchain.specs.Years.{yearsFigure, shareFigure, tenths, totalTenths}
 use Rattle.setchain.specs.Examples.{StepExamples, step-examples}
-use Rattle.setchain.specs.Laws.Step.{extreme-parts}
+use Rattle.setchain.specs.ReachedTheorems.{stay-step}
 use Rattle.scheme.specs.declared.Scheme.{Scheme}
 use Rattle.scheme.specs.Tables.{tab}
 use Rattle.scheme.specs.Accepted.{Accepted}
@@ -50,17 +49,9 @@ fixedBands first second =
 abbrev schemeThirds : Scheme
 schemeThirds = fixedBands 333333333 666666667
 
--- Whole units stay as they are.
-rounded-units : (high : Bool) (x : ℕ) → rounded high ONE (x * ONE) ≡ x
-rounded-units false x = omega arith
-rounded-units true x = omega arith
-
--- With one state the row is ONE, so a step changes nothing.
+-- With one state the row cannot leave it, so a step changes nothing.
 one-step : (high : Bool) (r : IntervalRow) → SoundRow 1 r → (f : ℕ → ℕ) → stepFigure high 1 r f ≡ f 0
-unfolding stepFigure sumTo
-one-step high r sound f =
-    let units : dot 1 (extremeRow high 1 r f) f ≡ f 0 * ONE = omega (arith, ap (λ p. p * f 0) (extreme-parts 1 r sound high f .sums)) in
-    ap (rounded high ONE) units ∙ rounded-units high (f 0)
+one-step high r sound f = stay-step high (le-refl 1) (record { sound = sound; itself = λ k l other. absurd (other (omega arith)) }) f
 
 module _ (high : Bool) (c : SetChain) (sound : SoundChain c) (one : c .states ≡ 1) where
   only-step : (f : ℕ → ℕ) → stepFigure high (c .states) (c .row 0) f ≡ f 0
@@ -89,7 +80,7 @@ largest-total high = only-total high (chainOf dearest) (accepted-sound dearest (
 no-year-cause : (s : Scheme) (t : ℕ) → t ≤ s .horizon → yearCause s t ≡ 0
 no-year-cause s t h = simp (le-ltb (s .horizon) t h)
 
-no-share-cause : (s : Scheme) → Accepted s → (class t : ℕ) → 1 ≤ class → class ≤ s .classes → t ≤ s .horizon → shareCause s class t ≡ 0
+pub no-share-cause : (s : Scheme) → Accepted s → (class t : ℕ) → 1 ≤ class → class ≤ s .classes → t ≤ s .horizon → shareCause s class t ≡ 0
 no-share-cause s ok class t low high h =
     second-cause (causeOf s) (orElse (classCause s class) (yearCause s t)) (cause-accepted s ok)
     ∙ second-cause (classCause s class) (yearCause s t) (cond-false (outside (s .classes) class) 11 0 (inside-outside (s .classes) class low high))

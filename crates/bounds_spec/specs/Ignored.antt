@@ -5,6 +5,7 @@ use mathlib.Core.Bool.{Bool, true, false}
 use mathlib.Core.List.{List}
 use lib.ListN.{length}
 use Rattle.setchain.specs.Years.{shareFigure, meanFigure, totalFigure}
+use Rattle.setchain.specs.Reached.{reachedFigure}
 use Rattle.scheme.specs.declared.Scheme.{Scheme}
 use Rattle.scheme.specs.Access.{premiumAt}
 use Rattle.scheme.specs.Rows.{chainOf}
@@ -16,6 +17,7 @@ use Rattle.bounds_spec.specs.declared.Bounds.the-variants.{Answered, Ref
 use Rattle.bounds_spec.specs.Causes.{shareCause, moneyCause, sheetLengthsCause, tableLengthsCause}
 use Rattle.bounds_spec.specs.Answers.{answerBy, startOf, shareAnswer, meanAnswer, totalAnswer, sheetCause, sheetSlice, figureShares, lowShares, highShares}
 use Rattle.bounds_spec.specs.Table.{figureTable, lowTable, highTable, tableCause}
+use Rattle.bounds_spec.specs.Reached.{reachedAnswer}
 use Rattle.bounds_spec.specs.Pooled.{Figure, pooled, pooledCause, pooledAnswer, pooledSheetCause, pooledShares}
 use Rattle.bounds_spec.specs.Laws.Causes.{of-share, of-money, of-sheet, of-table, share-cause, money-cause, sheet-cause, pooled-cause, pooled-sheet-cause, table-cause}
 use Rattle.bounds_spec.specs.Laws.Pooled.{of-pooled, sheet-money}
@@ -30,6 +32,7 @@ pub record SameAnswers (s s′ : Scheme) : Type 0 where
   pub share : (class year : ℕ) → shareAnswer s class year ≡ shareAnswer s′ class year
   pub mean : (year : ℕ) → meanAnswer s year ≡ meanAnswer s′ year
   pub total : (year : ℕ) → totalAnswer s year ≡ totalAnswer s′ year
+  pub reached : (class year : ℕ) → reachedAnswer s class year ≡ reachedAnswer s′ class year
   pub sheet : (year : ℕ) (low high : List ℕ) → sheetCause s year low high ≡ sheetCause s′ year low high
   pub lowSheet : (year : ℕ) (low high : List ℕ) → sheetSlice (sheetCause s year low high) (lowShares s year) low ≡ sheetSlice (sheetCause s′ year low high) (lowShares s′ year) low
   pub highSheet : (year : ℕ) (low high : List ℕ) → sheetSlice (sheetCause s year low high) (highShares s year) high ≡ sheetSlice (sheetCause s′ year low high) (highShares s′ year) high
@@ -64,6 +67,10 @@ module _ {s s′ : Scheme} (w : Alike s s′) where
       → totalFigure high (chainOf s) (premiumAt s) year (startOf s) ≡ totalFigure high (chainOf s′) (premiumAt s′) year (startOf s′)
   total-figure high year z = let none = of-money s year z in alike.total-same (alike-values w none) none high year
 
+  reached-figure : (high : Bool) (class year : ℕ) → shareCause s class year ≡ 0
+      → reachedFigure high (chainOf s) (class - 1) year (startOf s) ≡ reachedFigure high (chainOf s′) (class - 1) year (startOf s′)
+  reached-figure high class year z = let none = of-share s class year z in alike.reached-same (alike-values w none) none high year (class - 1)
+
   -- One slice of a share sheet, pooled or not, and of all figures.
   sheet-slice : (side : Bool) (year : ℕ) (low high before : List ℕ)
       → sheetSlice (sheetCause s year low high) (figureShares side s year) before ≡ sheetSlice (sheetCause s′ year low high) (figureShares side s′ year) before
@@ -95,7 +102,7 @@ module _ {s s′ : Scheme} (w : Alike s s′) where
       (λ z. let none = of-table s (length low) (length high) z in alike.table-same (alike-values w none) none side) refl
 
   alike-answers : SameAnswers s s′
-  unfolding shareAnswer meanAnswer totalAnswer sheetCause pooledSheetCause tableCause
+  unfolding shareAnswer meanAnswer totalAnswer reachedAnswer sheetCause pooledSheetCause tableCause
   alike-answers =
       record {
         shareNumber = share-cause cause;
@@ -105,6 +112,7 @@ module _ {s s′ : Scheme} (w : Alike s s′) where
         share = λ class year. answer-same (share-cause cause class year) (share-figure false class year) (share-figure true class year);
         mean = λ year. answer-same (money-cause cause year) (mean-figure false year) (mean-figure true year);
         total = λ year. answer-same (money-cause cause year) (total-figure false year) (total-figure true year);
+        reached = λ class year. answer-same (share-cause cause class year) (reached-figure false class year) (reached-figure true class year);
         sheet = λ year low high. sheet-cause cause year (length low) (length high);
         lowSheet = λ year low high. sheet-slice false year low high low;
         highSheet = λ year low high. sheet-slice true year low high high;

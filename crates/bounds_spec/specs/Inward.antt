@@ -1,5 +1,5 @@
 -- Narrower bands move bounds inward (document 02, item 1), of what the calls answer: "The trimmed scheme's low figures must be no smaller and its high
--- figures no larger", for every class, year, mean and total, pooled or not, and for each number of a share sheet and of all figures.
+-- figures no larger", for every class, year, mean, total and chance, pooled or not, and for each number of a share sheet and of all figures.
 use Prim.Native.Nat.{ℕ, suc, _+_, _-_, _*_, _/_, _%_, _≤_, _<_}
 use mathlib.Core.Path.{_≡_, refl, ap, ap₂, sym, subst}
 use mathlib.Core.Bool.{Bool, true, false, cond}
@@ -15,6 +15,8 @@ use Rattle.setchain.specs.Laws.NotAfter.{not-after-same}
 use Rattle.setchain.specs.Pooled.{pooledFigure}
 use Rattle.setchain.specs.Inward.{rounded-inward, years-inward}
 use Rattle.setchain.specs.PooledTheorems.{pooled-inward}
+use Rattle.setchain.specs.Reached.{reachedFigure}
+use Rattle.setchain.specs.ReachedTheorems.{reached-inward}
 use Rattle.scheme.specs.declared.Scheme.{Scheme}
 use Rattle.scheme.specs.Access.{premiumAt}
 use Rattle.scheme.specs.Accepted.{Accepted}
@@ -30,6 +32,7 @@ use Rattle.bounds_spec.specs.Causes.{totalPlace, tableSize}
 use Rattle.bounds_spec.specs.Answers.{numberOf, lowOf, highOf, answerBy, startOf, shareAnswer, meanAnswer, totalAnswer, sheetCause, sheetSlice, figureShares, lowShares, highShares}
 use Rattle.bounds_spec.specs.Table.{tableEntry, figureTable, lowTable, highTable, tableCause}
 use Rattle.bounds_spec.specs.Pooled.{Figure, unitsOf, classFigure, pooled, pooledAnswer, pooledSheetCause, pooledShares}
+use Rattle.bounds_spec.specs.Reached.{reachedAnswer}
 use Rattle.bounds_spec.specs.Laws.Causes.{share-cause, money-cause, sheet-cause, pooled-cause, pooled-sheet-cause, table-cause}
 
 -- The same call is answered, its low no smaller and its high no larger.
@@ -73,6 +76,7 @@ pub record AnswersInward (wide narrow : Scheme) : Type 0 where
   pub share : (class year : ℕ) → BoundsInward (shareAnswer wide class year) (shareAnswer narrow class year)
   pub mean : (year : ℕ) → BoundsInward (meanAnswer wide year) (meanAnswer narrow year)
   pub total : (year : ℕ) → BoundsInward (totalAnswer wide year) (totalAnswer narrow year)
+  pub reached : (class year : ℕ) → BoundsInward (reachedAnswer wide class year) (reachedAnswer narrow class year)
   pub sheet : (year : ℕ) (low high : List ℕ) → SlicesInward (sheetSlices wide year low high) (sheetSlices narrow year low high)
   pub pooledFigures : (book : List ℕ) (figure : Figure) (year : ℕ) → BoundsInward (pooledAnswer wide book figure year) (pooledAnswer narrow book figure year)
   pub pooledSheet : (book : List ℕ) (year : ℕ) (low high : List ℕ) → SlicesInward (pooledSlices wide book year low high) (pooledSlices narrow book year low high)
@@ -107,6 +111,12 @@ module _ {wide narrow : Scheme} (okWide : Accepted wide) (okNarrow : Accepted na
   cause : SameCause wide narrow
   cause = trimmed-cause trimmed okWide okNarrow
 
+  start-same : startOf wide ≡ startOf narrow
+  start-same = ap (λ x. x - 1) (trimmed .others .start)
+
+  start-within : startOf wide < wide .classes
+  start-within = omega (arith, okWide .start .positive, okWide .start .within)
+
   module _ (high : Bool) where
     -- Any payoff and gain, each no further out: of every class, and of the start class.
     module _ (payoff payoff′ gain gain′ : ℕ → ℕ)
@@ -117,8 +127,8 @@ module _ {wide narrow : Scheme} (okWide : Accepted wide) (okNarrow : Accepted na
       pub figure-inward : NotAfter high (yearsFigure high (chainOf wide) payoff gain t (startOf wide)) (yearsFigure high (chainOf narrow) payoff′ gain′ t (startOf narrow))
       figure-inward =
           subst (λ i. NotAfter high (yearsFigure high (chainOf wide) payoff gain t (startOf wide)) (yearsFigure high (chainOf narrow) payoff′ gain′ t i))
-          (ap (λ x. x - 1) (trimmed .others .start))
-          (class-inward (startOf wide) (omega (arith, okWide .start .positive, okWide .start .within)))
+          start-same
+          (class-inward (startOf wide) start-within)
 
     abbrev share : Scheme → (t j : ℕ) → ℕ
     share s t j = shareFigure high (chainOf s) j t (startOf s)
@@ -145,6 +155,11 @@ module _ {wide narrow : Scheme} (okWide : Accepted wide) (okNarrow : Accepted na
     total-inward : (t : ℕ) → NotAfter high (total wide t) (total narrow t)
     total-inward t =
         rounded-inward high CENT _ _ (figure-inward nothing nothing (tenths (premiumAt wide)) (tenths (premiumAt narrow)) (same nothing) premiums t)
+
+    reached-figure-inward : (t j : ℕ) → NotAfter high (reachedFigure high (chainOf wide) j t (startOf wide)) (reachedFigure high (chainOf narrow) j t (startOf narrow))
+    reached-figure-inward t j =
+        subst (λ i. NotAfter high (reachedFigure high (chainOf wide) j t (startOf wide)) (reachedFigure high (chainOf narrow) j t i)) start-same
+        (reached-inward high (accepted-sound wide okWide) (accepted-sound narrow okNarrow) (trimmed-covers trimmed) j t (startOf wide) start-within)
 
     -- Pooled figures.
     class-figure-inward : (figure : Figure) (t i : ℕ) → i < wide .classes → NotAfter high (classFigure high wide figure t i) (classFigure high narrow figure t i)
@@ -193,12 +208,14 @@ module _ {wide narrow : Scheme} (okWide : Accepted wide) (okNarrow : Accepted na
 
   -- Item 1 on what the calls answer.
   pub answers-inward : AnswersInward wide narrow
-  unfolding shareAnswer meanAnswer totalAnswer sheetCause pooledAnswer pooledSheetCause tableCause
+  unfolding shareAnswer meanAnswer totalAnswer reachedAnswer sheetCause pooledAnswer pooledSheetCause tableCause
   answers-inward =
       record {
         share = λ class year. answer-inward (share-cause cause class year) (share-inward false year (class - 1)) (share-inward true year (class - 1));
         mean = λ year. answer-inward (money-cause cause year) (mean-inward false year) (mean-inward true year);
         total = λ year. answer-inward (money-cause cause year) (total-inward false year) (total-inward true year);
+        reached = λ class year.
+            answer-inward (share-cause cause class year) (reached-figure-inward false year (class - 1)) (reached-figure-inward true year (class - 1));
         sheet = λ year low high.
             let e = sheet-cause cause year (length low) (length high) in
             record { number = e; low = sheet-slice false year low e; high = sheet-slice true year high e };

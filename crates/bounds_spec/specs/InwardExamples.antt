@@ -7,6 +7,7 @@ use native.Mathlib.Nat.{le-refl}
 use Rattle.setchain.specs.Sums.{at, sumTo, onlyIf}
 use Rattle.setchain.specs.Step.{capacityBefore, fillRow, stepFigure}
 use Rattle.setchain.specs.Years.{yearsFigure}
+use Rattle.setchain.specs.Reached.{reachedFigure}
 use Rattle.setchain.specs.Tests.{anyBelow}
 use Rattle.scheme.specs.Tables.{tab}
 use Rattle.scheme.specs.Cause.{sizeOut, startOut, horizonOut, ruleOut, bandOut, sumOut, premiumOut, causeOf}
@@ -15,6 +16,7 @@ use Rattle.scheme.specs.TrimmedExamples.{narrowA, unchangedA, trimmed-a}
 use Rattle.scheme.specs.Laws.Judged.{accepted-cause}
 use Rattle.bounds_spec.specs.declared.Bounds.the-variants.{Answered, Refused}
 use Rattle.bounds_spec.specs.Answers.{shareAnswer, meanAnswer, totalAnswer}
+use Rattle.bounds_spec.specs.Reached.{reachedAnswer}
 use Rattle.bounds_spec.specs.Table.{tableEntry, figureTable, lowTable, highTable}
 use Rattle.bounds_spec.specs.Inward.{BoundsInward, SlicesInward, Slices, AnswersInward, answers-inward}
 
@@ -26,16 +28,18 @@ pub unchanged-inward : AnswersInward schemeA unchangedA
 unchanged-inward = answers-inward (accepted-cause schemeA (rows-a .accepted)) (accepted-cause unchangedA (trimmed-a .unchangedAccepted)) (trimmed-a .unchanged)
 
 -- With the last column's band trimmed the bounds move: Example A has shares of .92 to .99 and .01 to .08 in year 2, a mean of 10050 to 10400 and a total of
--- 25500 to 26000, whose high end alone stays.
+-- 25500 to 26000, whose high end alone stays; and class 1 is reached by .96 to .99.
 pub record NarrowA : Type 0 where
   pub share1 : shareAnswer narrowA 1 2 ≡ Answered 928000000 979000000
   pub share2 : shareAnswer narrowA 2 2 ≡ Answered 21000000 72000000
   pub mean : meanAnswer narrowA 2 ≡ Answered 10105 10360
   pub total : totalAnswer narrowA 2 ≡ Answered 25550 26000
+  pub reached : reachedAnswer narrowA 1 2 ≡ Answered 960000000 987900000
 
 pub narrow-a : NarrowA
-unfolding shareAnswer meanAnswer totalAnswer causeOf sizeOut startOut horizonOut ruleOut bandOut sumOut premiumOut anyBelow yearsFigure stepFigure fillRow capacityBefore sumTo onlyIf
-narrow-a = record { share1 = refl; share2 = refl; mean = refl; total = refl }
+unfolding shareAnswer meanAnswer totalAnswer reachedAnswer causeOf sizeOut startOut horizonOut ruleOut bandOut sumOut premiumOut anyBelow
+    yearsFigure reachedFigure stepFigure fillRow capacityBefore sumTo onlyIf
+narrow-a = record { share1 = refl; share2 = refl; mean = refl; total = refl; reached = refl }
 
 -- With the second column's band trimmed, whose upper end no row reaches, no figure moves.
 pub record UnchangedA : Type 0 where

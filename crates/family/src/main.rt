@@ -235,7 +235,24 @@ fn share(scheme: Scheme, class: u64, year: u64) {
     answer(bounds::share(scheme, class, year));
 }
 
-// What is asked of a class: its interval row and its tight row, its steps at all kinds of payoff, and its shares.
+// The chance of having reached a class by a year.
+fn reached(scheme: Scheme, class: u64, year: u64) {
+    console::word(b"REACHED", class);
+    console::number(year);
+    answer(reached::reached(scheme, class, year));
+}
+
+// The chances of having reached a class by the years in which its share is asked for.
+fn chances(scheme: Scheme, class: u64) {
+    let horizon = scheme.horizon as u64;
+    reached(scheme, class, 0);
+    reached(scheme, class, 1);
+    reached(scheme, class, 2);
+    reached(scheme, class, horizon);
+    reached(scheme, class, horizon + 1);
+}
+
+// What is asked of a class: its interval row and its tight row, its steps at all kinds of payoff, its shares, and the chances of having reached it.
 fn of_class(scheme: Scheme, number: u64, class: u64) {
     let horizon = scheme.horizon as u64;
     row(scheme, class);
@@ -248,6 +265,7 @@ fn of_class(scheme: Scheme, number: u64, class: u64) {
     share(scheme, class, 2);
     share(scheme, class, horizon);
     share(scheme, class, horizon + 1);
+    chances(scheme, class);
 }
 
 // A share sheet into two slices.

@@ -38,7 +38,10 @@ use Rattle.bounds_spec.specs.Laws.Kept.{sheet-kept}
 use Rattle.sheet_spec.specs.Text.{digitsWithin}
 use Rattle.sheet_spec.specs.Sheet.{refusedLine, sheetText}
 use Rattle.sheet_spec.specs.Answer.{spaceFor, sheetAnswer, sheetLeaves}
-use Rattle.joguyvi_spec.specs.Figures.{putNumber, lowAndHigh, ShareCall, MeanCall, TotalCall}
+use Rattle.bounds_spec.specs.Reached.{reachedAnswer, startReached}
+use Rattle.bounds_spec.specs.ChanceExamples.{answers-reached}
+use Rattle.bounds_spec.specs.ReachedPromiseExamples.{forbidden-chances}
+use Rattle.joguyvi_spec.specs.Figures.{putNumber, lowAndHigh, ShareCall, ReachedCall, MeanCall, TotalCall}
 use Rattle.joguyvi_spec.specs.Shares.{ShareSheetCall}
 use Rattle.joguyvi_spec.specs.Texts.{SheetCall}
 use Rattle.joguyvi_spec.specs.Rows.{RowCall, RuleRowCall, BandsCall}
@@ -47,7 +50,7 @@ use Rattle.joguyvi_spec.specs.Buffers.{first32}
 use Rattle.joguyvi_spec.specs.Steps.{StepCall}
 use Rattle.joguyvi_spec.specs.Mixing.{PutCountPost, MixingCall}
 use Rattle.joguyvi_spec.specs.Examples.{one, two, three, long, inA, after-a, oneClassRecord, edgelessRecord, mixing-numbers}
-use Rattle.joguyvi_spec.specs.Laws.Figures.{RecordBoundsPost, share-call, mean-call, total-call}
+use Rattle.joguyvi_spec.specs.Laws.Figures.{RecordBoundsPost, share-call, reached-call, mean-call, total-call}
 
 -- The number of Example A's record and of no bytes, and not another.
 pub check-calls : CheckCall exampleA 0 × CheckCall [] 1 × ¬ CheckCall [] 0
@@ -177,6 +180,21 @@ share-calls = (
   λ w. omega (arith, w .answer),
 )
 
+-- The chance of having reached class 1 by year 2, and not 3 parts less for its low, which the share of class 1 is not; declined, the buffer is left as it was.
+pub reached-calls :
+    ReachedCall exampleA 1 2 two 0 (960000000 ∷ 990000000 ∷ []) × ¬ ReachedCall exampleA 1 2 two 0 (959999997 ∷ 990000000 ∷ [])
+    × ¬ ReachedCall exampleA 1 2 two 0 (920000000 ∷ 990000000 ∷ []) × ReachedCall [] 1 2 two 1 two × ¬ ReachedCall [] 1 2 two 1 (960000000 ∷ 990000000 ∷ [])
+    × ¬ ReachedCall [] 1 2 two 0 two
+unfolding layoutIn frameCause
+reached-calls = (
+  reached-call exampleA 2 two 1 (put-a (λ s. reachedAnswer s 1 2) (ap (λ s. reachedAnswer s 1 2) scheme-a ∙ answers-reached .year2)),
+  λ w. forbidden-chances .lowWide (λ z. subst (λ s. ShareKept s 2 (startReached s 0) 959999997 990000000) scheme-a (w .promise refl)),
+  λ w. forbidden-chances .share (λ z. subst (λ s. ShareKept s 2 (startReached s 0) 920000000 990000000) scheme-a (w .promise refl)),
+  record { answer = refl; figures = refl; promise = λ z. absurd (omega arith) },
+  λ w. let e : _≡_ {A = ℕ} 960000000 7 = ap (λ l. getD l 0 0) (w .figures) in omega arith,
+  λ w. omega (arith, w .answer),
+)
+
 -- The mean premium of year 2, and not 2 cents less for its low.
 pub mean-calls : MeanCall exampleA 2 two 0 (10050 ∷ 10400 ∷ []) × ¬ MeanCall exampleA 2 two 0 (10048 ∷ 10400 ∷ [])
 mean-calls = (
@@ -203,7 +221,7 @@ pub share-sheet-calls :
     × ¬ ShareSheetCall exampleA 1 two two 0 (highShares inA 1) (highShares inA 1)
     × ¬ ShareSheetCall exampleA 1 two two 0 (lowShares inA 1) (lowShares inA 1)
     × ¬ ShareSheetCall exampleA 2 two two 0 (10000000 ∷ 10000000 ∷ []) (80000000 ∷ 80000000 ∷ [])
-    × ShareSheetCall [] 1 two two 1 two two
+    × ShareSheetCall [] 1 two three 1 two three
     × ¬ ShareSheetCall [] 1 two two 2 two two
 unfolding layoutIn sheetCause frameCause beAt schemeOf upTo tab causeOf sizeOut startOut horizonOut ruleOut bandOut sumOut premiumOut anyBelow sumTo
 share-sheet-calls = (

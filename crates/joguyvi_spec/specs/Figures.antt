@@ -10,6 +10,7 @@ use Rattle.record_spec.specs.Read.{readCause}
 use Rattle.bounds_spec.specs.declared.Bounds.{Bounds}
 use Rattle.bounds_spec.specs.Answers.{numberOf, lowOf, highOf, shareAnswer, meanAnswer, totalAnswer}
 use Rattle.bounds_spec.specs.Promises.{ShareKept, MoneyKept, startShare, startMean, startTotal}
+use Rattle.bounds_spec.specs.Reached.{reachedAnswer, startReached}
 use Rattle.joguyvi_spec.specs.Buffers.{bufferCause, filledWhere, BufferPost}
 
 -- Low and high into a buffer: their cause, then 13 where the buffer is not of 2 numbers.
@@ -39,6 +40,10 @@ pub record BoundsCall (query : Scheme → Bounds) (kept : Scheme → (low high :
 -- joguyvi_share: the share of a class after a number of years.
 abbrev pub ShareCall : (bytes : List ℕ) (class year : ℕ) (out : List ℕ) (number : ℕ) (out′ : List ℕ) → Type 0
 ShareCall bytes class year = BoundsCall (λ s. shareAnswer s class year) (λ s. ShareKept s year (startShare s (class - 1))) bytes
+
+-- joguyvi_reached: the chance of having reached a class by a year.
+abbrev pub ReachedCall : (bytes : List ℕ) (class year : ℕ) (out : List ℕ) (number : ℕ) (out′ : List ℕ) → Type 0
+ReachedCall bytes class year = BoundsCall (λ s. reachedAnswer s class year) (λ s. ShareKept s year (startReached s (class - 1))) bytes
 
 -- joguyvi_mean: the mean premium of a year.
 abbrev pub MeanCall : (bytes : List ℕ) (year : ℕ) (out : List ℕ) (number : ℕ) (out′ : List ℕ) → Type 0

@@ -1,6 +1,6 @@
-// Shares, means, totals, share sheets, the same pooled over a book, and whole sheets of a record, for C and for Rust, and two books joined:
-// each function answers 0 or the cause's number, and fills the lent buffers only where it answers 0.
-ghost use Rattle.joguyvi_spec.specs.Figures.{MeanCall, ShareCall, TotalCall};
+// Shares, means, totals, share sheets, the same pooled over a book, chances of having reached a class, and whole sheets of a record,
+// for C and for Rust, and two books joined: each function answers 0 or the cause's number, and fills the lent buffers only where it answers 0.
+ghost use Rattle.joguyvi_spec.specs.Figures.{MeanCall, ReachedCall, ShareCall, TotalCall};
 ghost use Rattle.bounds_spec.specs.Pooled.{Figure};
 ghost use Rattle.joguyvi_spec.specs.Books.{JoinCall, PooledCall, PooledSheetCall};
 ghost use Rattle.joguyvi_spec.specs.Shares.{ShareSheetCall};
@@ -20,6 +20,19 @@ pub extern "C" fn joguyvi_share(bytes: &[u8], class: u64, year: u64, out: &mut [
         return number;
     }
     figures::put_bounds(out, bounds::share(answer.scheme, class, year))
+}
+
+// The low and the high chance of having reached a class by a year, in parts, into a buffer of 2 numbers.
+#[no_mangle]
+pub extern "C" fn joguyvi_reached(bytes: &[u8], class: u64, year: u64, out: &mut [u64]) -> u8
+    ensures { λ r. ⌜ ReachedCall (now (bytes .entry)) class year (now (out .entry)) r (now (out .exit)) ⌝ }
+{
+    let answer = record::read(bytes);
+    let number = answer.number;
+    if number != 0 {
+        return number;
+    }
+    figures::put_bounds(out, reached::reached(answer.scheme, class, year))
 }
 
 // The low and the high mean premium of a year, in cents, into a buffer of 2 numbers.

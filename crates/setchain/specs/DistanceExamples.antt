@@ -1,5 +1,5 @@
 -- How near counts as near, and what lies between, on small numbers (document 01, "Years"; document 02, item 6).
-use Prim.Native.Nat.{ℕ}
+use Prim.Native.Nat.{ℕ, _*_, _<_}
 use mathlib.Core.Path.{_≡_, refl}
 use native.Mathlib.Omega.{arith}
 use Rattle.setchain.specs.Fractions.{Fraction, whole}
@@ -8,6 +8,11 @@ use Rattle.setchain.specs.Promise.{Between, NoFurther, Nearer, withRound
 -- A numerator over a denominator.
 abbrev pub fraction : ℕ → ℕ → Fraction
 fraction a b = record { num = a; den = b }
+
+-- The value of a fraction whose denominator is not 0.
+pub record HasValue (x : Fraction) (num den : ℕ) : Type 0 where
+  pub proper : 0 < x .den
+  pub same : x .num * den ≡ num * x .den
 
 -- "no further than t from it": 12 and 8 are near 10 for t = 2, and 13, 7 and what lies just past 12 and 8 are not.
 pub record NearExamples : Type 0 where

@@ -8,7 +8,7 @@ use lib.ListN.{getD}
 use Rattle.setchain.specs.Sums.{at, sumTo, onlyIf}
 use Rattle.setchain.specs.Tests.{anyBelow, allBelow, firstFrom}
 use Rattle.setchain.specs.Fractions.{_≈_, sumFractions}
-use Rattle.setchain.specs.Rows.{ONE, IntervalRow, SetChain, listsRow}
+use Rattle.setchain.specs.Rows.{ONE, IntervalRow, Row, SetChain, listsRow}
 use Rattle.setchain.specs.Cells.{Cells, rowOf}
 use Rattle.setchain.specs.Rounding.{rounded}
 use Rattle.setchain.specs.Step.{capacityBefore, fillRow, stepFigure, lowStep, highStep}
@@ -134,6 +134,20 @@ pub record FiguresA : Type 0 where
 pub figures-a : FiguresA
 unfolding yearsFigure stepFigure fillRow capacityBefore sumTo onlyIf
 figures-a = record { share1 = (refl, refl); share2 = (refl, refl); mean = (refl, refl); total = (refl, refl) }
+
+-- Two whole numbers over M.
+abbrev pub pair : ℕ → ℕ → ℕ → Row
+pair m first second = record { over = m; entry = at (first ∷ second ∷ []) }
+
+-- Picks inside Example A's interval rows. Class 1 in year 1 and 2: over 1, and over 20, where both entries are at an end of their intervals; class 2: over 5 and over 7.
+abbrev pub firstYear : Matrix
+firstYear i = elim i [ zero ↦ pair 1 1 0 | suc k ↦ pair 5 4 1 ]
+
+abbrev pub secondYear : Matrix
+secondYear i = elim i [ zero ↦ pair 20 19 1 | suc k ↦ pair 7 6 1 ]
+
+abbrev pub picksA : List Matrix
+picksA = firstYear ∷ secondYear ∷ []
 
 -- A tenth of state 0 leaves for state 1 each year, and state 1 is never left: both rows are fixed, their lower entries being their upper ones.
 abbrev pub leavingChain : SetChain

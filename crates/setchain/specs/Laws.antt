@@ -13,6 +13,8 @@ pub mod Cells
 pub mod Mean
 pub mod Obeys
 pub mod Follows
+pub mod Sequences
+pub mod Reached
 pub mod Wholes
 pub mod Pooled
 pub mod Tight

@@ -6,8 +6,8 @@ use mathlib.Core.List.{List, [], _∷_}
 use native.Mathlib.Omega.{arith}
 use native.Mathlib.Nat.{zero-add}
 use Rattle.setchain.specs.Sums.{at, sumTo, onlyIf}
-use Rattle.setchain.specs.Fractions.{Fraction, whole, sumFractions}
-use Rattle.setchain.specs.Rows.{ONE, IntervalRow, Row, Inside, SoundRow, SoundChain}
+use Rattle.setchain.specs.Fractions.{whole, sumFractions}
+use Rattle.setchain.specs.Rows.{ONE, IntervalRow, Inside, SoundRow, SoundChain}
 use Rattle.setchain.specs.Picks.{Matrix, InsideEach, none, also, PicksFor, product, exactShare, exactMean, exactTotal}
 use Rattle.setchain.specs.Promise.{shareInParts, NoFurther, Nearer, centAndTenths}
 use Rattle.setchain.specs.Step.{capacityBefore, fillRow, stepFigure, Parts, Reaches}
@@ -17,22 +17,8 @@ use Rattle.setchain.specs.Laws.Agreeing.{agree-refl, step-agrees}
 use Rattle.setchain.specs.Laws.Obeys.{years-obey}
 use Rattle.setchain.specs.Theorems.{share-promise, mean-promise, exact-proper}
 use Rattle.setchain.specs.Kept.{interval-no-further, interval-nearer}
-use Rattle.setchain.specs.Examples.{chainA, premiumA, leavingChain, tenTwenty}
-use Rattle.setchain.specs.DistanceExamples.{fraction}
-
--- Two whole numbers over M.
-abbrev pair : ℕ → ℕ → ℕ → Row
-pair m first second = record { over = m; entry = at (first ∷ second ∷ []) }
-
--- Class 1 in year 1 and 2: over 1, and over 20, where both entries are at an end of their intervals; class 2: over 5 and over 7.
-abbrev firstYear : Matrix
-firstYear i = elim i [ zero ↦ pair 1 1 0 | suc k ↦ pair 5 4 1 ]
-
-abbrev secondYear : Matrix
-secondYear i = elim i [ zero ↦ pair 20 19 1 | suc k ↦ pair 7 6 1 ]
-
-abbrev pub picksA : List Matrix
-picksA = firstYear ∷ secondYear ∷ []
+use Rattle.setchain.specs.Examples.{chainA, premiumA, pair, firstYear, secondYear, picksA, leavingChain, tenTwenty}
+use Rattle.setchain.specs.DistanceExamples.{fraction, HasValue}
 
 -- A year in which class 2 has a row outside: two thirds is less than its lower entry to class 1.
 abbrev outsideYear : Matrix
@@ -138,11 +124,6 @@ picks-examples =
   where
     no-last : InsideEach chainA (firstYear ∷ outsideYear ∷ []) → ⊥
     no-last (also inside rest) = no-outside rest
-
--- The value of a fraction whose denominator is not 0.
-pub record HasValue (x : Fraction) (num den : ℕ) : Type 0 where
-  pub proper : 0 < x .den
-  pub same : x .num * den ≡ num * x .den
 
 -- The exact figures that these picks bring from class 2: four fifths and one fifth after a year, then 163 and 12 of 175; the mean 72,400 / 7 cents, and the total 15,000 + 11,000 cents.
 pub record ExactA : Type 0 where

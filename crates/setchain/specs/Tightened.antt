@@ -18,11 +18,14 @@ use Rattle.setchain.specs.Promise.{Nearness, SomeNear, KeptBy}
 use Rattle.setchain.specs.Tight.{sumOthers, tightRow, tightChain, endOf, ExtremeEntry, Tight}
 use Rattle.setchain.specs.Laws.Sums.{onlyIf-mono, sumTo-le}
 use Rattle.setchain.specs.Laws.NotAfter.{not-after-same, not-after-both}
-use Rattle.setchain.specs.Laws.Agreeing.{Agree}
+use Rattle.setchain.specs.Laws.Agreeing.{Agree, agree-refl, obeys-agree}
 use Rattle.setchain.specs.Laws.Cells.{entries-cover}
 use Rattle.setchain.specs.Laws.Step.{extreme-parts}
+use Rattle.setchain.specs.Laws.Obeys.{years-obey}
+use Rattle.setchain.specs.Laws.Reached.{reached-obeys}
+use Rattle.setchain.specs.Reached.{reachedFigure}
 use Rattle.setchain.specs.Laws.Tight.{others-and-own, tight-lower, tight-upper, tight-beyond, tight-ends, ends-inward, parts-sound}
-use Rattle.setchain.specs.Inward.{step-inward, years-inward}
+use Rattle.setchain.specs.Inward.{step-inward}
 
 -- Any sound row over n states.
 module _ {n : ℕ} {r : IntervalRow} (sound : SoundRow n r) where
@@ -138,13 +141,19 @@ module _ {c : SetChain} (sound : SoundChain c) where
   obeys-tight {high} {payoff} {turn} {figure} w =
       record { start = w .start; more = λ t i l. w .more t i l ∙ ap (turned (turn i)) (sym (step-tight high (sound i l) (figure t))) }
 
+  -- So figures that obey the one are those that obey the other.
+  figures-tight : {high : Bool} {payoff : ℕ → ℕ} {turn : ℕ → Turn} {figure figure′ : ℕ → ℕ → ℕ} → Obeys high (tightChain c) payoff turn figure → Obeys high c payoff turn figure′
+      → (t i : ℕ) → i < c .states → figure t i ≡ figure′ t i
+  figures-tight {high} tight plain =
+      obeys-agree refl (λ i l. agree-refl (c .states) (tightChain c .row i)) tight (obeys-tight plain) (λ i l. refl) (λ i l. refl)
+
   -- The years have the same figures, for any payoff and any gain.
   pub years-tight : (high : Bool) (payoff gain : ℕ → ℕ) (t i : ℕ) → i < c .states → yearsFigure high (tightChain c) payoff gain t i ≡ yearsFigure high c payoff gain t i
-  years-tight high payoff gain t i l =
-      let same : (f : ℕ → ℕ) (j : ℕ) → j < c .states → NotAfter high (f j) (f j) = λ f j l. not-after-same high refl in
-      not-after-both high
-      (years-inward high chain-sound sound chain-covers payoff payoff gain gain (same payoff) (same gain) t i l)
-      (years-inward high sound chain-sound covers-chain payoff payoff gain gain (same payoff) (same gain) t i l)
+  years-tight high payoff gain = figures-tight (years-obey high (tightChain c) payoff gain) (years-obey high c payoff gain)
+
+  -- So has the chance of having reached a state (item 9).
+  pub reached-tight : (high : Bool) (j t i : ℕ) → i < c .states → reachedFigure high (tightChain c) j t i ≡ reachedFigure high c j t i
+  reached-tight high j = figures-tight (reached-obeys high (tightChain c) j) (reached-obeys high c j)
 
 -- Picks inside the rows of one chain lie inside those of a chain that covers it.
 inside-each : {wide narrow : SetChain} → CoversChain wide narrow → (ps : List Matrix) → InsideEach narrow ps → InsideEach wide ps

@@ -1,5 +1,4 @@
 -- What turns do, and which figures obey the step and follow it: the chance of having reached class 1 on Example A's interval rows, and figures that do not.
-use Prim.Native.Nat.{ℕ, zero, suc}
 use mathlib.Core.Path.{_≡_, refl}
 use mathlib.Core.Bool.{true, false}
 use lib.Dec.{eqb}
@@ -11,10 +10,12 @@ use Rattle.setchain.specs.Rows.{ONE}
 use Rattle.setchain.specs.Step.{capacityBefore, fillRow, stepFigure}
 use Rattle.setchain.specs.Years.{yearsFigure, nothing, sharePayoff, lowShare}
 use Rattle.setchain.specs.Picks.{product, exactShare}
-use Rattle.setchain.specs.Turns.{Turn, add, stay, turned, turnedExact, plain, Obeys, Follows}
-use Rattle.setchain.specs.Examples.{chainA}
-use Rattle.setchain.specs.DistanceExamples.{fraction}
-use Rattle.setchain.specs.PromiseExamples.{picksA, picks-examples, HasValue}
+use Rattle.setchain.specs.Turns.{add, stay, turned, turnedExact, plain, Obeys, Follows}
+use Rattle.setchain.specs.Reached.{reachedFigure}
+use Rattle.setchain.specs.Laws.Reached.{reachedTurn, reached-obeys}
+use Rattle.setchain.specs.Examples.{chainA, picksA}
+use Rattle.setchain.specs.DistanceExamples.{fraction, HasValue}
+use Rattle.setchain.specs.PromiseExamples.{picks-examples}
 
 -- A gain of 5 is added to the one-year figure; a state that stays at 10 has 10, whatever its one-year figure is.
 pub record TurnExamples : Type 0 where
@@ -26,30 +27,19 @@ pub record TurnExamples : Type 0 where
 pub turn-examples : TurnExamples
 turn-examples = record { adds = refl; stays = refl; addsExact = record { proper = omega arith; same = refl }; staysExact = record { proper = omega arith; same = refl } }
 
--- Class 1 stays at ONE once it is reached; class 2 takes its one-year figure.
-abbrev reachedTurn : ℕ → Turn
-reachedTurn i = elim i [ zero ↦ stay ONE | suc k ↦ add 0 ]
-
--- The low chance of having reached class 1.
-unfoldable pub reachedA : ℕ → ℕ → ℕ
-reachedA zero i = sharePayoff 0 i
-reachedA (suc t) i = turned (reachedTurn i) (stepFigure false 2 (chainA .row i) (reachedA t))
-
--- It obeys, and grows from 0 to .8 and .96 from class 2. It obeys no high step; the low share of class 1, which class 1 does leave again, does not obey its turn;
--- nor does it obey from another payoff.
+-- The low chance of having reached class 1 obeys where class 1 stays at ONE. It obeys no high step; the low share of class 1, which class 1 does leave again,
+-- does not obey its turn; nor does the chance obey from another payoff.
 pub record ObeysExamples : Type 0 where
-  pub reached : Obeys false chainA (sharePayoff 0) reachedTurn reachedA
-  pub figures : (reachedA 1 1 ≡ 800000000) × (reachedA 2 1 ≡ 960000000) × (reachedA 2 0 ≡ ONE)
-  pub notHigh : Obeys true chainA (sharePayoff 0) reachedTurn reachedA → ⊥
-  pub notStaying : Obeys false chainA (sharePayoff 0) reachedTurn (lowShare chainA 0) → ⊥
-  pub notFrom : Obeys false chainA nothing reachedTurn reachedA → ⊥
+  pub reached : Obeys false chainA (sharePayoff 0) (reachedTurn ONE 0) (reachedFigure false chainA 0)
+  pub notHigh : Obeys true chainA (sharePayoff 0) (reachedTurn ONE 0) (reachedFigure false chainA 0) → ⊥
+  pub notStaying : Obeys false chainA (sharePayoff 0) (reachedTurn ONE 0) (lowShare chainA 0) → ⊥
+  pub notFrom : Obeys false chainA nothing (reachedTurn ONE 0) (reachedFigure false chainA 0) → ⊥
 
 pub obeys-examples : ObeysExamples
-unfolding reachedA yearsFigure stepFigure fillRow capacityBefore sumTo onlyIf
+unfolding reachedFigure yearsFigure stepFigure fillRow capacityBefore sumTo onlyIf
 obeys-examples =
     record {
-      reached = record { start = λ i l. refl; more = λ t i l. refl };
-      figures = (refl, refl, refl);
+      reached = reached-obeys false chainA 0;
       notHigh = λ h. omega (arith, h .more 0 1 (omega arith));
       notStaying = λ h. omega (arith, h .more 0 0 (omega arith));
       notFrom = λ h. omega (arith, h .start 0 (omega arith));

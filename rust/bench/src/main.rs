@@ -122,6 +122,21 @@ fn share(record: &[u8], class: u64, year: u64) -> Operation<'_> {
     }
 }
 
+/// The chance of having reached the same class by the last year.
+fn reached(record: &[u8], class: u64, year: u64) -> Operation<'_> {
+    let mut out = [0; 2];
+    Operation {
+        name: "reached",
+        library: Box::new(move || {
+            library::reached(black_box(record), class, year, &mut out).expect("a chance");
+            black_box(&out);
+        }),
+        plain: Box::new(move || {
+            black_box(plain::reached(&read(record), class, year).expect("a chance"));
+        }),
+    }
+}
+
 /// A book with chambers in every class.
 fn book() -> Book {
     let mut book = [0; MAX_CLASSES];
@@ -329,12 +344,13 @@ fn schemes(s: u8) -> [(&'static str, Vec<u8>); 4] {
 }
 
 /// How many operations are timed.
-const OPERATIONS: usize = 10;
+const OPERATIONS: usize = 11;
 
 /// All operations on a record of 32 classes and 100 years.
 fn operations(record: &[u8]) -> [Operation<'_>; OPERATIONS] {
     [
         share(record, 20, 100),
+        reached(record, 20, 100),
         pooled_share(record, book(), 20, 100),
         share_sheet(record, 32, 100),
         pooled_share_sheet(record, book(), 32, 100),

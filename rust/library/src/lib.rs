@@ -16,9 +16,21 @@ pub use rows::{bands, high_step, low_step, mixing, row, rule_row};
 
 /// The functions of the archives; a slice passes as a pointer and its length.
 mod archive {
+    /// What a share and the chance of having reached a class take: the record,
+    /// the class, the year and the bounds' slice.
+    pub type Chance = unsafe extern "C" fn(*const u8, usize, u64, u64, *mut u64, usize) -> u8;
+
     extern "C" {
         pub fn joguyvi_check(bytes: *const u8, bytes_length: usize) -> u8;
         pub fn joguyvi_share(
+            bytes: *const u8,
+            bytes_length: usize,
+            class: u64,
+            year: u64,
+            out: *mut u64,
+            out_length: usize,
+        ) -> u8;
+        pub fn joguyvi_reached(
             bytes: *const u8,
             bytes_length: usize,
             class: u64,
@@ -96,12 +108,17 @@ pub fn check(record: &[u8]) -> Result<(), u8> {
     answer(unsafe { archive::joguyvi_check(record.as_ptr(), record.len()) })
 }
 
-/// The low and the high share of a class after a number of years, in parts,
-/// into a slice of 2 numbers.
-pub fn share(record: &[u8], class: u64, year: u64, out: &mut [u64]) -> Result<(), u8> {
+/// One of the archives' two calls for a class and a year, on slices.
+fn chance(
+    of_archive: archive::Chance,
+    record: &[u8],
+    class: u64,
+    year: u64,
+    out: &mut [u64],
+) -> Result<(), u8> {
     // SAFETY: the pointers and lengths are those of slices; `out` is lent alone.
     answer(unsafe {
-        archive::joguyvi_share(
+        of_archive(
             record.as_ptr(),
             record.len(),
             class,
@@ -110,6 +127,18 @@ pub fn share(record: &[u8], class: u64, year: u64, out: &mut [u64]) -> Result<()
             out.len(),
         )
     })
+}
+
+/// The low and the high share of a class after a number of years, in parts,
+/// into a slice of 2 numbers.
+pub fn share(record: &[u8], class: u64, year: u64, out: &mut [u64]) -> Result<(), u8> {
+    chance(archive::joguyvi_share, record, class, year, out)
+}
+
+/// The low and the high chance of having stood in a class at least once by a
+/// year, in parts, into a slice of 2 numbers.
+pub fn reached(record: &[u8], class: u64, year: u64, out: &mut [u64]) -> Result<(), u8> {
+    chance(archive::joguyvi_reached, record, class, year, out)
 }
 
 /// The low and the high mean premium of a year, in cents, into a slice of 2

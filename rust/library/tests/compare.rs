@@ -98,6 +98,13 @@ fn check_share(tally: &mut Tally, trial: &Trial, class: u64, year: u64, length: 
     });
 }
 
+fn check_reached(tally: &mut Tally, trial: &Trial, class: u64, year: u64, length: usize) {
+    let bounds = trial.asked(|scheme| plain::reached(scheme, class, year));
+    check_bounds(tally, length, bounds, |out| {
+        library::reached(trial.record, class, year, out)
+    });
+}
+
 fn check_mean(tally: &mut Tally, trial: &Trial, year: u64, length: usize) {
     let bounds = trial.asked(|scheme| plain::mean(scheme, year));
     check_bounds(tally, length, bounds, |out| {
@@ -224,10 +231,13 @@ fn compare(tally: &mut Tally, rng: &mut Rng, record: &[u8]) {
     let classes = classes(rng, s);
     let years_one = years(rng, horizon.min(few + 100 / s), horizon);
     for class in classes {
-        check_share(tally, &trial, class, rng.pick(&years_one), 2);
+        let year = rng.pick(&years_one);
+        check_share(tally, &trial, class, year, 2);
+        check_reached(tally, &trial, class, year, 2);
     }
     for year in years_one {
         check_share(tally, &trial, classes[0], year, 2);
+        check_reached(tally, &trial, classes[0], year, 2);
         check_mean(tally, &trial, year, 2);
         check_total(tally, &trial, year, 2);
     }
@@ -248,12 +258,15 @@ fn compare_lengths(tally: &mut Tally, rng: &mut Rng, trial: &Trial) {
     let class = rng.between(1, s);
     for length in near(2) {
         check_share(tally, trial, class, early, length);
+        check_reached(tally, trial, class, early, length);
         check_mean(tally, trial, early, length);
         check_total(tally, trial, early, length);
     }
     let wrong = rng.pick(&near(2));
-    check_share(tally, trial, s + 1, late, wrong);
-    check_share(tally, trial, s, late, wrong);
+    for class in [s + 1, s] {
+        check_share(tally, trial, class, late, wrong);
+        check_reached(tally, trial, class, late, wrong);
+    }
     check_mean(tally, trial, late, wrong);
     check_total(tally, trial, late, wrong);
 

@@ -88,6 +88,9 @@ impl Moves {
     /// The figures of a class and a year.
     fn figures(&mut self, pair: &Pair, class: u64, year: u64) {
         self.bounds(pair, |record, out| library::share(record, class, year, out));
+        self.bounds(pair, |record, out| {
+            library::reached(record, class, year, out)
+        });
         self.bounds(pair, |record, out| library::mean(record, year, out));
         self.bounds(pair, |record, out| library::total(record, year, out));
         self.share_sheet(pair, |record, low, high| {

@@ -1,14 +1,16 @@
 //! Demand 3 by exact arithmetic on the library's answers: no picks leave the
-//! bounds, and the extreme ones come within t parts of each share, and nearer
-//! than one cent plus t tenths to each figure of money. Pooled over a book, with
-//! the same picks for all of it, they come within t + 1 parts of each share.
+//! bounds, and the extreme ones come within t parts of each share and of each
+//! chance of having reached a class, and nearer than one cent plus t tenths to
+//! each figure of money. Pooled over a book, with the same picks for all of it,
+//! they come within t + 1 parts of each share.
 
 use plain::{Book, Scheme, ONE};
 use trials::exact::Fraction;
 use trials::made::{self, Shape};
 use trials::picks::{
     any_picks, exact_mean, exact_pooled_mean, exact_pooled_shares, exact_pooled_total,
-    exact_shares, exact_total, extreme_picks, near_money, premium_tenths, Matrix,
+    exact_reached, exact_shares, exact_total, extreme_picks, near_money, premium_tenths,
+    reached_picks, unit, Matrix,
 };
 use trials::rng::Rng;
 
@@ -18,6 +20,8 @@ const YEARS: u64 = 4;
 /// What is told of one year of a scheme.
 struct Figures<T> {
     shares: Vec<T>,
+    /// The chances of having reached the classes; none where pooled.
+    reached: Vec<T>,
     mean: T,
     total: T,
 }
@@ -49,8 +53,10 @@ fn from_start(record: &[u8], s: usize, year: u64) -> Figures<(u64, u64)> {
             share
         );
     }
+    let reached = |class| bounds(|out| library::reached(record, class, year, out));
     Figures {
         shares,
+        reached: (1..=s as u64).map(reached).collect(),
         mean: bounds(|out| library::mean(record, year, out)),
         total: bounds(|out| library::total(record, year, out)),
     }
@@ -67,6 +73,7 @@ fn pooled(record: &[u8], s: usize, book: &Book, year: u64) -> Figures<(u64, u64)
     }
     Figures {
         shares,
+        reached: Vec::new(),
         mean: bounds(|out| library::pooled_mean(record, book, year, out)),
         total: bounds(|out| library::pooled_total(record, book, year, out)),
     }
@@ -94,11 +101,13 @@ impl<'a> Trial<'a> {
         match self.book {
             None => Figures {
                 shares: exact_shares(scheme, picks),
+                reached: exact_reached(scheme, picks),
                 mean: exact_mean(scheme, picks),
                 total: exact_total(scheme, picks),
             },
             Some(book) => Figures {
                 shares: exact_pooled_shares(scheme, book, picks),
+                reached: Vec::new(),
                 mean: exact_pooled_mean(scheme, book, picks),
                 total: exact_pooled_total(scheme, book, picks),
             },
@@ -114,6 +123,9 @@ impl<'a> Trial<'a> {
         let exact = self.exact(picks);
         for (share, &bounds) in exact.shares.iter().zip(&self.bounds.shares) {
             within(&share.times(ONE), bounds);
+        }
+        for (chance, &bounds) in exact.reached.iter().zip(&self.bounds.reached) {
+            within(&chance.times(ONE), bounds);
         }
         within(&exact.mean, self.bounds.mean);
         within(&exact.total, self.bounds.total);
@@ -132,11 +144,14 @@ impl<'a> Trial<'a> {
                 true => exact.between(top.saturating_sub(room), top),
             };
             for (j, &share) in self.bounds.shares.iter().enumerate() {
-                let mut payoff = [0; 32];
-                payoff[j] = ONE;
-                let picks = extreme_picks(scheme, &payoff, None, year, high);
+                let picks = extreme_picks(scheme, &unit(j), None, year, high);
                 let exact = self.check_inside(&picks);
                 assert!(near(&exact.shares[j].times(ONE), share));
+            }
+            for (j, &chance) in self.bounds.reached.iter().enumerate() {
+                let picks = reached_picks(scheme, j, year, high);
+                let exact = self.check_inside(&picks);
+                assert!(near(&exact.reached[j].times(ONE), chance));
             }
             let bound = |(low, top): (u64, u64)| if high { top } else { low };
             let picks = extreme_picks(scheme, &premiums, None, year, high);

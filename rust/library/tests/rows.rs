@@ -8,7 +8,8 @@ use plain::{Figures, Scheme, ONE};
 use trials::exact::Fraction;
 use trials::made::{self, Shape};
 use trials::picks::{
-    exact_mean, exact_shares, exact_total, inside, near_money, picks_by, premium_tenths, Row,
+    exact_mean, exact_reached, exact_shares, exact_total, inside, near_money, picks_by,
+    premium_tenths, staying, unit, Row,
 };
 use trials::rng::Rng;
 
@@ -199,11 +200,13 @@ fn check_close(scheme: &Scheme, year: u64) {
         };
         let mut out = [0; 2];
         for j in 0..usize::from(s) {
-            let mut payoff = [0; 32];
-            payoff[j] = ONE;
-            let picks = picks_by(one, s, &payoff, None, year);
-            library::share(&record, j as u64 + 1, year, &mut out).expect("a share");
+            let class = j as u64 + 1;
+            let picks = picks_by(one, s, &unit(j), None, year);
+            library::share(&record, class, year, &mut out).expect("a share");
             near(exact_shares(scheme, &picks)[j].times(ONE), out);
+            let picks = picks_by(staying(one, j), s, &unit(j), None, year);
+            library::reached(&record, class, year, &mut out).expect("a chance");
+            near(exact_reached(scheme, &picks)[j].times(ONE), out);
         }
         let picks = picks_by(one, s, &premiums, None, year);
         library::mean(&record, year, &mut out).expect("a mean");

@@ -13,23 +13,25 @@ fn largest() -> Vec<u8> {
     made::record_of(&scheme)
 }
 
-/// Shares, mean and total of the last year.
-fn deepest(record: &[u8]) -> [u64; 70] {
-    let mut all = [0; 70];
+/// Shares, the chance of having reached a class, mean and total of the last
+/// year.
+fn deepest(record: &[u8]) -> [u64; 72] {
+    let mut all = [0; 72];
     let (shares, rest) = all.split_at_mut(64);
     let (low, high) = shares.split_at_mut(32);
     let answers = [
         library::check(record),
         library::share(record, 32, 100, &mut rest[..2]),
         library::mean(record, 100, &mut rest[2..4]),
-        library::total(record, 100, &mut rest[4..]),
+        library::total(record, 100, &mut rest[4..6]),
+        library::reached(record, 32, 100, &mut rest[6..]),
         library::share_sheet(record, 100, low, high),
     ];
-    assert_eq!(answers, [Ok(()); 5]);
+    assert_eq!(answers, [Ok(()); 6]);
     all
 }
 
-/// The same, pooled over the book of a book and itself.
+/// Shares, mean and total, pooled over the book of a book and itself.
 fn deepest_pooled(record: &[u8]) -> [u64; 70] {
     let mut all = [0; 70];
     let (shares, rest) = all.split_at_mut(64);
@@ -47,8 +49,8 @@ fn deepest_pooled(record: &[u8]) -> [u64; 70] {
 }
 
 /// All of them.
-fn both(record: &[u8]) -> [[u64; 70]; 2] {
-    [deepest(record), deepest_pooled(record)]
+fn both(record: &[u8]) -> ([u64; 72], [u64; 70]) {
+    (deepest(record), deepest_pooled(record))
 }
 
 #[test]

@@ -33,4 +33,4 @@ pub use scheme::{
 };
 pub use sheet::sheet;
 pub use step::{high_step, low_step};
-pub use years::{mean, share, share_sheet, total};
+pub use years::{mean, reached, share, share_sheet, total};

@@ -1,4 +1,5 @@
-//! Bounds over years: shares, means, totals and share sheets.
+//! Bounds over years: shares, chances of having reached a class, means, totals
+//! and share sheets.
 
 use crate::rows::interval;
 use crate::scheme::{
@@ -13,6 +14,16 @@ pub fn share(scheme: &Scheme, class: u64, year: u64) -> Result<(u64, u64), u8> {
     within_horizon(scheme, year)?;
     let chain = Chain::new(scheme);
     Ok(chain.at_start(chain.bounds(&unit(index), year)))
+}
+
+/// Low and high parts of the chance of having stood in a class at least once by
+/// `year`.
+pub fn reached(scheme: &Scheme, class: u64, year: u64) -> Result<(u64, u64), u8> {
+    accept(scheme)?;
+    let index = index_of(scheme, class)?;
+    within_horizon(scheme, year)?;
+    let chain = Chain::new(scheme);
+    Ok(chain.at_start(chain.reached(index, year)))
 }
 
 /// Low and high cents of the mean premium of `year`.
@@ -58,7 +69,8 @@ pub(crate) fn cents((low, high): (u64, u64)) -> (u64, u64) {
     (low / TENTHS, high.div_ceil(TENTHS))
 }
 
-/// The payoff for the share of the class at `index`.
+/// The payoff for the share of the class at `index`, and for the chance of
+/// having reached it.
 pub(crate) fn unit(index: usize) -> Figures {
     let mut payoff = [0; MAX_CLASSES];
     payoff[index] = ONE;
@@ -181,6 +193,15 @@ impl Chain {
     /// years.
     pub(crate) fn totals(&self, premiums: &Figures, years: u64) -> (Figures, Figures) {
         self.run(&[0; MAX_CLASSES], years, |figures| plus(figures, premiums))
+    }
+
+    /// The low and the high chances of all classes to have reached the class at
+    /// `index` by `years`: its own is ONE in every year.
+    fn reached(&self, index: usize, years: u64) -> (Figures, Figures) {
+        self.run(&unit(index), years, |mut figures| {
+            figures[index] = ONE;
+            figures
+        })
     }
 
     /// Low and high run on their own from the payoff; `then` is done to the

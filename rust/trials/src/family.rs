@@ -314,6 +314,10 @@ fn report_class(out: &mut String, number: u64, scheme: &Scheme, class: u64, year
         let result = plain::share(scheme, class, year).map(pair);
         put!(out, "SHARE {class} {year} {}\n", answer(result));
     }
+    for &year in years {
+        let result = plain::reached(scheme, class, year).map(pair);
+        put!(out, "REACHED {class} {year} {}\n", answer(result));
+    }
 }
 
 fn report_year(out: &mut String, scheme: &Scheme, year: u64) {

@@ -118,10 +118,15 @@ fn mixture(rng: &mut Rng, scheme: &Scheme, class: u64) -> Row {
     }
 }
 
+/// The low or the high step of a scheme.
+fn step_of(scheme: &Scheme, high: bool) -> impl Fn(&Figures, u64) -> (u64, Figures) + '_ {
+    let step = if high { high_step } else { low_step };
+    move |figures, class| step(scheme, figures, class).expect("a step")
+}
+
 /// The row that a step hands back, as a pick.
 fn extreme_row(scheme: &Scheme, payoff: &Figures, class: u64, high: bool) -> Row {
-    let step = if high { high_step } else { low_step };
-    let (_, row) = step(scheme, payoff, class).expect("a step");
+    let (_, row) = step_of(scheme, high)(payoff, class);
     Row {
         parts: row[..usize::from(scheme.classes)].to_vec(),
         over: ONE,
@@ -151,9 +156,8 @@ pub fn extreme_picks(
     years: u64,
     high: bool,
 ) -> Vec<Matrix> {
-    let step = if high { high_step } else { low_step };
-    let one = |figures: &Figures, class| step(scheme, figures, class).expect("a step");
-    picks_by(one, scheme.classes, payoff, added, years)
+    let step = step_of(scheme, high);
+    picks_by(step, scheme.classes, payoff, added, years)
 }
 
 /// The same for s classes, from any one-year step of figures and a class.
@@ -185,6 +189,33 @@ pub fn picks_by(
     picks
 }
 
+/// A one-year step but that the figure of the class at `index` is ONE, as in the
+/// chance of having reached it.
+pub fn staying(
+    step: impl Fn(&Figures, u64) -> (u64, Figures),
+    index: usize,
+) -> impl Fn(&Figures, u64) -> (u64, Figures) {
+    move |figures, class| match step(figures, class) {
+        (_, row) if class == index as u64 + 1 => (ONE, row),
+        figure_and_row => figure_and_row,
+    }
+}
+
+/// The picks that follow the steps of a bound for the chance of having reached
+/// the class at `index`.
+pub fn reached_picks(scheme: &Scheme, index: usize, years: u64, high: bool) -> Vec<Matrix> {
+    let step = staying(step_of(scheme, high), index);
+    picks_by(step, scheme.classes, &unit(index), None, years)
+}
+
+/// The payoff for the share of the class at `index`, and for the chance of
+/// having reached it.
+pub fn unit(index: usize) -> Figures {
+    let mut payoff = [0; MAX_CLASSES];
+    payoff[index] = ONE;
+    payoff
+}
+
 /// The premiums of a scheme in tenths of a cent, 0 beyond s.
 pub fn premium_tenths(scheme: &Scheme) -> Figures {
     let mut figures = [0; MAX_CLASSES];
@@ -209,29 +240,43 @@ pub fn exact_shares(scheme: &Scheme, picks: &[Matrix]) -> Vec<Fraction> {
     numerators[usize::from(scheme.start) - 1] = Nat::from(1u64);
     let mut denominator = Nat::from(1u64);
     for matrix in picks {
-        // One denominator for the year: that of all rows, or their product.
-        let same = matrix.iter().all(|row| row.over == matrix[0].over);
-        let scale = |i: usize| match same {
-            true => Nat::from(1u64),
-            false => product(
-                (0..s)
-                    .filter(|&other| other != i)
-                    .map(|other| matrix[other].over),
-            ),
-        };
+        let (entries, over) = common(matrix);
         let mut next = vec![Nat::from(0u64); s];
-        for (i, row) in matrix.iter().enumerate() {
-            let weight = numerators[i].mul(&scale(i));
-            for (sum, &part) in next.iter_mut().zip(&row.parts) {
-                *sum = sum.add(&weight.mul_small(part));
+        for (weight, row) in numerators.iter().zip(&entries) {
+            for (sum, entry) in next.iter_mut().zip(row) {
+                *sum = sum.add(&weight.mul(entry));
             }
         }
         numerators = next;
-        denominator = match same {
-            true => denominator.mul_small(matrix[0].over),
-            false => denominator.mul(&product(matrix.iter().map(|row| row.over))),
-        };
+        denominator = denominator.mul(&over);
     }
+    fractions(numerators, &denominator)
+}
+
+/// The entries of a matrix over one denominator, and this: that of all rows, or
+/// the product of theirs.
+fn common(matrix: &Matrix) -> (Vec<Vec<Nat>>, Nat) {
+    let overs: Vec<Nat> = matrix.iter().map(|row| row.over.into()).collect();
+    let (scales, over) = if overs.iter().all(|over| *over == overs[0]) {
+        (vec![Nat::from(1u64); overs.len()], overs[0].clone())
+    } else {
+        let others = |i: usize| product(overs[..i].iter().chain(&overs[i + 1..]));
+        ((0..overs.len()).map(others).collect(), product(&overs))
+    };
+    let scaled = |(row, scale): (&Row, &Nat)| {
+        let parts = row.parts.iter();
+        parts.map(|&part| scale.mul_small(part)).collect()
+    };
+    (matrix.iter().zip(&scales).map(scaled).collect(), over)
+}
+
+fn product<'a>(factors: impl IntoIterator<Item = &'a Nat>) -> Nat {
+    let factors = factors.into_iter();
+    factors.fold(Nat::from(1u64), |product, factor| product.mul(factor))
+}
+
+/// Fractions of these numerators and one denominator.
+fn fractions(numerators: Vec<Nat>, denominator: &Nat) -> Vec<Fraction> {
     let fraction = |numerator| Fraction {
         numerator,
         denominator: denominator.clone(),
@@ -239,8 +284,30 @@ pub fn exact_shares(scheme: &Scheme, picks: &[Matrix]) -> Vec<Fraction> {
     numerators.into_iter().map(fraction).collect()
 }
 
-fn product(factors: impl Iterator<Item = u64>) -> Nat {
-    factors.fold(Nat::from(1u64), |product, factor| product.mul_small(factor))
+/// The exact chances of having reached each class: for each the sum over every
+/// sequence of classes, one for each of years 0 to t, that begins at the start
+/// class and holds the class, of the product of the picked entries along it.
+pub fn exact_reached(scheme: &Scheme, picks: &[Matrix]) -> Vec<Fraction> {
+    let s = usize::from(scheme.classes);
+    let start = usize::from(scheme.start) - 1;
+    let (years, overs): (Vec<_>, Vec<_>) = picks.iter().map(common).unzip();
+    let mut numerators = vec![Nat::from(0u64); s];
+    for sequence in sequences(s, picks.len() + 1).filter(|sequence| sequence[0] == start) {
+        let steps = sequence.windows(2).zip(&years);
+        let product = product(steps.map(|(step, entries)| &entries[step[0]][step[1]]));
+        for (class, sum) in numerators.iter_mut().enumerate() {
+            if sequence.contains(&class) {
+                *sum = sum.add(&product);
+            }
+        }
+    }
+    fractions(numerators, &product(&overs))
+}
+
+/// Every sequence of so many indexes of s classes.
+fn sequences(s: usize, length: usize) -> impl Iterator<Item = Vec<usize>> {
+    let digits = move |number: usize| (0..length as u32).map(move |at| number / s.pow(at) % s);
+    (0..s.pow(length as u32)).map(move |number| digits(number).collect())
 }
 
 /// The exact mean premium after the picked years.

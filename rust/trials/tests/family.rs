@@ -22,6 +22,6 @@ fn report_is_fixed() {
     assert!(report.ends_with('\n'));
     assert_eq!(
         (report.len(), bytes_sum(report.as_bytes())),
-        (155133, 1847750112)
+        (177590, 1875680303)
     );
 }

@@ -1,18 +1,20 @@
 //! Demand 3 by exact arithmetic: no picks leave the bounds, and some come
-//! within t parts of each share, and nearer than one cent plus t tenths to each
-//! figure of money. Pooled over a book, with the same picks for all of it, some
-//! come within t + 1 parts of each share.
+//! within t parts of each share and of each chance of having reached a class, and
+//! nearer than one cent plus t tenths to each figure of money. Pooled over a
+//! book, with the same picks for all of it, some come within t + 1 parts of each
+//! share.
 
 use plain::{
-    mean, pooled_mean, pooled_share, pooled_share_sheet, pooled_total, share, share_sheet, total,
-    Book, Scheme, MAX_HORIZON, ONE,
+    mean, pooled_mean, pooled_share, pooled_share_sheet, pooled_total, reached, share, share_sheet,
+    total, Book, Scheme, MAX_HORIZON, ONE,
 };
 use std::cmp::Ordering;
 use trials::exact::{Fraction, Nat};
 use trials::made::{self, Shape};
 use trials::picks::{
     any_picks, any_row, exact_mean, exact_pooled_mean, exact_pooled_shares, exact_pooled_total,
-    exact_shares, exact_total, extreme_picks, inside, near_money, premium_tenths, Matrix,
+    exact_reached, exact_shares, exact_total, extreme_picks, inside, near_money, premium_tenths,
+    reached_picks, unit, Matrix,
 };
 use trials::rng::Rng;
 
@@ -81,6 +83,7 @@ fn check_inside(scheme: &Scheme, year: u64, picks: &[Matrix]) {
             "{scheme:?} {year} {picks:?}"
         );
     }
+    check_reached_inside(scheme, year, picks);
     let (low, high) = mean(scheme, year).unwrap();
     assert!(
         exact_mean(scheme, picks).between(low, high),
@@ -91,6 +94,32 @@ fn check_inside(scheme: &Scheme, year: u64, picks: &[Matrix]) {
         exact_total(scheme, picks).between(low, high),
         "{scheme:?} {year} {picks:?}"
     );
+}
+
+/// Checks the bounds for having reached each class by a year against picks for
+/// it.
+fn check_reached_inside(scheme: &Scheme, year: u64, picks: &[Matrix]) {
+    for (j, exact) in exact_reached(scheme, picks).iter().enumerate() {
+        let (low, high) = reached(scheme, j as u64 + 1, year).unwrap();
+        assert!(
+            exact.times(ONE).between(low, high),
+            "{scheme:?} {year} {picks:?}"
+        );
+        let stayed = by_staying(scheme, j, picks);
+        assert_eq!(exact.compare(&stayed), Ordering::Equal);
+    }
+}
+
+/// The exact chance of having reached the class at `index`, without sequences:
+/// its share where it leads to itself alone in every year.
+fn by_staying(scheme: &Scheme, index: usize, picks: &[Matrix]) -> Fraction {
+    let mut picks = picks.to_vec();
+    for matrix in &mut picks {
+        let row = &mut matrix[index];
+        row.parts.fill(0);
+        row.parts[index] = row.over;
+    }
+    exact_shares(scheme, &picks).swap_remove(index)
 }
 
 fn small_scheme(rng: &mut Rng) -> Scheme {
@@ -143,11 +172,15 @@ fn check_close(scheme: &Scheme, year: u64, classes: &[usize], all: bool) {
             true => exact.between(top.saturating_sub(year), top),
         };
         for &j in classes {
-            let mut payoff = [0; 32];
-            payoff[j] = ONE;
-            let picks = extreme_picks(scheme, &payoff, None, year, high);
+            let picks = extreme_picks(scheme, &unit(j), None, year, high);
             let exact = exact_shares(scheme, &picks)[j].times(ONE);
             assert!(near(&exact, share(scheme, j as u64 + 1, year).unwrap()));
+            if all {
+                check_inside(scheme, year, &picks);
+            }
+            let picks = reached_picks(scheme, j, year, high);
+            let exact = by_staying(scheme, j, &picks).times(ONE);
+            assert!(near(&exact, reached(scheme, j as u64 + 1, year).unwrap()));
             if all {
                 check_inside(scheme, year, &picks);
             }
@@ -232,9 +265,7 @@ fn check_pooled_close(scheme: &Scheme, book: &Book, year: u64, classes: &[usize]
         let bound = |(low, top): (u64, u64)| if high { top } else { low };
         let mut used = Vec::new();
         for &j in classes {
-            let mut payoff = [0; 32];
-            payoff[j] = ONE;
-            let picks = extreme_picks(scheme, &payoff, None, year, high);
+            let picks = extreme_picks(scheme, &unit(j), None, year, high);
             let exact = exact_pooled_shares(scheme, book, &picks)[j].times(ONE);
             let share = bound(pooled_share(scheme, book, j as u64 + 1, year).unwrap());
             let room = year + 1;

@@ -1,8 +1,8 @@
 //! Reading, writing and refusals on random records and schemes.
 
 use plain::{
-    bands, cause, high_step, interval_row, low_step, mean, open, read, row, rule_row, share,
-    share_sheet, sheet, total, write, Scheme, ONE,
+    bands, cause, high_step, interval_row, low_step, mean, open, reached, read, row, rule_row,
+    share, share_sheet, sheet, total, write, Scheme, ONE,
 };
 use trials::made::{self, Shape};
 use trials::rng::Rng;
@@ -101,6 +101,9 @@ fn junk_is_ignored() {
             low_step(&clear, &payoff, class)
         );
         assert_eq!(share(&scheme, class, year), share(&clear, class, year));
+        for class in 1..=u64::from(scheme.classes) {
+            assert_eq!(reached(&scheme, class, year), reached(&clear, class, year));
+        }
         assert_eq!(mean(&scheme, year), mean(&clear, year));
         assert_eq!(total(&scheme, year), total(&clear, year));
     }
@@ -238,6 +241,7 @@ fn declined_schemes() {
         assert_eq!(low_step(&scheme, &payoff, class), Err(number));
         assert_eq!(high_step(&scheme, &payoff, class), Err(number));
         assert_eq!(share(&scheme, class, year), Err(number));
+        assert_eq!(reached(&scheme, class, year), Err(number));
         assert_eq!(mean(&scheme, year), Err(number));
         assert_eq!(total(&scheme, year), Err(number));
         let mut out = vec![0x77; rng.below(500) as usize];
@@ -272,9 +276,11 @@ fn declined_queries() {
             assert_eq!(low_step(&scheme, &excess, s), Err(10));
             assert_eq!(high_step(&scheme, &excess, s), Err(10));
             assert_eq!(share(&scheme, class, late), Err(11));
+            assert_eq!(reached(&scheme, class, late), Err(11));
         }
         for year in [late, late + (1 << 32), u64::MAX] {
             assert_eq!(share(&scheme, s, year), Err(12));
+            assert_eq!(reached(&scheme, s, year), Err(12));
             assert_eq!(mean(&scheme, year), Err(12));
             assert_eq!(total(&scheme, year), Err(12));
         }

@@ -10,7 +10,9 @@ use Rattle.setchain.specs.Years.{yearsFigure, shareFigure, CENT, tenths, meanFi
 use Rattle.setchain.specs.Rounding.{rounded}
 use Rattle.setchain.specs.Pooled.{pooledFigure}
 use Rattle.setchain.specs.Laws.Pooled.{pooled-agree}
-use Rattle.setchain.specs.Laws.Agreeing.{Agree, years-agree}
+use Rattle.setchain.specs.Laws.Agreeing.{Agree, obeys-agree, years-agree}
+use Rattle.setchain.specs.Reached.{reachedFigure}
+use Rattle.setchain.specs.Laws.Reached.{reached-obeys}
 use Rattle.scheme.specs.declared.Scheme.{Scheme}
 use Rattle.scheme.specs.Tables.{tab}
 use Rattle.scheme.specs.Access.{premiumAt}
@@ -54,6 +56,11 @@ module _ {s s′ : Scheme} (v : SameValues s s′) (none : causeOf s ≡ 0) wher
 
     pub total-same : (t : ℕ) → totalFigure high (chainOf s) (premiumAt s) t (startOf s) ≡ totalFigure high (chainOf s′) (premiumAt s′) t (startOf s′)
     total-same t = ap (rounded high CENT) (figure-start high (λ i l. refl) premiums t)
+
+    pub reached-same : (t j : ℕ) → reachedFigure high (chainOf s) j t (startOf s) ≡ reachedFigure high (chainOf s′) j t (startOf s′)
+    reached-same t j =
+        obeys-agree (v .others .classes) rows (reached-obeys high (chainOf s) j) (reached-obeys high (chainOf s′) j) (λ i l. refl) (λ i l. refl) t (startOf s) within
+        ∙ ap (reachedFigure high (chainOf s′) j t) start
 
     -- Pooled figures.
     class-same : (figure : Figure) (t i : ℕ) → i < s .classes → classFigure high s figure t i ≡ classFigure high s′ figure t i

@@ -30,7 +30,7 @@ use Rattle.bounds_spec.specs.Causes.{shareCause, moneyCause}
 use Rattle.bounds_spec.specs.Laws.Causes.{of-share, of-money, of-sheet, of-table}
 
 -- A promise for every state, at the start class.
-at-start : (s : Scheme) → Accepted s → {near : Nearness} (t : ℕ) (low high : ℕ → ℕ) (exact : List Matrix → ℕ → Fraction) → Promise (chainOf s) t near low high exact
+pub at-start : (s : Scheme) → Accepted s → {near : Nearness} (t : ℕ) (low high : ℕ → ℕ) (exact : List Matrix → ℕ → Fraction) → Promise (chainOf s) t near low high exact
     → KeptBy (chainOf s) t near (λ ps. exact ps (startOf s)) (low (startOf s)) (high (startOf s))
 at-start s ok t low high exact = at-state (startOf s) (omega (arith, ok .start .positive, ok .start .within))
 
@@ -50,7 +50,7 @@ module _ (s : Scheme) (ok : Accepted s) (t : ℕ) where
       (total-promise (chainOf s) (accepted-sound s ok) (premiumAt s) t)
 
 -- An answer's number is its cause.
-answer-number : (n low high : ℕ) → numberOf (answerBy n low high) ≡ n
+pub answer-number : (n low high : ℕ) → numberOf (answerBy n low high) ≡ n
 answer-number n low high = by (ℕ-discrete n 0)
   where
     by : Dec (n ≡ 0) → numberOf (answerBy n low high) ≡ n

@@ -9,9 +9,11 @@ use Rattle.record_spec.specs.Layout.{schemeIn}
 use Rattle.record_spec.specs.Read.{readCause}
 use Rattle.bounds_spec.specs.declared.Bounds.{Bounds}
 use Rattle.bounds_spec.specs.Answers.{numberOf, lowOf, highOf, shareAnswer, meanAnswer, totalAnswer}
+use Rattle.bounds_spec.specs.Reached.{reachedAnswer}
 use Rattle.bounds_spec.specs.Laws.Kept.{share-kept, mean-kept, total-kept}
+use Rattle.bounds_spec.specs.Laws.Reached.{reached-kept}
 use Rattle.joguyvi_spec.specs.Buffers.{bufferCause, BufferPost}
-use Rattle.joguyvi_spec.specs.Figures.{putNumber, lowAndHigh, boundsNumber, BoundsCall, ShareCall, MeanCall, TotalCall}
+use Rattle.joguyvi_spec.specs.Figures.{putNumber, lowAndHigh, boundsNumber, BoundsCall, ShareCall, ReachedCall, MeanCall, TotalCall}
 
 -- What is answered and left for low and high of a record: the cause of reading comes first.
 abbrev pub RecordBoundsPost : (query : Scheme → Bounds) (bytes out : List ℕ) (number : ℕ) (out′ : List ℕ) → Type 0
@@ -37,10 +39,13 @@ bounds-call {query} bytes out {number} {out′} promise put =
           rw full (promise (first-none (numberOf b) (bufferCause 2 out) none));
     }
 
--- The share of a class, the mean premium of a year, and the total.
+-- The share of a class, the chance of having reached it, the mean premium of a year, and the total.
 module _ (bytes : List ℕ) (year : ℕ) (out : List ℕ) {number : ℕ} {out′ : List ℕ} where
   pub share-call : (class : ℕ) → RecordBoundsPost (λ s. shareAnswer s class year) bytes out number out′ → ShareCall bytes class year out number out′
   share-call class = bounds-call bytes out (share-kept (schemeIn bytes) class year)
+
+  pub reached-call : (class : ℕ) → RecordBoundsPost (λ s. reachedAnswer s class year) bytes out number out′ → ReachedCall bytes class year out number out′
+  reached-call class = bounds-call bytes out (reached-kept (schemeIn bytes) class year)
 
   pub mean-call : RecordBoundsPost (λ s. meanAnswer s year) bytes out number out′ → MeanCall bytes year out number out′
   mean-call = bounds-call bytes out (mean-kept (schemeIn bytes) year)

@@ -147,7 +147,7 @@ cleared-values s h =
     }
 
 -- A size out of range is cause 3, whatever else holds.
-size-first : (s : Scheme) → sizeOut s ≡ true → causeOf s ≡ 3
+pub size-first : (s : Scheme) → sizeOut s ≡ true → causeOf s ≡ 3
 unfolding causeOf
 size-first s e = rw e
 

@@ -1,6 +1,6 @@
 -- Interval rows, payoffs and gains that agree on n states have the same figures: nothing is read of the states from n on.
 use Prim.Native.Nat.{ℕ, zero, suc, min, _+_, _-_, _*_, _<_}
-use mathlib.Core.Path.{_≡_, refl, ap, ap₂, sym, _∙_, subst₂}
+use mathlib.Core.Path.{_≡_, refl, ap, ap₂, sym, _∙_, subst, subst₂}
 use native.Mathlib.Omega.{arith}
 use mathlib.Core.Bool.{Bool, true, false, _&&_, _||_}
 use lib.Dec.{eqb, ltb}
@@ -9,7 +9,9 @@ use Rattle.setchain.specs.Rows.{ONE, IntervalRow, SoundRow, SetChain}
 use Rattle.setchain.specs.Rounding.{rounded}
 use Rattle.setchain.specs.Step.{capacity, slack, rising, before, capacityBefore, fillRow, stepFigure, NotAfter, Parts, Reaches}
 use Rattle.setchain.specs.Years.{yearsFigure}
+use Rattle.setchain.specs.Turns.{Turn, add, turned, Obeys}
 use Rattle.setchain.specs.Laws.Sums.{sumTo-eq}
+use Rattle.setchain.specs.Laws.Obeys.{years-obey}
 
 -- Two rows have the same entries for the first n states.
 pub record Agree (n : ℕ) (r q : IntervalRow) : Type 0 where
@@ -89,14 +91,25 @@ module _ {n : ℕ} {r q : IntervalRow} (rows : Agree n r q) where
     unfolding stepFigure
     step-agrees high = ap (rounded high ONE) (dot-agrees n (fill-agrees (before high f) (before high g) (before-agrees high)) payoffs)
 
--- Chains, payoffs and gains that agree on the states.
-module _ {c d : SetChain} (states : c .states ≡ d .states) (rows : (i : ℕ) → i < c .states → Agree (c .states) (c .row i) (d .row i))
-    {payoff payoff′ gain gain′ : ℕ → ℕ}
-    (payoffs : (i : ℕ) → i < c .states → payoff i ≡ payoff′ i)
-    (gains : (i : ℕ) → i < c .states → gain i ≡ gain′ i) (high : Bool) where
-  pub years-agree : (t i : ℕ) → i < c .states → yearsFigure high c payoff gain t i ≡ yearsFigure high d payoff′ gain′ t i
-  unfolding yearsFigure
-  years-agree zero i l = payoffs i l
-  years-agree (suc t) i l =
-      ap₂ (λ x y. x + y) (gains i l)
-      (step-agrees (rows i l) (years-agree t) high ∙ ap (λ n. stepFigure high n (d .row i) (yearsFigure high d payoff′ gain′ t)) states)
+-- Chains that agree on the states.
+module _ {c d : SetChain} (states : c .states ≡ d .states) (rows : (i : ℕ) → i < c .states → Agree (c .states) (c .row i) (d .row i)) where
+  -- Figures that obey them from the same payoffs by the same turns.
+  module _ {high : Bool} {payoff payoff′ : ℕ → ℕ} {turn turn′ : ℕ → Turn} {figure figure′ : ℕ → ℕ → ℕ}
+      (obeys : Obeys high c payoff turn figure) (obeys′ : Obeys high d payoff′ turn′ figure′)
+      (payoffs : (i : ℕ) → i < c .states → payoff i ≡ payoff′ i)
+      (turns : (i : ℕ) → i < c .states → turn i ≡ turn′ i) where
+    within : (i : ℕ) → i < c .states → i < d .states
+    within i l = subst (λ n. i < n) states l
+
+    pub obeys-agree : (t i : ℕ) → i < c .states → figure t i ≡ figure′ t i
+    obeys-agree zero i l = obeys .start i l ∙ payoffs i l ∙ sym (obeys′ .start i (within i l))
+    obeys-agree (suc t) i l =
+        obeys .more t i l
+        ∙ ap₂ turned (turns i l) (step-agrees (rows i l) (obeys-agree t) high ∙ ap (λ n. stepFigure high n (d .row i) (figure′ t)) states)
+        ∙ sym (obeys′ .more t i (within i l))
+
+  -- The years, for payoffs and gains that agree.
+  pub years-agree : {payoff payoff′ gain gain′ : ℕ → ℕ} → ((i : ℕ) → i < c .states → payoff i ≡ payoff′ i) → ((i : ℕ) → i < c .states → gain i ≡ gain′ i)
+      → (high : Bool) (t i : ℕ) → i < c .states → yearsFigure high c payoff gain t i ≡ yearsFigure high d payoff′ gain′ t i
+  years-agree {payoff} {payoff′} {gain} {gain′} payoffs gains high =
+      obeys-agree (years-obey high c payoff gain) (years-obey high d payoff′ gain′) payoffs (λ i l. ap add (gains i l))

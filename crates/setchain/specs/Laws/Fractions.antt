@@ -1,9 +1,12 @@
 -- Laws of fractions. Addition and multiplication are commutative and associative literally, as pairs; the rest holds multiplied out.
 use Prim.Native.Nat.{ℕ, zero, suc, _*_, _≤_, _<_}
 use mathlib.Core.Path.{_≡_, refl, ap, sym, _∙_, fun-ext, subst, subst₂}
-use mathlib.Core.Bool.{Bool, true, false}
+use mathlib.Core.Logic.{⊎-elim}
+use mathlib.Core.Bool.{Bool, true, false, cond}
+use lib.Dec.{eqb}
+use borrow.Author.Tests.{eq-eqb, ne-eqb}
 use native.Mathlib.Omega.{arith}
-use native.Mathlib.Nat.{le-refl, le-of-eq, mul-le-mul-right, mul-pos, le-of-mul-le-mul-right, eq-of-mul-eq-mul-right}
+use native.Mathlib.Nat.{le-refl, le-of-eq, eq-or-lt-of-le, le-of-suc-le-suc, not-suc-le-zero, mul-le-mul-right, mul-pos, le-of-mul-le-mul-right, eq-of-mul-eq-mul-right}
 use Rattle.setchain.specs.Sums.{sumTo, dot}
 use Rattle.setchain.specs.Fractions.{Fraction, whole, _⊕_, _⊗_, _≼_, _≈_, Proper, sumFractions}
 use Rattle.setchain.specs.Rows.{IntervalRow, Row, Inside}
@@ -60,6 +63,9 @@ add-same x x′ y y′ e g =
 pub mul-same : (x x′ y : Fraction) → x ≈ x′ → x ⊗ y ≈ x′ ⊗ y
 mul-same x x′ y e = omega (arith, ap (λ v. v * (y .num * y .den)) e)
 
+pub mul-same-left : (x y y′ : Fraction) → y ≈ y′ → x ⊗ y ≈ x ⊗ y′
+mul-same-left x y y′ e = omega (arith, ap (λ v. v * (x .num * x .den)) e)
+
 add-at-most : (x x′ y y′ : Fraction) → x ≼ x′ → y ≼ y′ → x ⊕ y ≼ x′ ⊕ y′
 add-at-most x x′ y y′ h k =
     omega (arith, mul-le-mul-right (y .den * y′ .den) h, mul-le-mul-right (x .den * x′ .den) k)
@@ -106,10 +112,32 @@ pub bound-sum : (high : Bool) (n : ℕ) (f g : ℕ → Fraction) → ((k : ℕ) 
 bound-sum false n f g h = sum-at-most n f g h
 bound-sum true n f g h = sum-at-most n g f h
 
-sum-zero : (n : ℕ) → sumFractions n (λ k. whole 0) ≡ whole 0
+pub sum-zero : (n : ℕ) → sumFractions n (λ k. whole 0) ≡ whole 0
 unfolding sumFractions
 sum-zero zero = refl
 sum-zero (suc n) = ap (λ s. s ⊕ whole 0) (sum-zero n)
+
+-- A sum in which one index alone counts.
+sum-none : (n : ℕ) (f : ℕ → Fraction) (i : ℕ) → n ≤ i → sumFractions n (λ k. cond (eqb k i) (f k) (whole 0)) ≡ whole 0
+unfolding sumFractions
+sum-none zero f i h = refl
+sum-none (suc n) f i h =
+    ap (λ s. s ⊕ cond (eqb n i) (f n) (whole 0)) (sum-none n f i (omega arith))
+    ∙ ap (λ b. whole 0 ⊕ cond b (f n) (whole 0)) (ne-eqb n i (λ e. omega arith))
+
+pub sum-point : (n : ℕ) (f : ℕ → Fraction) (i : ℕ) → i < n → sumFractions n (λ k. cond (eqb k i) (f k) (whole 0)) ≡ f i
+unfolding sumFractions
+sum-point zero f i h = absurd (not-suc-le-zero h)
+sum-point (suc n) f i h =
+    ⊎-elim
+    (λ e.
+    ap (λ s. s ⊕ own) (sum-none n f i (omega arith)) ∙ ap (λ b. whole 0 ⊕ cond b (f n) (whole 0)) (eq-eqb n i (sym e)) ∙ zero-add (f n) ∙ ap f (sym e))
+    (λ l.
+    ap (λ s. s ⊕ own) (sum-point n f i l) ∙ ap (λ b. f i ⊕ cond b (f n) (whole 0)) (ne-eqb n i (λ e. omega arith)) ∙ add-comm (f i) (whole 0) ∙ zero-add (f i))
+    (eq-or-lt-of-le (le-of-suc-le-suc h))
+  where
+    own : Fraction
+    own = cond (eqb n i) (f n) (whole 0)
 
 pub sum-add : (n : ℕ) (f g : ℕ → Fraction) → sumFractions n (λ k. f k ⊕ g k) ≡ sumFractions n f ⊕ sumFractions n g
 unfolding sumFractions

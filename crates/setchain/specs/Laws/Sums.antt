@@ -165,6 +165,10 @@ sumTo-change (suc n) f g j l h =
     (λ jn. omega (arith, sumTo-change n f g j jn (λ k kn. h k (le-step kn)), h n (le-refl (suc n)) (λ z. omega arith)))
     (eq-or-lt-of-le (le-of-suc-le-suc l))
 
+-- A sum of which all terms but one are 0.
+pub sumTo-only : (n : ℕ) (f : ℕ → ℕ) (j : ℕ) → j < n → ((k : ℕ) → k < n → (k ≡ j → ⊥) → f k ≡ 0) → sumTo n f ≡ f j
+sumTo-only n f j l h = omega (arith, sumTo-change n (λ k. 0) f j l h, sumTo-zero n)
+
 -- The smaller of c and a sum is at most the sum of what is smaller at each index.
 pub min-sum-le : (n c : ℕ) (f : ℕ → ℕ) → min c (sumTo n f) ≤ sumTo n (λ j. min c (f j))
 unfolding sumTo

@@ -66,8 +66,8 @@ fn largest(seed: u64) -> Vec<u8> {
 /// A call's name, and its depth.
 type Depth = (&'static str, usize);
 
-/// The depth of each call for shares and money.
-fn figures(record: &[u8]) -> [Depth; 6] {
+/// The depth of each call for shares, for a class reached and for money.
+fn figures(record: &[u8]) -> [Depth; 7] {
     let mut out = [0; 2];
     let (mut low, mut high) = ([0; 32], [0; 32]);
     let mut share = |year| used(|| library::share(record, 32, year, &mut out).expect("a share"));
@@ -75,6 +75,10 @@ fn figures(record: &[u8]) -> [Depth; 6] {
         ("share of year 0", share(0)),
         ("share of year 50", share(50)),
         ("share", share(100)),
+        (
+            "reached",
+            used(|| library::reached(record, 32, 100, &mut out).expect("a chance")),
+        ),
         (
             "mean",
             used(|| library::mean(record, 100, &mut out).expect("a mean")),

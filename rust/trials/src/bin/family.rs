@@ -37,6 +37,8 @@
 //! STEP class kind ANSWER           the kinds 0 to 3 of payoff; OK low high
 //! SHARE class year ANSWER          year 0, 1, 2, horizon, horizon + 1;
 //!                                  OK low high
+//! REACHED class year ANSWER        the chance of having reached the class by
+//!                                  the same years; OK low high
 //! ```
 //!
 //! then for each of these years:

@@ -1,0 +1,20 @@
+-- `staying_rule` meets its contract.
+use mathlib.Core.Path.{sym, _∙_}
+use Rattle.reached.proofs.staying_rule.Statement.{statement}
+use Rattle.reached.proofs.staying_rule.Tie as tie
+
+outside-requires : tie.Need-outside-requires
+outside-requires c κs = tt
+
+returns : tie.Need-returns
+returns c =
+    let at-outside = c .before in
+    simp (sym (at-outside .outside .ensures) ∙ c .if1 .taken)
+
+returns-2 : tie.Need-returns-2
+returns-2 c =
+    let at-outside = c .before in
+    simp (sym (at-outside .outside .ensures) ∙ c .if1 .left)
+
+pub staying-rule-spec : {M : Type 1} → statement M
+staying-rule-spec = tie.close (tie.spec outside-requires returns returns-2)
