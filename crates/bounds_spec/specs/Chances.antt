@@ -22,7 +22,7 @@ use Rattle.bounds_spec.specs.declared.Bounds.the-variants.{Answered}
 use Rattle.bounds_spec.specs.Causes.{shareCause}
 use Rattle.bounds_spec.specs.Answers.{numberOf, lowOf, highOf, answerBy, startOf}
 use Rattle.bounds_spec.specs.Reached.{reachedAnswer}
-use Rattle.bounds_spec.specs.Examples.{no-share-cause}
+use Rattle.bounds_spec.specs.Laws.Answered.{no-share-cause}
 use Rattle.bounds_spec.specs.Laws.Causes.{of-share}
 use Rattle.bounds_spec.specs.Laws.Kept.{answer-number}
 

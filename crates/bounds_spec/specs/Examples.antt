@@ -5,7 +5,6 @@ use mathlib.Core.Bool.{Bool, true, false}
 use mathlib.Core.List.{[], _∷_}
 use native.Mathlib.Omega.{arith}
 use native.Mathlib.Nat.{le-refl}
-use borrow.Author.Tests.{le-ltb}
 use Rattle.setchain.specs.Sums.{sumTo, onlyIf}
 use Rattle.setchain.specs.Tests.{anyBelow}
 use Rattle.setchain.specs.Rows.{ONE, IntervalRow, SoundRow, SetChain, SoundChain}
@@ -16,20 +15,19 @@ use Rattle.setchain.specs.ReachedTheorems.{stay-step}
 use Rattle.scheme.specs.declared.Scheme.{Scheme}
 use Rattle.scheme.specs.Tables.{tab}
 use Rattle.scheme.specs.Accepted.{Accepted}
-use Rattle.scheme.specs.FirstCause.{orElse}
-use Rattle.scheme.specs.Cause.{outside, sizeOut, startOut, horizonOut, ruleOut, bandOut, sumOut, premiumOut, causeOf, classCause, yearCause}
+use Rattle.scheme.specs.Cause.{sizeOut, startOut, horizonOut, ruleOut, bandOut, sumOut, premiumOut, causeOf, yearCause}
 use Rattle.scheme.specs.Rows.{chainOf}
 use Rattle.scheme.specs.Access.{premiumAt}
 use Rattle.scheme.specs.Examples.{padded, schemeA, single, RowsA, rows-a}
 use Rattle.scheme.specs.RowExamples.{RowAnswersA, row-answers-a}
-use Rattle.scheme.specs.Laws.FirstCause.{answered, second-cause, cond-false}
-use Rattle.scheme.specs.Laws.Cause.{inside-outside}
+use Rattle.scheme.specs.Laws.FirstCause.{answered, second-cause}
 use Rattle.scheme.specs.Laws.Judged.{accepted-cause, cause-accepted}
 use Rattle.scheme.specs.Laws.Sound.{accepted-sound}
 use Rattle.bounds_spec.specs.declared.Bounds.the-variants.{Answered, Refused}
 use Rattle.bounds_spec.specs.Answers.{startOf, shareAnswer, meanAnswer, totalAnswer, figureShares, lowShares, highShares}
 use Rattle.bounds_spec.specs.Table.{tableEntry, figureTable, lowTable, highTable}
 use Rattle.bounds_spec.specs.Causes.{shareCause, moneyCause}
+use Rattle.bounds_spec.specs.Laws.Answered.{no-year-cause, no-share-cause}
 
 -- "Both classes 0→1, 1+→2; bands …, each lower = upper; premiums 10, 11".
 abbrev pub fixedBands : (first second : ℕ) → Scheme
@@ -75,16 +73,6 @@ dearest = single 1 0 1000000000 10000000
 pub largest-total : (high : Bool) → totalTenths high (chainOf dearest) (premiumAt dearest) 100 0 ≡ 10000000000
 unfolding causeOf sizeOut startOut horizonOut ruleOut bandOut sumOut premiumOut anyBelow sumTo
 largest-total high = only-total high (chainOf dearest) (accepted-sound dearest (accepted-cause dearest refl)) refl (premiumAt dearest) 100
-
--- A call for a class and a year that are there.
-no-year-cause : (s : Scheme) (t : ℕ) → t ≤ s .horizon → yearCause s t ≡ 0
-no-year-cause s t h = simp (le-ltb (s .horizon) t h)
-
-pub no-share-cause : (s : Scheme) → Accepted s → (class t : ℕ) → 1 ≤ class → class ≤ s .classes → t ≤ s .horizon → shareCause s class t ≡ 0
-no-share-cause s ok class t low high h =
-    second-cause (causeOf s) (orElse (classCause s class) (yearCause s t)) (cause-accepted s ok)
-    ∙ second-cause (classCause s class) (yearCause s t) (cond-false (outside (s .classes) class) 11 0 (inside-outside (s .classes) class low high))
-    ∙ no-year-cause s t h
 
 one-class : (s : Scheme) → Accepted s → s .classes ≡ 1 → (t : ℕ) → t ≤ s .horizon → shareAnswer s 1 t ≡ Answered ONE ONE
 unfolding shareAnswer

@@ -1,5 +1,5 @@
 -- Narrower bands move bounds inward (document 02, item 1), of what the calls answer: "The trimmed scheme's low figures must be no smaller and its high
--- figures no larger", for every class, year, mean, total and chance, pooled or not, and for each number of a share sheet and of all figures.
+-- figures no larger", for every class, year, mean and total, pooled or not, for every chance of having reached a class, and for each number of a share sheet and of all figures.
 use Prim.Native.Nat.{ℕ, suc, _+_, _-_, _*_, _/_, _%_, _≤_, _<_}
 use mathlib.Core.Path.{_≡_, refl, ap, ap₂, sym, subst}
 use mathlib.Core.Bool.{Bool, true, false, cond}

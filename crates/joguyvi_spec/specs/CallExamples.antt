@@ -180,7 +180,7 @@ share-calls = (
   λ w. omega (arith, w .answer),
 )
 
--- The chance of having reached class 1 by year 2, and not 3 parts less for its low, which the share of class 1 is not; declined, the buffer is left as it was.
+-- The chance of having reached class 1 by year 2: not 3 parts less for its low, and not the share of class 1; declined, the buffer is left as it was.
 pub reached-calls :
     ReachedCall exampleA 1 2 two 0 (960000000 ∷ 990000000 ∷ []) × ¬ ReachedCall exampleA 1 2 two 0 (959999997 ∷ 990000000 ∷ [])
     × ¬ ReachedCall exampleA 1 2 two 0 (920000000 ∷ 990000000 ∷ []) × ReachedCall [] 1 2 two 1 two × ¬ ReachedCall [] 1 2 two 1 (960000000 ∷ 990000000 ∷ [])

@@ -46,7 +46,7 @@ module _ (s : Scheme) (class : ℕ) (rules : List ℕ) (w : StayingRules (s .cla
   abbrev staying : Scheme
   staying = withRules s rules
 
-  -- "No second acceptance rule": each rule passes its test where it did.
+  -- Each rule passes its test where it did: there is no second rule of acceptance.
   rule-kept : SizeFits s → (i k : ℕ) → i < s .classes → k < cellCount s → outside (s .classes) (ruleAt staying i k) ≡ outside (s .classes) (ruleAt s i k)
   rule-kept size i k l g = by (ℕ-discrete (suc i) class)
     where

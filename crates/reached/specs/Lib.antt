@@ -1,2 +1,2 @@
--- The scheme in which nobody leaves a class, and that the share of that class is the chance of having reached it.
+-- The scheme in which nobody leaves a class.
 pub mod Staying

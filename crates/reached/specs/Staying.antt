@@ -12,7 +12,7 @@ use Rattle.scheme.specs.Cause.{outside}
 abbrev pub stayingRule : (classes class rule : ℕ) → ℕ
 stayingRule classes class rule = cond (outside classes rule) rule class
 
--- So are the rules of the class, and those of the others are as they were.
+-- The rules of the class are led so, and those of the others are as they were.
 pub record StayingRules (classes class : ℕ) (before after : List ℕ) : Type 0 where
   pub own : (i k : ℕ) → suc i ≡ class → i < 32 → k < CELL_STRIDE → at after (i * CELL_STRIDE + k) ≡ stayingRule classes class (at before (i * CELL_STRIDE + k))
   pub others : (i k : ℕ) → (suc i ≡ class → ⊥) → k < CELL_STRIDE → at after (i * CELL_STRIDE + k) ≡ at before (i * CELL_STRIDE + k)

@@ -18,7 +18,7 @@ pub use rows::{bands, high_step, low_step, mixing, row, rule_row};
 mod archive {
     /// What a share and the chance of having reached a class take: the record,
     /// the class, the year and the bounds' slice.
-    pub type Chance = unsafe extern "C" fn(*const u8, usize, u64, u64, *mut u64, usize) -> u8;
+    pub type ClassBounds = unsafe extern "C" fn(*const u8, usize, u64, u64, *mut u64, usize) -> u8;
 
     extern "C" {
         pub fn joguyvi_check(bytes: *const u8, bytes_length: usize) -> u8;
@@ -109,8 +109,8 @@ pub fn check(record: &[u8]) -> Result<(), u8> {
 }
 
 /// One of the archives' two calls for a class and a year, on slices.
-fn chance(
-    of_archive: archive::Chance,
+fn class_bounds(
+    of_archive: archive::ClassBounds,
     record: &[u8],
     class: u64,
     year: u64,
@@ -132,13 +132,13 @@ fn chance(
 /// The low and the high share of a class after a number of years, in parts,
 /// into a slice of 2 numbers.
 pub fn share(record: &[u8], class: u64, year: u64, out: &mut [u64]) -> Result<(), u8> {
-    chance(archive::joguyvi_share, record, class, year, out)
+    class_bounds(archive::joguyvi_share, record, class, year, out)
 }
 
 /// The low and the high chance of having stood in a class at least once by a
 /// year, in parts, into a slice of 2 numbers.
 pub fn reached(record: &[u8], class: u64, year: u64, out: &mut [u64]) -> Result<(), u8> {
-    chance(archive::joguyvi_reached, record, class, year, out)
+    class_bounds(archive::joguyvi_reached, record, class, year, out)
 }
 
 /// The low and the high mean premium of a year, in cents, into a slice of 2
