@@ -1,8 +1,10 @@
 #!/usr/bin/env python3
-"""Makes the example records beside this script, from document 01's "Record" and "Ready schemes".
+"""Makes the example records beside this script, from document 01's "Record" and "Ready schemes", and document 02's item 5.
 
-example-a.record   Example A of document 01
-ready-1.record …   the ready schemes 1 to 3 at a base premium of 1,000.00, their bands narrowed to BANDS below
+example-a.record         Example A of document 01
+example-a-label.record   the same as a label, in version 2
+ready-1.record …         the ready schemes 1 to 3 at a base premium of 1,000.00, their bands narrowed to BANDS below
+ready-1-label.record     the first of them as a label
 """
 import pathlib
 
@@ -17,32 +19,38 @@ BASE = 100_000
 BANDS = [(880_000_000, 930_000_000), (60_000_000, 100_000_000), (4_000_000, 15_000_000), (0, 4_000_000), (0, 1_000_000)]
 
 
-def record(start, horizon, rules, bands, premiums):
-    """The bytes of a scheme: rules class by class, bands of lower and upper, premiums."""
+def record(version, start, horizon, rules, bands, premiums):
+    """The bytes of a scheme in version 1 or 2: rules class by class, bands of lower and upper, premiums."""
     classes, columns = len(rules), len(bands)
-    length = 7 + classes * columns + 8 * columns + 4 * classes
-    out = bytes([1]) + length.to_bytes(2, "big") + bytes([classes, columns, start, horizon])
+    header, width = {1: (7, 4), 2: (8, 3)}[version]
+    length = header + classes * columns + 8 * columns + width * classes
+    out = bytes([version]) + length.to_bytes(2, "big") + bytes([classes, columns, start, horizon])
+    if version == 2:
+        out += bytes([columns - 1])
     out += b"".join(bytes(row) for row in rules)
     out += b"".join(end.to_bytes(4, "big") for band in bands for end in band)
-    out += b"".join(premium.to_bytes(4, "big") for premium in premiums)
+    out += b"".join(premium.to_bytes(width, "big") for premium in premiums)
     assert len(out) == length
     return out
 
 
-def ready(number):
+def ready(version, number):
     """Ready scheme `number`: k claims raise the class by c × k − 1, none lowers it by 1, held to 1 to s."""
     classes, factor, tenths = SCALES[number]
     move = lambda i, k: i - 1 if k == 0 else i + factor * k - 1
     rules = [[max(1, min(classes, move(i, k))) for k in range(5)] for i in range(1, classes + 1)]
-    return record(10, 40, rules, BANDS, [BASE * int(t) // 1000 for t in tenths.split()])
+    return record(version, 10, 40, rules, BANDS, [BASE * int(t) // 1000 for t in tenths.split()])
 
 
 def main():
     here = pathlib.Path(__file__).parent
     bands = [(800_000_000, 900_000_000), (100_000_000, 200_000_000), (0, 50_000_000)]
-    (here / "example-a.record").write_bytes(record(2, 2, [[1, 1, 2], [1, 2, 2]], bands, [10_000, 15_000]))
+    for version, label in (1, ""), (2, "-label"):
+        example = record(version, 2, 2, [[1, 1, 2], [1, 2, 2]], bands, [10_000, 15_000])
+        (here / f"example-a{label}.record").write_bytes(example)
     for number in SCALES:
-        (here / f"ready-{number}.record").write_bytes(ready(number))
+        (here / f"ready-{number}.record").write_bytes(ready(1, number))
+    (here / "ready-1-label.record").write_bytes(ready(2, 1))
 
 
 if __name__ == "__main__":

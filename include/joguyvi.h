@@ -7,9 +7,17 @@
  * 3 s or m out of range, 4 a wrong length, 5 start, 6 horizon, 7 a rule,
  * 8 a band, 9 the bands' sums, 10 a premium or a payoff, 11 the class asked
  * for, 12 the year asked for, 13 a lent buffer, 14 the ready scheme's number,
- * 15 the base, 16 no count of years to 1,024 that mixes, 18 a count of a book
- * above 1,000,000, 19 a book without a chamber. Cause 13 is tested last, also
- * after 14 to 19.
+ * 15 the base, 16 no count of years to 1,024 that mixes, 17 a label's byte 7,
+ * 18 a count of a book above 1,000,000, 19 a book without a chamber. Cause 17
+ * is tested after 4, before 5; cause 13 last, also after 14 to 19.
+ *
+ * A record is of version 1 or of version 2, the label on a chamber's door;
+ * `bytes` may be either. Byte 0 is the version, bytes 1 and 2 the length of the
+ * whole record, byte 3 s, byte 4 m, byte 5 the start class, byte 6 the horizon,
+ * and of a label byte 7 the claim number that opens the last column, m - 1. Then
+ * come the s times m rules, class by class, the m bands, lower and upper end in
+ * 4 bytes each, and the s premiums in 4 bytes each, of a label in 3. Numbers are
+ * big-endian. A label has s - 1 bytes less than the same record in version 1.
  *
  * Lent buffers are filled only where the answer is 0, and otherwise left as
  * they were. A buffer passes as a pointer and its length in elements. A
@@ -123,16 +131,20 @@ uint8_t joguyvi_sheet(const uint8_t *bytes, size_t bytes_length,
 /* The cause for which a record is not read, or 0. */
 uint8_t joguyvi_check(const uint8_t *bytes, size_t bytes_length);
 
-/* A record read and written again into `out`, from the front on, and its
- * length into `length`, of 1 number: the bytes written are those read. Room
- * for any record: 455 bytes. */
+/* A record read and written again into `out`, in version 1 or 2, from the front
+ * on, and its length into `length`, of 1 number. In the version that it has, the
+ * bytes written are those read; in the other, they are read as before, so that
+ * a record rewritten as a label and back is the same record. Another version is
+ * 1, tested before all else. Room for any record: 455 bytes, for any label 424. */
 uint8_t joguyvi_rewrite(const uint8_t *bytes, size_t bytes_length,
+                        uint64_t version,
                         uint8_t *out, size_t out_length,
                         uint64_t *length, size_t length_length);
 
 /* The ready scheme 1, 2 or 3, with premiums from a base of 0 to 2,500,000
- * cents, as a record into `out`, and its length into `length`, of 1 number. */
-uint8_t joguyvi_ready(uint64_t number, uint64_t base,
+ * cents, as a record of version 1 or 2 into `out`, and its length into `length`,
+ * of 1 number. Another version is 1, tested before all else. */
+uint8_t joguyvi_ready(uint64_t number, uint64_t base, uint64_t version,
                       uint8_t *out, size_t out_length,
                       uint64_t *length, size_t length_length);
 

@@ -152,20 +152,23 @@ fn wrote(answer: WriteAnswer) -> usize {
     }
 }
 
-// The record written into a slice.
-fn write_into(scheme: Scheme, out: &mut [u8]) {
-    console::word(b"WRITE", out.len() as u64);
-    wrote(record_write::write(scheme, out));
+// The record written in a version into a slice, and the length of what was written.
+fn write_into(scheme: Scheme, version: u64, out: &mut [u8]) -> usize {
+    console::word(b"WRITE", version);
+    console::number(out.len() as u64);
+    let length = wrote(record_write::write(scheme, version, out));
     console::number(console::checksum(out));
     console::end();
+    length
 }
 
-// The record written into a room of n bytes.
-fn write(scheme: Scheme, n: usize) {
+// The record written in a version into a room of n bytes, and the length of what was written.
+fn write(scheme: Scheme, version: u64, n: usize) -> usize {
     let mut room = [170u8; 460];
     if n <= ROOM {
-        write_into(scheme, &mut room[..n]);
+        return write_into(scheme, version, &mut room[..n]);
     }
+    0
 }
 
 // The entries of a row by their checksums.
@@ -298,17 +301,23 @@ fn of_year(scheme: Scheme, year: u64) {
     sheet_into(scheme, year, s / 2, s);
 }
 
-// The record written into rooms of its length, of five bytes more and of one less.
-fn writes(scheme: Scheme, length: usize) {
+// The record written in a version into a room for any record and, where there is such a version, into rooms of its length and of one byte less.
+fn writes(scheme: Scheme, version: u64) {
+    let length = write(scheme, version, ROOM);
     if length == 0 {
         return;
     }
-    if ROOM < length {
-        return;
-    }
-    write(scheme, length);
-    write(scheme, length + 5);
-    write(scheme, length - 1);
+    write(scheme, version, length);
+    write(scheme, version, length - 1);
+}
+
+// The record written in both versions, and in some that there are not.
+fn versions(scheme: Scheme) {
+    writes(scheme, 1);
+    writes(scheme, 2);
+    writes(scheme, 0);
+    writes(scheme, 3);
+    writes(scheme, 257);
 }
 
 // The first count of years that mixes.
@@ -332,7 +341,7 @@ fn accepted(scheme: Scheme, number: u64, bytes: &[u8]) {
     rules(bytes, start);
     rules(bytes, s);
     rules(bytes, beyond);
-    writes(scheme, bytes.len());
+    versions(scheme);
     mixing_check(scheme);
     of_class(scheme, number, 0);
     of_class(scheme, number, 1);
@@ -371,12 +380,21 @@ fn premium(class: u64, cents: u32) {
     console::end();
 }
 
-// A ready scheme's record: its length and checksum, two of its rule rows, and two premiums.
+// The length and the checksum of a scheme's record in version 2.
+fn label(scheme: Scheme) {
+    let mut out = [0u8; 455];
+    let length = record_write::written_length(record_write::write(scheme, 2, &mut out));
+    console::number(length);
+    console::number(console::checksum(console::front(&out, length as usize)));
+}
+
+// A ready scheme's record: its length and checksum in both versions, two of its rule rows, and two premiums.
 fn of_ready(scheme: Scheme) {
     let mut out = [0u8; 455];
-    let length = wrote(record_write::write(scheme, &mut out));
+    let length = wrote(record_write::write(scheme, 1, &mut out));
     let bytes = console::front(&out, length);
     console::number(console::checksum(bytes));
+    label(scheme);
     console::end();
     rules(bytes, 1);
     rules(bytes, 10);

@@ -14,7 +14,7 @@ use Rattle.scheme.specs.Cause.{sizeOut, startOut, horizonOut, ruleOut, bandOut,
 use Rattle.scheme.specs.Stored.{upTo, schemeOf}
 use Rattle.scheme.specs.Examples.{padded}
 use Rattle.big_endian_spec.specs.Numbers.{beAt}
-use Rattle.record_spec.specs.Layout.{layoutIn}
+use Rattle.record_spec.specs.Layout.{layoutOf}
 use Rattle.record_spec.specs.Read.{frameCause}
 use Rattle.record_spec.specs.Examples.{exampleA, scheme-a}
 use Rattle.book_spec.specs.Book.{countOut, noChamber, joinedBook, joinCause, joinAnswer}
@@ -43,7 +43,7 @@ pub pooled-share-calls :
     PooledCall (Figure.share 1) exampleA lentA 2 two 0 (935000000 ∷ 996666667 ∷ []) × ¬ PooledCall (Figure.share 1) exampleA lentA 2 two 0 (934999996 ∷ 996666667 ∷ [])
     × ¬ PooledCall (Figure.share 1) exampleA shortA 2 two 0 (935000000 ∷ 996666667 ∷ []) × ¬ PooledCall (Figure.share 1) exampleA lentA 2 three 0 (935000000 ∷ 996666667 ∷ [])
     × PooledCall (Figure.share 1) [] lentA 2 two 1 two × ¬ PooledCall (Figure.share 1) [] lentA 2 two 1 (8 ∷ 7 ∷ [])
-unfolding layoutIn first32 pooledAnswer putNumber countOut noChamber frameCause beAt schemeOf upTo tab causeOf sizeOut startOut horizonOut ruleOut bandOut sumOut premiumOut anyBelow
+unfolding layoutOf first32 pooledAnswer putNumber countOut noChamber frameCause beAt schemeOf upTo tab causeOf sizeOut startOut horizonOut ruleOut bandOut sumOut premiumOut anyBelow
     yearsFigure stepFigure fillRow capacityBefore sumFractions sumTo onlyIf
 pooled-share-calls = (
   put-a (Figure.share 1) refl,
@@ -58,7 +58,7 @@ pooled-share-calls = (
 pub pooled-money-calls :
     PooledCall Figure.mean exampleA lentA 2 two 0 (10016 ∷ 10325 ∷ []) × ¬ PooledCall Figure.mean exampleA lentA 2 two 0 (10014 ∷ 10325 ∷ [])
     × PooledCall Figure.total exampleA lentA 2 two 0 (21833 ∷ 22167 ∷ []) × ¬ PooledCall Figure.total exampleA lentA 2 two 0 (21831 ∷ 22167 ∷ [])
-unfolding layoutIn first32 pooledAnswer countOut noChamber frameCause beAt schemeOf upTo tab causeOf sizeOut startOut horizonOut ruleOut bandOut sumOut premiumOut anyBelow
+unfolding layoutOf first32 pooledAnswer countOut noChamber frameCause beAt schemeOf upTo tab causeOf sizeOut startOut horizonOut ruleOut bandOut sumOut premiumOut anyBelow
     yearsFigure stepFigure fillRow capacityBefore sumFractions sumTo onlyIf
 pooled-money-calls = (
   put-a Figure.mean refl,
@@ -79,7 +79,7 @@ pub pooled-sheet-calls :
     × ¬ PooledSheetCall exampleA lentA 2 two two 0 (934999996 ∷ 3333333 ∷ []) highsA × PooledSheetCall exampleA shortA 2 two two 13 two two
     × ¬ PooledSheetCall exampleA shortA 2 two two 13 lowsA two × ¬ PooledSheetCall exampleA shortA 2 two two 13 two highsA × PooledSheetCall [] shortA 2 two two 1 two two
     × ¬ PooledSheetCall [] shortA 2 two two 13 two two × PooledSheetCall [] shortA 2 two three 1 two three
-unfolding layoutIn first32 pooledSheetCause pooledShares countOut noChamber frameCause beAt schemeOf upTo tab causeOf sizeOut startOut horizonOut ruleOut bandOut sumOut premiumOut anyBelow
+unfolding layoutOf first32 pooledSheetCause pooledShares countOut noChamber frameCause beAt schemeOf upTo tab causeOf sizeOut startOut horizonOut ruleOut bandOut sumOut premiumOut anyBelow
     yearsFigure stepFigure fillRow capacityBefore sumFractions sumTo onlyIf
 pooled-sheet-calls = (
   record { answer = sym (after-a _); lows = refl; highs = refl; promise = pooled-sheet-kept inA (first32 lentA) 2 two two },

@@ -12,15 +12,18 @@ use Rattle.scheme.specs.declared.Scheme.{Scheme}
 use Rattle.scheme.specs.Tables.{tab}
 use Rattle.scheme.specs.Cause.{sizeOut, startOut, horizonOut, ruleOut, bandOut, sumOut, premiumOut, causeOf}
 use Rattle.scheme.specs.Stored.{upTo, schemeOf}
+use Rattle.scheme.specs.FirstCause.{orElse}
+use Rattle.scheme.specs.Laws.FirstCause.{second-cause}
 use Rattle.scheme.specs.Examples.{padded}
 use Rattle.scheme.specs.RowAnswer.{rowAnswered}
 use Rattle.big_endian_spec.specs.Numbers.{beAt, beBytes}
-use Rattle.record_spec.specs.Layout.{layoutIn}
+use Rattle.record_spec.specs.Layout.{layoutOf}
 use Rattle.record_spec.specs.Joined.{joined}
-use Rattle.record_spec.specs.Read.{frameCause}
+use Rattle.record_spec.specs.Read.{frameCause, readCause, readAnswer}
 use Rattle.record_spec.specs.Bytes.{headerBytes, bytesOf}
 use Rattle.record_spec.specs.Write.{writeAnswer, writeLeaves}
-use Rattle.record_spec.specs.Examples.{exampleA, read-a, scheme-a, rows-a}
+use Rattle.record_spec.specs.Examples.{exampleA, read-a, scheme-a, answers-read, rows-a}
+use Rattle.record_spec.specs.DoorLabelExamples.{labelA, read-label, answer-label}
 use Rattle.ready_spec.specs.Scales.{scale1}
 use Rattle.ready_spec.specs.Ready.{readyScheme}
 use Rattle.ready_spec.specs.Answer.{readyAnswer}
@@ -49,12 +52,12 @@ use Rattle.joguyvi_spec.specs.Records.{CheckCall, RewriteCall, ReadyCall
 use Rattle.joguyvi_spec.specs.Buffers.{first32}
 use Rattle.joguyvi_spec.specs.Steps.{StepCall}
 use Rattle.joguyvi_spec.specs.Mixing.{PutCountPost, MixingCall}
-use Rattle.joguyvi_spec.specs.Examples.{one, two, three, long, inA, after-a, oneClassRecord, edgelessRecord, mixing-numbers}
+use Rattle.joguyvi_spec.specs.Examples.{one, two, three, long, seven, inA, after-a, oneClassRecord, edgelessRecord, mixing-numbers}
 use Rattle.joguyvi_spec.specs.Laws.Figures.{RecordBoundsPost, share-call, reached-call, mean-call, total-call}
 
 -- The number of Example A's record and of no bytes, and not another.
 pub check-calls : CheckCall exampleA 0 × CheckCall [] 1 × ¬ CheckCall [] 0
-unfolding layoutIn frameCause
+unfolding layoutOf frameCause
 check-calls = (record { answer = sym read-a }, record { answer = refl }, λ w. omega (arith, w .answer))
 
 -- Example A's class 2: the lower and upper entries of its tight row, each in its own buffer, and not those of its interval row; where the record is declined, neither.
@@ -68,7 +71,7 @@ pub row-calls :
     RowCall exampleA 2 long long 0 lowers uppers × ¬ RowCall exampleA 2 long long 0 uppers uppers × ¬ RowCall exampleA 2 long long 0 lowers lowers
     × ¬ RowCall exampleA 2 long long 0 lowers (padded 30 (900000000 ∷ 250000000 ∷ []))
     × RowCall [] 2 long long 1 long long × ¬ RowCall [] 2 long long 1 lowers long × ¬ RowCall [] 2 long long 0 lowers uppers
-unfolding layoutIn rowAnswered onlyIf frameCause beAt schemeOf upTo tab causeOf sizeOut startOut horizonOut ruleOut bandOut sumOut premiumOut anyBelow sumTo
+unfolding layoutOf rowAnswered onlyIf frameCause beAt schemeOf upTo tab causeOf sizeOut startOut horizonOut ruleOut bandOut sumOut premiumOut anyBelow sumTo
 row-calls = (
   record { answer = sym (after-a _); lowers = refl; uppers = refl },
   λ w. let e : _≡_ {A = ℕ} 900000000 800000000 = ap (λ l. getD l 0 0) (w .lowers) in omega arith,
@@ -83,7 +86,7 @@ row-calls = (
 pub rule-row-calls :
     RuleRowCall exampleA 2 three 0 (1 ∷ 2 ∷ 2 ∷ []) × ¬ RuleRowCall exampleA 2 three 0 (1 ∷ 1 ∷ 2 ∷ []) × RuleRowCall exampleA 3 two 11 two
     × ¬ RuleRowCall exampleA 3 two 13 two
-unfolding layoutIn frameCause beAt schemeOf upTo tab causeOf sizeOut startOut horizonOut ruleOut bandOut sumOut premiumOut anyBelow sumTo
+unfolding layoutOf frameCause beAt schemeOf upTo tab causeOf sizeOut startOut horizonOut ruleOut bandOut sumOut premiumOut anyBelow sumTo
 rule-row-calls = (
   record { answer = refl; rules = sym (rows-a .0) },
   λ w. let e : _≡_ {A = ℕ} 1 2 = ap (λ l. getD l 1 0) (w .rules ∙ rows-a .0) in omega arith,
@@ -101,7 +104,7 @@ upperEnds = 900000000 ∷ 200000000 ∷ 50000000 ∷ []
 pub bands-calls :
     BandsCall exampleA three three 0 lowerEnds upperEnds × ¬ BandsCall exampleA three three 0 upperEnds upperEnds × ¬ BandsCall exampleA three three 0 lowerEnds lowerEnds
     × BandsCall [] three three 1 three three × ¬ BandsCall [] three three 2 three three
-unfolding layoutIn frameCause beAt schemeOf upTo tab
+unfolding layoutOf frameCause beAt schemeOf upTo tab
 bands-calls = (
   record { answer = sym (after-a _); lowers = refl; uppers = refl },
   λ w. let e : _≡_ {A = ℕ} 900000000 800000000 = ap (λ l. getD l 0 0) (w .lowers) in omega arith,
@@ -110,38 +113,79 @@ bands-calls = (
   λ w. omega (arith, w .answer),
 )
 
+-- Example A's label has no cause, and is read as its record is.
+after-label : (second : ℕ) → orElse (readCause labelA) second ≡ second
+after-label second = second-cause (readCause labelA) second (read-label .0)
+
+read-alike : readAnswer labelA ≡ readAnswer exampleA
+read-alike = answer-label ∙ sym (answers-read .0)
+
 -- Example A's record written again into 47 bytes: the two past it stay, and they may not change; the length is 45, and what is not read is not written.
 pub rewrite-calls :
-    RewriteCall exampleA (replicate 47 9) one 0 (exampleA ++ (9 ∷ 9 ∷ [])) (45 ∷ [])
-    × ¬ RewriteCall exampleA (replicate 47 9) one 0 (exampleA ++ (9 ∷ 8 ∷ [])) (45 ∷ [])
-    × ¬ RewriteCall exampleA (replicate 47 9) one 0 (exampleA ++ (9 ∷ 9 ∷ [])) (47 ∷ [])
-    × RewriteCall [] two one 1 two one
-    × ¬ RewriteCall [] two one 1 three one
-    × ¬ RewriteCall [] two one 1 two (0 ∷ [])
-    × ¬ RewriteCall [] two one 2 two one
-unfolding layoutIn writeAnswer writeLeaves bytesOf headerBytes joined beBytes frameCause beAt schemeOf upTo tab causeOf sizeOut startOut horizonOut ruleOut bandOut sumOut premiumOut anyBelow sumTo
+    RewriteCall exampleA 1 (replicate 47 9) one 0 (exampleA ++ (9 ∷ 9 ∷ [])) (45 ∷ [])
+    × ¬ RewriteCall exampleA 1 (replicate 47 9) one 0 (exampleA ++ (9 ∷ 8 ∷ [])) (45 ∷ [])
+    × ¬ RewriteCall exampleA 1 (replicate 47 9) one 0 (exampleA ++ (9 ∷ 9 ∷ [])) (47 ∷ [])
+    × RewriteCall [] 1 two one 1 two one
+    × ¬ RewriteCall [] 1 two one 1 three one
+    × ¬ RewriteCall [] 1 two one 1 two (0 ∷ [])
+    × ¬ RewriteCall [] 1 two one 2 two one
+unfolding layoutOf writeAnswer writeLeaves bytesOf headerBytes joined beBytes frameCause beAt schemeOf upTo tab causeOf sizeOut startOut horizonOut ruleOut bandOut sumOut premiumOut anyBelow sumTo
 rewrite-calls = (
-  record { answer = sym (after-a _); written = refl; lengths = refl; copied = λ z. refl; counted = λ z. refl },
-  λ w. let e : _≡_ {A = ℕ} 8 9 = ap (λ l. getD l 46 0) (w .copied refl) in omega arith,
-  λ w. let e : _≡_ {A = ℕ} 47 45 = ap (λ l. getD l 0 0) (w .counted refl) in omega arith,
-  record { answer = refl; written = refl; lengths = refl; copied = λ z. absurd (omega arith); counted = λ z. absurd (omega arith) },
+  record { answer = sym (after-a _); written = refl; lengths = refl; copied = λ z e. refl; counted = λ z e. refl; readAgain = λ z. refl },
+  λ w. let e : _≡_ {A = ℕ} 8 9 = ap (λ l. getD l 46 0) (w .copied refl refl) in omega arith,
+  λ w. let e : _≡_ {A = ℕ} 47 45 = ap (λ l. getD l 0 0) (w .counted refl refl) in omega arith,
+  record { answer = refl; written = refl; lengths = refl; copied = λ z. absurd (omega arith); counted = λ z. absurd (omega arith); readAgain = λ z. absurd (omega arith) },
   λ w. omega (arith, ap length (w .written)),
   λ w. let e : _≡_ {A = ℕ} 0 7 = ap (λ l. getD l 0 0) (w .lengths) in omega arith,
   λ w. omega (arith, w .answer),
 )
 
--- Ready scheme 1 on base 100 is a record of 209 bytes, the first of them 1; there is no ready scheme 4.
+-- Rewritten as a label into 46 bytes and back into 45, and not with the bytes that it had; another version is declined, whatever the record, and writes nothing.
+pub relabel-calls :
+    RewriteCall exampleA 2 (replicate 46 9) one 0 (labelA ++ (9 ∷ 9 ∷ [])) (44 ∷ [])
+    × ¬ RewriteCall exampleA 2 (replicate 45 9) one 0 exampleA (45 ∷ [])
+    × RewriteCall labelA 1 (replicate 45 9) one 0 exampleA (45 ∷ [])
+    × RewriteCall exampleA 257 (replicate 45 9) one 1 (replicate 45 9) one
+    × ¬ RewriteCall exampleA 257 (replicate 45 9) one 0 exampleA (45 ∷ [])
+    × ¬ RewriteCall seven 3 two one 3 two one
+unfolding layoutOf writeAnswer writeLeaves bytesOf headerBytes joined beBytes frameCause beAt schemeOf upTo tab causeOf sizeOut startOut horizonOut ruleOut bandOut sumOut premiumOut anyBelow sumTo
+relabel-calls = (
+  record { answer = sym (after-a _); written = refl; lengths = refl; copied = λ z e. absurd (omega arith); counted = λ z e. absurd (omega arith); readAgain = λ z. read-alike },
+  λ w. let e : _≡_ {A = ℕ} 1 2 = ap (λ l. getD l 0 0) (w .written) in omega arith,
+  record {
+    answer = sym (after-label _);
+    written = refl;
+    lengths = refl;
+    copied = λ z e. absurd (omega arith);
+    counted = λ z e. absurd (omega arith);
+    readAgain = λ z. sym read-alike;
+  },
+  record { answer = refl; written = refl; lengths = refl; copied = λ z. absurd (omega arith); counted = λ z. absurd (omega arith); readAgain = λ z. absurd (omega arith) },
+  λ w. omega (arith, w .answer),
+  λ w. omega (arith, w .answer),
+)
+
+-- Ready scheme 1 on base 100 is a record of 209 bytes, the first of them 1, and a label of 192, the first of them 2; there is no ready scheme 4, nor a version 3.
 pub ready-calls :
-    ReadyCall 1 100 (replicate 211 9) one 0 (writeLeaves (readyScheme 1 100) (replicate 211 9)) (209 ∷ [])
-    × ¬ ReadyCall 1 100 (replicate 211 9) one 0 (replicate 211 9) (209 ∷ [])
-    × ¬ ReadyCall 1 100 (replicate 211 9) one 0 (writeLeaves (readyScheme 1 100) (replicate 211 9)) (211 ∷ [])
-    × ReadyCall 4 100 two one 14 two one
-    × ¬ ReadyCall 4 100 two one 0 two one
-unfolding readyAnswer readyScheme schemeOf upTo scale1 writeAnswer writeLeaves bytesOf headerBytes beBytes tab causeOf sizeOut startOut horizonOut ruleOut bandOut sumOut premiumOut anyBelow sumTo
+    ReadyCall 1 100 1 (replicate 211 9) one 0 (writeLeaves (readyScheme 1 100) 1 (replicate 211 9)) (209 ∷ [])
+    × ¬ ReadyCall 1 100 1 (replicate 211 9) one 0 (replicate 211 9) (209 ∷ [])
+    × ¬ ReadyCall 1 100 1 (replicate 211 9) one 0 (writeLeaves (readyScheme 1 100) 1 (replicate 211 9)) (211 ∷ [])
+    × ReadyCall 4 100 1 two one 14 two one
+    × ¬ ReadyCall 4 100 1 two one 0 two one
+    × ReadyCall 1 100 2 (replicate 193 9) one 0 (writeLeaves (readyScheme 1 100) 2 (replicate 193 9)) (192 ∷ [])
+    × ¬ ReadyCall 1 100 2 (replicate 211 9) one 0 (writeLeaves (readyScheme 1 100) 1 (replicate 211 9)) (209 ∷ [])
+    × ReadyCall 4 100 3 two one 1 two one
+    × ¬ ReadyCall 4 100 3 two one 14 two one
+unfolding layoutOf readyAnswer readyScheme schemeOf upTo scale1 writeAnswer writeLeaves bytesOf headerBytes beBytes tab
+    causeOf sizeOut startOut horizonOut ruleOut bandOut sumOut premiumOut anyBelow sumTo
 ready-calls = (
   record { answer = refl; written = refl; lengths = refl },
   λ w. let e : _≡_ {A = ℕ} 9 1 = ap (λ l. getD l 0 0) (w .written) in omega arith,
   λ w. let e : _≡_ {A = ℕ} 211 209 = ap (λ l. getD l 0 0) (w .lengths) in omega arith,
+  record { answer = refl; written = refl; lengths = refl },
+  λ w. omega (arith, w .answer),
+  record { answer = refl; written = refl; lengths = refl },
+  λ w. let e : _≡_ {A = ℕ} 209 192 = ap (λ l. getD l 0 0) (w .lengths) in omega arith,
   record { answer = refl; written = refl; lengths = refl },
   λ w. omega (arith, w .answer),
 )
@@ -153,7 +197,7 @@ refusedOne = 82 ∷ 69 ∷ 70 ∷ 85 ∷ 83 ∷ 69 ∷ 68 ∷ 32 ∷ 49 ∷ 10 �
 pub sheet-calls :
     SheetCall [] (replicate 11 0) one 0 refusedOne (10 ∷ []) × ¬ SheetCall [] (replicate 11 0) one 0 (replicate 11 0) (10 ∷ [])
     × ¬ SheetCall [] (replicate 11 0) one 0 refusedOne (11 ∷ []) × SheetCall [] two one 13 two one × ¬ SheetCall [] two one 1 two one
-unfolding layoutIn sheetAnswer sheetLeaves spaceFor sheetText refusedLine digitsWithin frameCause
+unfolding layoutOf sheetAnswer sheetLeaves spaceFor sheetText refusedLine digitsWithin frameCause
 sheet-calls = (
   record { answer = refl; text = refl; lengths = refl },
   λ w. let e : _≡_ {A = ℕ} 0 82 = ap (λ l. getD l 0 0) (w .text) in omega arith,
@@ -171,7 +215,7 @@ put-a query e = record { answer = sym (after-a _ ∙ ap (λ b. putNumber b two) 
 pub share-calls :
     ShareCall exampleA 1 2 two 0 (920000000 ∷ 990000000 ∷ []) × ¬ ShareCall exampleA 1 2 two 0 (919999997 ∷ 990000000 ∷ [])
     × ShareCall [] 1 2 two 1 two × ¬ ShareCall [] 1 2 two 1 (920000000 ∷ 990000000 ∷ []) × ¬ ShareCall [] 1 2 two 0 two
-unfolding layoutIn frameCause
+unfolding layoutOf frameCause
 share-calls = (
   share-call exampleA 2 two 1 (put-a (λ s. shareAnswer s 1 2) (ap (λ s. shareAnswer s 1 2) scheme-a ∙ document-examples .year2Class1)),
   λ w. forbidden .lowWide (λ z. subst (λ s. ShareKept s 2 (startShare s 0) 919999997 990000000) scheme-a (w .promise refl)),
@@ -185,7 +229,7 @@ pub reached-calls :
     ReachedCall exampleA 1 2 two 0 (960000000 ∷ 990000000 ∷ []) × ¬ ReachedCall exampleA 1 2 two 0 (959999997 ∷ 990000000 ∷ [])
     × ¬ ReachedCall exampleA 1 2 two 0 (920000000 ∷ 990000000 ∷ []) × ReachedCall [] 1 2 two 1 two × ¬ ReachedCall [] 1 2 two 1 (960000000 ∷ 990000000 ∷ [])
     × ¬ ReachedCall [] 1 2 two 0 two
-unfolding layoutIn frameCause
+unfolding layoutOf frameCause
 reached-calls = (
   reached-call exampleA 2 two 1 (put-a (λ s. reachedAnswer s 1 2) (ap (λ s. reachedAnswer s 1 2) scheme-a ∙ answers-reached .year2)),
   λ w. forbidden-chances .lowWide (λ z. subst (λ s. ShareKept s 2 (startReached s 0) 959999997 990000000) scheme-a (w .promise refl)),
@@ -223,7 +267,7 @@ pub share-sheet-calls :
     × ¬ ShareSheetCall exampleA 2 two two 0 (10000000 ∷ 10000000 ∷ []) (80000000 ∷ 80000000 ∷ [])
     × ShareSheetCall [] 1 two three 1 two three
     × ¬ ShareSheetCall [] 1 two two 2 two two
-unfolding layoutIn sheetCause frameCause beAt schemeOf upTo tab causeOf sizeOut startOut horizonOut ruleOut bandOut sumOut premiumOut anyBelow sumTo
+unfolding layoutOf sheetCause frameCause beAt schemeOf upTo tab causeOf sizeOut startOut horizonOut ruleOut bandOut sumOut premiumOut anyBelow sumTo
 share-sheet-calls = (
   record { answer = sym (after-a _); lows = refl; highs = refl; promise = sheet-kept inA 1 two two },
   λ w. let e : _≡_ {A = ℕ} 900000000 800000000 = ap (λ l. getD l 0 0) (sym highs-a ∙ w .lows ∙ lows-a) in omega arith,
@@ -251,7 +295,7 @@ pub step-calls :
     × StepCall false [] thirtyTen 2 one long 1 one long
     × ¬ StepCall false [] thirtyTen 2 one long 1 one fourFifths
     × ¬ StepCall false [] thirtyTen 2 one long 2 one long
-unfolding layoutIn first32 payoffOut stepFigure fillRow capacityBefore onlyIf frameCause beAt schemeOf upTo tab causeOf sizeOut startOut horizonOut ruleOut bandOut sumOut premiumOut anyBelow sumTo
+unfolding layoutOf first32 payoffOut stepFigure fillRow capacityBefore onlyIf frameCause beAt schemeOf upTo tab causeOf sizeOut startOut horizonOut ruleOut bandOut sumOut premiumOut anyBelow sumTo
 step-calls =
     let reached = step-answers .answered .reaches refl in (
       record {
@@ -304,7 +348,7 @@ pub mixing-calls :
     × ¬ MixingCall edgelessRecord one 0 (1 ∷ [])
     × MixingCall [] one 1 one
     × ¬ MixingCall [] one 1 (1 ∷ [])
-unfolding firstCount firstFrom mixesScheme path onlyIf layoutIn frameCause beAt schemeOf upTo tab causeOf sizeOut startOut horizonOut ruleOut bandOut sumOut premiumOut anyBelow sumTo
+unfolding firstCount firstFrom mixesScheme path onlyIf layoutOf frameCause beAt schemeOf upTo tab causeOf sizeOut startOut horizonOut ruleOut bandOut sumOut premiumOut anyBelow sumTo
 mixing-calls =
     let m = mixing-numbers in (
       record { answer = sym (m .0); filled = refl },

@@ -15,7 +15,7 @@ use Rattle.scheme.specs.Stored.{upTo, schemeOf}
 use Rattle.scheme.specs.Examples.{padded}
 use Rattle.scheme.specs.Laws.FirstCause.{second-cause}
 use Rattle.big_endian_spec.specs.Numbers.{beAt}
-use Rattle.record_spec.specs.Layout.{layoutIn, schemeIn}
+use Rattle.record_spec.specs.Layout.{layoutOf, schemeIn}
 use Rattle.record_spec.specs.Read.{frameCause, readCause}
 use Rattle.record_spec.specs.Examples.{exampleA, read-a}
 use Rattle.scheme.specs.declared.RowAnswer.{RowAnswer}
@@ -72,7 +72,7 @@ startsInTwo = padded 13 (1 ∷ 0 ∷ 20 ∷ 1 ∷ 1 ∷ 2 ∷ 0 ∷ [])
 
 -- Example A's record is read, no bytes are cause 1, and a start that is no class is cause 5.
 pub checks : (checkNumber exampleA ≡ 0) × (checkNumber [] ≡ 1) × (checkNumber startsInTwo ≡ 5)
-unfolding layoutIn frameCause beAt schemeOf upTo tab causeOf sizeOut startOut horizonOut ruleOut bandOut sumOut premiumOut anyBelow sumTo
+unfolding layoutOf frameCause beAt schemeOf upTo tab causeOf sizeOut startOut horizonOut ruleOut bandOut sumOut premiumOut anyBelow sumTo
 checks = (read-a, refl, refl)
 
 -- Class 1's share in year 2 of Example A.
@@ -90,12 +90,12 @@ after-a n = second-cause (readCause exampleA) n read-a
 
 -- A record is declined before the buffer for its low and high.
 pub low-and-high-a : (boundsNumber [] shareA three ≡ 1) × (boundsNumber exampleA shareA two ≡ 0)
-unfolding layoutIn putNumber frameCause
+unfolding layoutOf putNumber frameCause
 low-and-high-a = (refl, after-a _)
 
 -- A share sheet takes two buffers of s numbers; a record is declined before the year.
 pub share-sheets : (sharesNumber [] 3 two three ≡ 1) × (sharesNumber exampleA 2 two two ≡ 0) × (sharesNumber exampleA 2 two three ≡ 13) × (sharesNumber exampleA 2 three two ≡ 13)
-unfolding layoutIn sheetCause frameCause beAt schemeOf upTo tab causeOf sizeOut startOut horizonOut ruleOut bandOut sumOut premiumOut anyBelow sumTo
+unfolding layoutOf sheetCause frameCause beAt schemeOf upTo tab causeOf sizeOut startOut horizonOut ruleOut bandOut sumOut premiumOut anyBelow sumTo
 share-sheets = (refl, after-a _, after-a _, after-a _)
 
 -- Two chambers in class 1 and one in class 2: in a buffer of 32 counts, and in one of 2.
@@ -116,14 +116,14 @@ pub pooled-numbers :
     (pooledNumber [] shortA 3 two three ≡ 1) × (pooledNumber exampleA (1000001 ∷ []) 3 two three ≡ 12) × (pooledNumber exampleA (1000001 ∷ []) 2 two three ≡ 18)
     × (pooledNumber exampleA (replicate 31 0) 2 two three ≡ 19) × (pooledNumber exampleA shortA 2 two two ≡ 13) × (pooledNumber exampleA lentA 2 three two ≡ 13)
     × (pooledNumber exampleA lentA 2 two two ≡ 0)
-unfolding layoutIn first32 pooledSheetCause countOut noChamber frameCause beAt schemeOf upTo tab causeOf sizeOut startOut horizonOut ruleOut bandOut sumOut premiumOut anyBelow sumTo
+unfolding layoutOf first32 pooledSheetCause countOut noChamber frameCause beAt schemeOf upTo tab causeOf sizeOut startOut horizonOut ruleOut bandOut sumOut premiumOut anyBelow sumTo
 pooled-numbers = (refl, after-a _, after-a _, after-a _, after-a _, after-a _, after-a _)
 
 -- The sheet of no bytes, "REFUSED 1", takes 11 bytes of space and a buffer of one number for its length, 10 with the end of the line.
 pub sheets :
     (sheetNumber [] (replicate 11 0) one ≡ 0) × (sheetNumber [] (replicate 10 0) one ≡ 13) × (sheetNumber [] (replicate 11 0) two ≡ 13)
     × (sheetLength [] (replicate 11 0) ≡ 10 ∷ [])
-unfolding layoutIn sheetAnswer spaceFor sheetText refusedLine digitsWithin frameCause
+unfolding layoutOf sheetAnswer spaceFor sheetText refusedLine digitsWithin frameCause
 sheets = (refl, refl, refl, refl)
 
 -- A row's answer by its number.
@@ -139,12 +139,12 @@ row-buffers = (refl, refl, refl, refl)
 pub row-a :
     (rowNumber [] 3 long long ≡ 1) × (rowNumber exampleA 2 long longer ≡ 13) × (rowNumber exampleA 2 longer long ≡ 13)
     × (rowOfRecord exampleA 2 ≡ answerOf (800000000 ∷ 100000000 ∷ []) (900000000 ∷ 200000000 ∷ []))
-unfolding layoutIn rowAnswered onlyIf frameCause beAt schemeOf upTo tab causeOf sizeOut startOut horizonOut ruleOut bandOut sumOut premiumOut anyBelow sumTo
+unfolding layoutOf rowAnswered onlyIf frameCause beAt schemeOf upTo tab causeOf sizeOut startOut horizonOut ruleOut bandOut sumOut premiumOut anyBelow sumTo
 row-a = (refl, after-a _, after-a _, refl)
 
 -- A rule row takes m bytes; a class that there is not is declined before the buffer.
 pub rule-row-a : (ruleRowNumber exampleA 2 three ≡ 0) × (ruleRowNumber exampleA 3 two ≡ 11)
-unfolding layoutIn frameCause beAt schemeOf upTo tab causeOf sizeOut startOut horizonOut ruleOut bandOut sumOut premiumOut anyBelow sumTo
+unfolding layoutOf frameCause beAt schemeOf upTo tab causeOf sizeOut startOut horizonOut ruleOut bandOut sumOut premiumOut anyBelow sumTo
 rule-row-a = (refl, refl)
 
 -- An empty part is cause 11, a part of two bytes fills a buffer of two, and one of three is cause 13.
@@ -155,26 +155,41 @@ parts = (refl, refl, refl)
 pub bands-a :
     (bandsNumber [] three two ≡ 1) × (bandsNumber exampleA three three ≡ 0) × (bandsNumber exampleA three two ≡ 13) × (bandsNumber exampleA two three ≡ 13)
     × (lowerBands inA ≡ 800000000 ∷ 100000000 ∷ 0 ∷ []) × (upperBands inA ≡ 900000000 ∷ 200000000 ∷ 50000000 ∷ [])
-unfolding layoutIn frameCause beAt schemeOf upTo tab
+unfolding layoutOf frameCause beAt schemeOf upTo tab
 bands-a = (refl, after-a _, after-a _, after-a _, refl, refl)
+
+-- Seven bytes that say version 1, with no class.
+abbrev pub seven : List ℕ
+seven = 1 ∷ 0 ∷ 7 ∷ 0 ∷ 1 ∷ 1 ∷ 1 ∷ []
 
 -- Example A's record takes 45 bytes and a buffer of one number for its length; what is read is declined before the buffers.
 pub rewriting-a :
-    (rewriteNumber [] (replicate 45 0) two ≡ 1) × (rewriteNumber exampleA (replicate 45 0) one ≡ 0) × (rewriteNumber exampleA (replicate 45 0) two ≡ 13)
-    × (rewriteNumber exampleA (replicate 44 0) one ≡ 13)
-    × (lengthAlone inA (replicate 45 0) ≡ 45 ∷ [])
-unfolding layoutIn writeAnswer frameCause beAt schemeOf upTo tab causeOf sizeOut startOut horizonOut ruleOut bandOut sumOut premiumOut anyBelow sumTo
+    (rewriteNumber [] 1 (replicate 45 0) two ≡ 1) × (rewriteNumber exampleA 1 (replicate 45 0) one ≡ 0) × (rewriteNumber exampleA 1 (replicate 45 0) two ≡ 13)
+    × (rewriteNumber exampleA 1 (replicate 44 0) one ≡ 13)
+    × (lengthAlone inA 1 (replicate 45 0) ≡ 45 ∷ [])
+unfolding layoutOf writeAnswer frameCause beAt schemeOf upTo tab causeOf sizeOut startOut horizonOut ruleOut bandOut sumOut premiumOut anyBelow sumTo
 rewriting-a = (refl, after-a _, after-a _, after-a _, refl)
 
--- There is no ready scheme 4, and a base above 2,500,000 is declined; both before the buffers.
-pub ready-schemes : (readyNumber 4 2500001 [] two ≡ 14) × (readyNumber 3 2500001 [] two ≡ 15) × (readyNumber 1 2500001 [] two ≡ 15) × (readyNumber 2500001 1 [] two ≡ 14)
-unfolding readyAnswer
-ready-schemes = (refl, refl, refl, refl)
+-- As a label it takes 44; another version is cause 1 before all else: seven bytes of no class alone have cause 3.
+pub relabelling-a :
+    (rewriteNumber exampleA 2 (replicate 44 0) one ≡ 0) × (rewriteNumber exampleA 2 (replicate 43 0) one ≡ 13) × (lengthAlone inA 2 (replicate 44 0) ≡ 44 ∷ [])
+    × (rewriteNumber seven 2 [] two ≡ 3) × (rewriteNumber seven 3 [] two ≡ 1) × (rewriteNumber exampleA 257 (replicate 45 0) one ≡ 1)
+unfolding layoutOf writeAnswer frameCause beAt schemeOf upTo tab causeOf sizeOut startOut horizonOut ruleOut bandOut sumOut premiumOut anyBelow sumTo
+relabelling-a = (after-a _, after-a _, refl, refl, refl, refl)
 
--- Ready scheme 1 takes 209 bytes.
-pub ready-space : (readyNumber 1 100 (replicate 209 0) one ≡ 0) × (readyNumber 1 100 (replicate 208 0) one ≡ 13)
-unfolding layoutIn readyAnswer readyScheme schemeOf upTo scale1 writeAnswer tab causeOf sizeOut startOut horizonOut ruleOut bandOut sumOut premiumOut anyBelow sumTo
-ready-space = (refl, refl)
+-- There is no ready scheme 4, and a base above 2,500,000 is declined; both before the buffers, and another version before both.
+pub ready-schemes :
+    (readyNumber 4 2500001 1 [] two ≡ 14) × (readyNumber 3 2500001 1 [] two ≡ 15) × (readyNumber 1 2500001 2 [] two ≡ 15) × (readyNumber 2500001 1 2 [] two ≡ 14)
+    × (readyNumber 4 2500001 3 [] two ≡ 1) × (readyNumber 1 2500001 258 [] two ≡ 1)
+unfolding readyAnswer
+ready-schemes = (refl, refl, refl, refl, refl, refl)
+
+-- Ready scheme 1 takes 209 bytes, and as a label 192.
+pub ready-space :
+    (readyNumber 1 100 1 (replicate 209 0) one ≡ 0) × (readyNumber 1 100 1 (replicate 208 0) one ≡ 13) × (readyNumber 1 100 2 (replicate 192 0) one ≡ 0)
+    × (readyNumber 1 100 2 (replicate 191 0) one ≡ 13)
+unfolding layoutOf readyAnswer readyScheme schemeOf upTo scale1 writeAnswer tab causeOf sizeOut startOut horizonOut ruleOut bandOut sumOut premiumOut anyBelow sumTo
+ready-space = (refl, refl, refl, refl)
 
 -- A step takes a payoff of 32 numbers, a buffer of one for the figure and one of 32 for the row.
 pub step-buffers : (stepBuffers long one long ≡ 0) × (stepBuffers two one long ≡ 13) × (stepBuffers long two long ≡ 13) × (stepBuffers long one two ≡ 13)
@@ -191,12 +206,12 @@ payoffs = (refl, refl, refl)
 
 -- A payoff not of 32 numbers is declined after the class, and a record before the class.
 pub step-a : (stepNumber [] thirtyTen 3 one long ≡ 1) × (stepNumber exampleA thirtyTen 3 one long ≡ 11) × (stepNumber exampleA thirtyTen 2 one long ≡ 13)
-unfolding layoutIn first32 payoffOut frameCause beAt schemeOf upTo tab causeOf sizeOut startOut horizonOut ruleOut bandOut sumOut premiumOut anyBelow sumTo
+unfolding layoutOf first32 payoffOut frameCause beAt schemeOf upTo tab causeOf sizeOut startOut horizonOut ruleOut bandOut sumOut premiumOut anyBelow sumTo
 step-a = (refl, after-a _, after-a _)
 
 -- The low figure of Example A's class 2, and the high one.
 pub figures-a : (figureOf false inA thirtyTen 2 ≡ 26 ∷ []) × (figureOf true inA thirtyTen 2 ≡ 28 ∷ [])
-unfolding layoutIn first32 stepFigure fillRow capacityBefore sumTo onlyIf beAt schemeOf upTo tab
+unfolding layoutOf first32 stepFigure fillRow capacityBefore sumTo onlyIf beAt schemeOf upTo tab
 figures-a = (refl, refl)
 
 -- A count takes a buffer of one number, after its own cause.
@@ -217,5 +232,5 @@ edgelessRecord =
 pub mixing-numbers :
     (mixingCallNumber oneClassRecord one ≡ 0) × (mixingCallNumber oneClassRecord two ≡ 13) × (mixingCallNumber edgelessRecord one ≡ 16)
     × (mixingCallNumber edgelessRecord two ≡ 16) × (mixingCallNumber [] two ≡ 1) × (mixingCallNumber startsInTwo one ≡ 5)
-unfolding firstCount firstFrom mixesScheme path onlyIf layoutIn frameCause beAt schemeOf upTo tab causeOf sizeOut startOut horizonOut ruleOut bandOut sumOut premiumOut anyBelow sumTo
+unfolding firstCount firstFrom mixesScheme path onlyIf layoutOf frameCause beAt schemeOf upTo tab causeOf sizeOut startOut horizonOut ruleOut bandOut sumOut premiumOut anyBelow sumTo
 mixing-numbers = (refl, refl, refl, refl, refl, refl)

@@ -11,7 +11,7 @@ use Rattle.scheme.specs.Cause.{sizeOut, startOut, horizonOut, ruleOut, bandOut,
 use Rattle.scheme.specs.Stored.{upTo, schemeOf}
 use Rattle.scheme.specs.RowAnswer.{rowAnswered}
 use Rattle.big_endian_spec.specs.Numbers.{beAt, beBytes}
-use Rattle.record_spec.specs.Layout.{layoutIn}
+use Rattle.record_spec.specs.Layout.{layoutOf}
 use Rattle.record_spec.specs.Joined.{joined}
 use Rattle.record_spec.specs.Read.{frameCause}
 use Rattle.record_spec.specs.Bytes.{headerBytes, bytesOf}
@@ -46,7 +46,7 @@ changedRow = replicate 32 8
 pub rows-lent :
     ¬ RowCall exampleA 2 three long 0 long long × ¬ RowCall exampleA 2 long three 0 long long
     × ¬ RowCall [] 2 long long 1 changedRow long × ¬ RowCall [] 2 long long 1 long changedRow
-unfolding layoutIn rowAnswered onlyIf frameCause beAt schemeOf upTo tab causeOf sizeOut startOut horizonOut ruleOut bandOut sumOut premiumOut anyBelow sumTo
+unfolding layoutOf rowAnswered onlyIf frameCause beAt schemeOf upTo tab causeOf sizeOut startOut horizonOut ruleOut bandOut sumOut premiumOut anyBelow sumTo
 rows-lent = (
   λ w. let e : _≡_ {A = ℕ} 0 13 = w .answer ∙ after-a _ in omega arith,
   λ w. let e : _≡_ {A = ℕ} 0 13 = w .answer ∙ after-a _ in omega arith,
@@ -56,7 +56,7 @@ rows-lent = (
 
 -- A rule row, and the bands.
 pub rules-lent : ¬ RuleRowCall exampleA 2 two 0 three × ¬ RuleRowCall exampleA 3 two 11 others
-unfolding layoutIn frameCause beAt schemeOf upTo tab causeOf sizeOut startOut horizonOut ruleOut bandOut sumOut premiumOut anyBelow sumTo
+unfolding layoutOf frameCause beAt schemeOf upTo tab causeOf sizeOut startOut horizonOut ruleOut bandOut sumOut premiumOut anyBelow sumTo
 rules-lent = (
   λ w. omega (arith, w .answer),
   λ w. let e : _≡_ {A = ℕ} 8 7 = ap (λ l. getD l 0 0) (w .rules) in omega arith,
@@ -65,7 +65,7 @@ rules-lent = (
 pub bands-lent :
     ¬ BandsCall exampleA two three 0 three three × ¬ BandsCall exampleA three two 0 three three
     × ¬ BandsCall [] three three 1 changed three × ¬ BandsCall [] three three 1 three changed
-unfolding layoutIn frameCause beAt schemeOf upTo tab
+unfolding layoutOf frameCause beAt schemeOf upTo tab
 bands-lent = (
   λ w. let e : _≡_ {A = ℕ} 0 13 = w .answer ∙ after-a _ in omega arith,
   λ w. let e : _≡_ {A = ℕ} 0 13 = w .answer ∙ after-a _ in omega arith,
@@ -75,9 +75,9 @@ bands-lent = (
 
 -- A record written again, and a ready scheme's: the bytes past the record are those that were lent.
 pub rewrites-lent :
-    ¬ RewriteCall exampleA two one 0 exampleA (45 ∷ []) × ¬ RewriteCall exampleA (replicate 45 9) two 0 exampleA (45 ∷ [])
-    × ¬ RewriteCall exampleA (replicate 46 9) one 0 (exampleA ++ other) (45 ∷ [])
-unfolding layoutIn writeAnswer writeLeaves bytesOf headerBytes joined beBytes frameCause beAt schemeOf upTo tab causeOf sizeOut startOut horizonOut ruleOut bandOut sumOut premiumOut anyBelow sumTo
+    ¬ RewriteCall exampleA 1 two one 0 exampleA (45 ∷ []) × ¬ RewriteCall exampleA 1 (replicate 45 9) two 0 exampleA (45 ∷ [])
+    × ¬ RewriteCall exampleA 1 (replicate 46 9) one 0 (exampleA ++ other) (45 ∷ [])
+unfolding layoutOf writeAnswer writeLeaves bytesOf headerBytes joined beBytes frameCause beAt schemeOf upTo tab causeOf sizeOut startOut horizonOut ruleOut bandOut sumOut premiumOut anyBelow sumTo
 rewrites-lent = (
   λ w. let e : _≡_ {A = ℕ} 0 13 = w .answer ∙ after-a _ in omega arith,
   λ w. let e : _≡_ {A = ℕ} 0 13 = w .answer ∙ after-a _ in omega arith,
@@ -85,8 +85,9 @@ rewrites-lent = (
 )
 
 pub readies-lent :
-    ¬ ReadyCall 1 100 (replicate 209 9) two 0 (replicate 209 9) (209 ∷ []) × ¬ ReadyCall 4 100 two one 14 others one × ¬ ReadyCall 4 100 two one 14 two other
-unfolding readyAnswer readyScheme schemeOf upTo scale1 writeAnswer writeLeaves bytesOf headerBytes beBytes tab causeOf sizeOut startOut horizonOut ruleOut bandOut sumOut premiumOut anyBelow sumTo
+    ¬ ReadyCall 1 100 1 (replicate 209 9) two 0 (replicate 209 9) (209 ∷ []) × ¬ ReadyCall 4 100 1 two one 14 others one × ¬ ReadyCall 4 100 1 two one 14 two other
+unfolding layoutOf readyAnswer readyScheme schemeOf upTo scale1 writeAnswer writeLeaves bytesOf headerBytes beBytes tab
+    causeOf sizeOut startOut horizonOut ruleOut bandOut sumOut premiumOut anyBelow sumTo
 readies-lent = (
   λ w. let e : _≡_ {A = ℕ} 0 13 = w .answer in omega arith,
   λ w. let e : _≡_ {A = ℕ} 8 7 = ap (λ l. getD l 0 0) (w .written) in omega arith,
@@ -100,7 +101,7 @@ refusedThen last = 82 ∷ 69 ∷ 70 ∷ 85 ∷ 83 ∷ 69 ∷ 68 ∷ 32 ∷ 49 �
 pub sheets-lent :
     ¬ SheetCall [] two one 0 (refusedThen 7) (10 ∷ []) × ¬ SheetCall [] (replicate 11 7) two 0 (refusedThen 7) (10 ∷ [])
     × ¬ SheetCall [] (replicate 11 7) one 0 (refusedThen 8) (10 ∷ []) × ¬ SheetCall [] two one 13 others one × ¬ SheetCall [] two one 13 two other
-unfolding layoutIn sheetAnswer sheetLeaves spaceFor sheetText refusedLine digitsWithin frameCause
+unfolding layoutOf sheetAnswer sheetLeaves spaceFor sheetText refusedLine digitsWithin frameCause
 sheets-lent = (
   λ w. omega (arith, w .answer),
   λ w. omega (arith, w .answer),
@@ -110,7 +111,7 @@ sheets-lent = (
 )
 
 pub share-sheets-lent : ¬ ShareSheetCall [] 1 two two 1 others two × ¬ ShareSheetCall [] 1 two two 1 two others
-unfolding layoutIn frameCause
+unfolding layoutOf frameCause
 share-sheets-lent = (
   λ w. let e : _≡_ {A = ℕ} 8 7 = ap (λ l. getD l 0 0) (w .lows) in omega arith,
   λ w. let e : _≡_ {A = ℕ} 8 7 = ap (λ l. getD l 0 0) (w .highs) in omega arith,

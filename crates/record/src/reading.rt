@@ -7,17 +7,20 @@ ghost use Rattle.scheme.specs.Tables.{tab};
 ghost use Rattle.big_endian_spec.specs.Numbers.{beAt};
 ghost use Rattle.scheme.specs.Stored.{upTo, rulesUpTo};
 ghost use Rattle.scheme.specs.FirstCause.{_when_};
-ghost use Rattle.record_spec.specs.Layout.{HEADER, schemeIn};
-ghost use Rattle.record_spec.specs.Read.{versionOut, fieldOut, lengthOut, frameCause};
+ghost use Rattle.record_spec.specs.Layout.{HEADER, layoutIn, headerLength, columnsIn, schemeIn};
+ghost use Rattle.record_spec.specs.Read.{versionOut, fieldOut, lengthOut, furtherOut, frameCause};
 ghost use Rattle.record_spec.specs.Frame.{Framed};
 use super::FIELD_OUT;
+use super::LAST_COLUMN_OUT;
 use super::LENGTH_OUT;
 use super::VERSION_OUT;
+use super::header_length;
 use super::length_of;
+use super::other_version;
+use super::premium_width;
 use record_spec::BAND_WIDTH;
 use record_spec::END_WIDTH;
 use record_spec::HEADER;
-use record_spec::PREMIUM_WIDTH;
 use scheme::Scheme;
 use scheme::or_else;
 
@@ -28,7 +31,7 @@ fn version_cause(bytes: &[u8]) -> u8
     if bytes.len() == 0 {
         return VERSION_OUT;
     }
-    if bytes[0] != 1 {
+    if other_version(bytes[0] as u64) {
         return VERSION_OUT;
     }
     0
@@ -52,13 +55,27 @@ fn length_cause(bytes: &[u8]) -> u8
     requires { ⌜ HEADER ≤ length (now bytes) ⌝ }
     ensures { λ r. ⌜ r ≡ 4 when lengthOut (now (bytes .entry)) ⌝ }
 {
-    if bytes.len() != length_of(bytes[3], bytes[4]) {
+    if bytes.len() != length_of(bytes[0] as u64, bytes[3], bytes[4]) {
         return LENGTH_OUT;
     }
     0
 }
 
-// The first of the causes 1 to 4, or 0.
+// Cause 17, or 0.
+fn last_column_cause(bytes: &[u8]) -> u8
+    requires { ⌜ (headerLength (layoutIn (now bytes)) ≤ length (now bytes)) × (1 ≤ columnsIn (now bytes)) ⌝ }
+    ensures { λ r. ⌜ r ≡ 17 when furtherOut (now (bytes .entry)) ⌝ }
+{
+    if bytes[0] != 2 {
+        return 0;
+    }
+    if bytes[7] != bytes[4] - 1 {
+        return LAST_COLUMN_OUT;
+    }
+    0
+}
+
+// The first of the causes 1 to 4 and 17, or 0.
 pub fn frame(bytes: &[u8]) -> u8
     ensures { λ r. ⌜ r ≡ frameCause (now (bytes .entry)) ⌝ }
 {
@@ -72,7 +89,11 @@ pub fn frame(bytes: &[u8]) -> u8
     let columns = bytes[4];
     let sizes = scheme::sizes_cause(classes, columns);
     let length = length_cause(bytes);
-    or_else(sizes, length)
+    let shape = or_else(sizes, length);
+    if shape != 0 {
+        return shape;
+    }
+    last_column_cause(bytes)
 }
 
 // The rules of s classes and m columns, from place `from` on.
@@ -95,7 +116,7 @@ fn rules(bytes: &[u8], from: usize, s: usize, m: usize) -> [u8; 256]
 
 // Fills the first n places of a slice of 0 with numbers of `width` bytes, one every `stride` bytes from place `from` on.
 fn read_numbers(bytes: &[u8], from: usize, width: usize, stride: usize, out: &mut [u32], n: usize)
-    requires { ⌜ (from + n * stride ≤ length (now bytes)) × (width ≤ 4) × (width ≤ stride) × (n ≤ length (now out)) × (now out ≡ replicate (length (now out)) 0) ⌝ }
+    requires { ⌜ (from + n * stride + width ≤ length (now bytes) + stride) × (width ≤ 4) × (stride ≤ 8) × (n ≤ length (now out)) × (now out ≡ replicate (length (now out)) 0) ⌝ }
     ensures { λ _. ⌜ now (out .exit) ≡ tab (length (now (out .entry))) (upTo n (λ k. beAt width (now (bytes .entry)) (from + k * stride))) ⌝ }
 {
     let mut k: usize = 0;
@@ -107,7 +128,7 @@ fn read_numbers(bytes: &[u8], from: usize, width: usize, stride: usize, out: &mu
     }
 }
 
-// The scheme in bytes that none of the causes 1 to 4 declines.
+// The scheme in bytes that none of the causes 1 to 4 and 17 declines.
 pub fn parsed(bytes: &[u8]) -> Scheme
     requires { ⌜ Framed (now bytes) ⌝ }
     ensures { λ r. ⌜ r ≡ schemeIn (now (bytes .entry)) ⌝ }
@@ -118,8 +139,9 @@ pub fn parsed(bytes: &[u8]) -> Scheme
     let horizon = bytes[6];
     let s = classes as usize;
     let m = columns as usize;
-    let header = HEADER;
-    let width = PREMIUM_WIDTH;
+    let version = bytes[0] as u64;
+    let header = header_length(version);
+    let width = premium_width(version);
     let bands = header + s * m;
     let money = bands + m * BAND_WIDTH;
     let rules = rules(bytes, header, s, m);

@@ -6,7 +6,6 @@ ghost use Rattle.record_spec.specs.Reader.{stored, handedOut, bandAt, BandAnswe
 use record_spec::BAND_WIDTH;
 pub use record_spec::Band;
 use record_spec::END_WIDTH;
-use record_spec::HEADER;
 
 // The first cause of a rule row, or 0.
 fn rule_row_cause(bytes: &[u8], class: u64) -> u8
@@ -29,7 +28,7 @@ pub fn rule_row(bytes: &[u8], class: u64) -> &[u8]
     if rule_row_cause(bytes, class) != 0 {
         return &bytes[0..0];
     }
-    let header = HEADER;
+    let header = record::header_length(bytes[0] as u64);
     let columns = bytes[4] as usize;
     let start = header + ((class - 1) as usize) * columns;
     &bytes[start..start + columns]
@@ -76,7 +75,7 @@ pub fn band_at(bytes: &[u8], column: usize) -> Band
     if !stored(bytes, column) {
         return Band::NoMore;
     }
-    let header = HEADER;
+    let header = record::header_length(bytes[0] as u64);
     let classes = bytes[3] as usize;
     let columns = bytes[4] as usize;
     let place = header + classes * columns + column * BAND_WIDTH;

@@ -1,4 +1,4 @@
--- The record of a scheme (document 01, "Record"): its header, rules, bands and premiums one after another, over any layout.
+-- The record of a scheme (document 01, "Record", and document 02, item 5): its header, rules, bands and premiums one after another, over any layout.
 use Prim.Native.Nat.{ℕ}
 use mathlib.Core.List.{List, [], _∷_, _++_}
 use Rattle.scheme.specs.declared.Scheme.{Scheme}

@@ -1,9 +1,9 @@
 -- Example A of document 01 ("Sheet program and examples") and records with a cause, computed by the definitions.
-use Prim.Native.Nat.{ℕ, _-_}
+use Prim.Native.Nat.{ℕ}
 use mathlib.Core.Path.{_≡_, refl}
 use mathlib.Core.List.{List, [], _∷_, _++_}
 use native.Mathlib.Omega.{arith}
-use lib.ListN.{take, drop, replicate}
+use lib.ListN.{replicate}
 use Rattle.setchain.specs.Sums.{sumTo}
 use Rattle.setchain.specs.Tests.{anyBelow}
 use Rattle.scheme.specs.Tables.{tab}
@@ -16,7 +16,7 @@ use Rattle.record_spec.specs.declared.Band.the-variants.{Ends, NoMore}
 use Rattle.record_spec.specs.declared.WriteAnswer.the-variants.{Written, Declined}
 use Rattle.big_endian_spec.specs.Numbers.{beAt}
 use Rattle.record_spec.specs.Joined.{joined}
-use Rattle.record_spec.specs.Layout.{Layout, version1, layoutIn, lengthOf, schemeFrom, schemeIn}
+use Rattle.record_spec.specs.Layout.{version1, layoutOf, lengthOf, schemeIn}
 use Rattle.record_spec.specs.Read.{frameCause, readCause, readAnswer}
 use Rattle.record_spec.specs.RuleRow.{ruleRowCause, ruleRow}
 use Rattle.record_spec.specs.Reader.{bandAt, bandNumber, bandEnds, openPart, answers, storedBands, handedOut, endsOf}
@@ -38,12 +38,12 @@ pub lengths : (lengthOf version1 2 3 ≡ 45) × (lengthOf version1 32 8 ≡ 455)
 lengths = (refl, refl)
 
 pub read-a : readCause exampleA ≡ 0
-unfolding layoutIn frameCause beAt schemeOf upTo tab causeOf sizeOut startOut horizonOut ruleOut bandOut sumOut premiumOut anyBelow sumTo
+unfolding layoutOf frameCause beAt schemeOf upTo tab causeOf sizeOut startOut horizonOut ruleOut bandOut sumOut premiumOut anyBelow sumTo
 read-a = refl
 
 -- The scheme in it is the scheme of example A, and the record of that scheme is the record itself.
 pub scheme-a : schemeIn exampleA ≡ schemeA
-unfolding layoutIn schemeOf upTo tab beAt
+unfolding layoutOf schemeOf upTo tab beAt
 scheme-a = refl
 
 pub bytes-a : bytesOf version1 schemeA ≡ exampleA
@@ -62,24 +62,10 @@ pub bytes-single : bytesOf version1 (single 1 0 1000000000 10) ≡ small 1 20 1 
 unfolding bytesOf headerBytes joined beBytes tab
 bytes-single = refl
 
--- Another layout: a header with one byte more, the number of the last column, and premiums of 3 bytes.
-abbrev other : Layout
-other = record { version = 9; further = 1; holds = λ m k. m - 1; width = 3 }
-
--- Example A by it: its length, its bytes, and the scheme that stands in them.
-pub record OtherLayout : Type 0 where
-  pub lengths : lengthOf other 2 3 ≡ 44
-  pub bytes : bytesOf other schemeA ≡ 9 ∷ 0 ∷ 44 ∷ 2 ∷ 3 ∷ 2 ∷ 2 ∷ 2 ∷ take 30 (drop 7 exampleA) ++ (0 ∷ 39 ∷ 16 ∷ 0 ∷ 58 ∷ 152 ∷ [])
-  pub scheme : schemeFrom other (bytesOf other schemeA) 2 3 ≡ schemeA
-
-pub other-layout : OtherLayout
-unfolding bytesOf headerBytes joined beBytes tab schemeOf upTo beAt
-other-layout = record { lengths = refl; bytes = refl; scheme = refl }
-
 -- Several causes at once: "the first that applies is returned".
 pub record CausesInOrder : Type 0 where
   pub noByte : readCause [] ≡ 1
-  pub version : readCause (small 2 21 0 0 101) ≡ 1
+  pub version : readCause (small 3 21 0 0 101) ≡ 1
   pub field : readCause (small 1 21 0 0 101) ≡ 2
   pub sizes : readCause (small 1 20 0 0 101) ≡ 3
   pub length : readCause (small 1 20 2 0 101) ≡ 4
@@ -88,33 +74,33 @@ pub record CausesInOrder : Type 0 where
   pub none : readCause (small 1 20 1 1 100) ≡ 0
 
 pub causes-in-order : CausesInOrder
-unfolding layoutIn frameCause beAt schemeOf upTo tab causeOf sizeOut startOut horizonOut ruleOut bandOut sumOut premiumOut anyBelow sumTo
+unfolding layoutOf frameCause beAt schemeOf upTo tab causeOf sizeOut startOut horizonOut ruleOut bandOut sumOut premiumOut anyBelow sumTo
 causes-in-order =
     record { noByte = refl; version = refl; field = refl; sizes = refl; length = refl; start = refl; horizon = refl; none = refl }
 
 -- What reading answers: example A's scheme, and a cause beside a scheme of 0.
 pub answers-read : (readAnswer exampleA ≡ record { number = 0; scheme = schemeA }) × (readAnswer (small 1 20 1 1 101) ≡ record { number = 6; scheme = noScheme })
-unfolding layoutIn readAnswer noScheme frameCause beAt schemeOf upTo tab causeOf sizeOut startOut horizonOut ruleOut bandOut sumOut premiumOut anyBelow sumTo
+unfolding layoutOf readAnswer noScheme frameCause beAt schemeOf upTo tab causeOf sizeOut startOut horizonOut ruleOut bandOut sumOut premiumOut anyBelow sumTo
 answers-read = (refl, refl)
 
 -- The rule row of class 2, and an empty part for class 3 and for a declined record.
 pub rows-a : (ruleRow exampleA 2 ≡ 1 ∷ 2 ∷ 2 ∷ []) × (ruleRow exampleA 3 ≡ []) × (ruleRow (small 1 20 1 1 101) 1 ≡ [])
-unfolding layoutIn ruleRow frameCause beAt schemeOf upTo tab causeOf sizeOut startOut horizonOut ruleOut bandOut sumOut premiumOut anyBelow sumTo
+unfolding layoutOf ruleRow frameCause beAt schemeOf upTo tab causeOf sizeOut startOut horizonOut ruleOut bandOut sumOut premiumOut anyBelow sumTo
 rows-a = (refl, refl, refl)
 
 -- The cause behind an empty part: "where it is accepted the cause was 11".
 pub row-causes : (ruleRowCause exampleA 2 ≡ 0) × (ruleRowCause exampleA 3 ≡ 11) × (ruleRowCause (small 1 20 1 1 101) 3 ≡ 6)
-unfolding layoutIn frameCause beAt schemeOf upTo tab causeOf sizeOut startOut horizonOut ruleOut bandOut sumOut premiumOut anyBelow sumTo
+unfolding layoutOf frameCause beAt schemeOf upTo tab causeOf sizeOut startOut horizonOut ruleOut bandOut sumOut premiumOut anyBelow sumTo
 row-causes = (refl, refl, refl)
 
 -- Its bands in order.
 pub stored-a : storedBands exampleA ≡ Ends 800000000 900000000 ∷ Ends 100000000 200000000 ∷ Ends 0 50000000 ∷ []
-unfolding layoutIn tab beAt
+unfolding layoutOf tab beAt
 stored-a = refl
 
 -- The first 5 answers of a reader over it.
 pub bands-a : answers (openPart exampleA) 5 0 ≡ Ends 800000000 900000000 ∷ Ends 100000000 200000000 ∷ Ends 0 50000000 ∷ NoMore ∷ NoMore ∷ []
-unfolding layoutIn answers bandAt openPart frameCause beAt schemeOf upTo tab causeOf sizeOut startOut horizonOut ruleOut bandOut sumOut premiumOut anyBelow sumTo
+unfolding layoutOf answers bandAt openPart frameCause beAt schemeOf upTo tab causeOf sizeOut startOut horizonOut ruleOut bandOut sumOut premiumOut anyBelow sumTo
 bands-a = refl
 
 -- The number and the values of its first answer, and past its last band.
@@ -122,24 +108,24 @@ pub first-a :
     (handedOut (bandAt exampleA 0) ≡ 1) × (endsOf (bandAt exampleA 0) ≡ 800000000 ∷ 900000000 ∷ [])
     × (handedOut (bandAt exampleA 3) ≡ 0) × (endsOf (bandAt exampleA 3) ≡ [])
     × (bandNumber exampleA 0 ≡ 1) × (bandEnds exampleA 0 ≡ 800000000 ∷ 900000000 ∷ []) × (bandNumber exampleA 3 ≡ 0) × (bandEnds exampleA 3 ≡ [])
-unfolding layoutIn bandAt frameCause beAt schemeOf upTo tab causeOf sizeOut startOut horizonOut ruleOut bandOut sumOut premiumOut anyBelow sumTo
+unfolding layoutOf bandAt frameCause beAt schemeOf upTo tab causeOf sizeOut startOut horizonOut ruleOut bandOut sumOut premiumOut anyBelow sumTo
 first-a = (refl, refl, refl, refl, refl, refl, refl, refl)
 
 -- A reader over a declined record: an empty part, and no more.
 pub none-declined : (openPart (small 1 20 1 1 101) ≡ []) × (bandAt (small 1 20 1 1 101) 0 ≡ NoMore)
-unfolding layoutIn openPart bandAt frameCause beAt schemeOf upTo tab causeOf sizeOut startOut horizonOut ruleOut bandOut sumOut premiumOut anyBelow sumTo
+unfolding layoutOf openPart bandAt frameCause beAt schemeOf upTo tab causeOf sizeOut startOut horizonOut ruleOut bandOut sumOut premiumOut anyBelow sumTo
 none-declined = (refl, refl)
 
--- Example A's scheme written into 50 bytes and into 44, and a scheme with cause 7: the length or the cause, and what the slice holds.
+-- Example A's scheme written in version 1 into 50 bytes and into 44, and a scheme with cause 7: the length or the cause, and what the slice holds.
 pub record Writings : Type 0 where
-  pub length : writeAnswer schemeA (replicate 50 9) ≡ Written 45
-  pub written : writeLeaves schemeA (replicate 50 9) ≡ exampleA ++ replicate 5 9
-  pub short : writeAnswer schemeA (replicate 44 9) ≡ Declined 13
-  pub left : writeLeaves schemeA (replicate 44 9) ≡ replicate 44 9
-  pub cause : writeAnswer (single 2 0 1000000000 10) (replicate 19 9) ≡ Declined 7
+  pub length : writeAnswer schemeA 1 (replicate 50 9) ≡ Written 45
+  pub written : writeLeaves schemeA 1 (replicate 50 9) ≡ exampleA ++ replicate 5 9
+  pub short : writeAnswer schemeA 1 (replicate 44 9) ≡ Declined 13
+  pub left : writeLeaves schemeA 1 (replicate 44 9) ≡ replicate 44 9
+  pub cause : writeAnswer (single 2 0 1000000000 10) 1 (replicate 19 9) ≡ Declined 7
 
 pub writings : Writings
-unfolding writeAnswer writeLeaves bytesOf headerBytes joined beBytes tab causeOf sizeOut startOut horizonOut ruleOut bandOut sumOut premiumOut anyBelow sumTo
+unfolding layoutOf writeAnswer writeLeaves bytesOf headerBytes joined beBytes tab causeOf sizeOut startOut horizonOut ruleOut bandOut sumOut premiumOut anyBelow sumTo
 writings = record { length = refl; written = refl; short = refl; left = refl; cause = refl }
 
 -- The number and the value of each answer: 45 bytes written, and cause 13.
@@ -154,7 +140,7 @@ pub record Rereadings : Type 0 where
   pub nothing : WritePromise schemeA exampleA (Written 0) → ⊥
 
 pub rereadings : Rereadings
-unfolding layoutIn noScheme readAnswer frameCause
+unfolding layoutOf noScheme readAnswer frameCause
 rereadings =
     record {
       same = rw (answers-read .0) (record {

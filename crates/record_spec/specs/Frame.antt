@@ -1,15 +1,15 @@
--- What holds of bytes that none of the causes 1 to 4 declines (document 01, "Record"), line by line and together.
+-- What holds of bytes that none of the causes 1 to 4 and 17 declines (document 01, "Record", and document 02, item 5), line by line and together.
 use Prim.Native.Nat.{ℕ, _+_, _≤_, _<_}
 use mathlib.Core.Path.{_≡_}
 use mathlib.Core.List.{List}
 use lib.ListN.{length, getD}
 use Rattle.big_endian_spec.specs.Numbers.{beAt}
-use Rattle.record_spec.specs.Layout.{HEADER, layoutIn, lengthOf, classesIn, columnsIn}
+use Rattle.record_spec.specs.Layout.{HEADER, versionIn, layoutIn, lengthOf, classesIn, columnsIn}
 
 -- There is a byte, and byte 0 is the version of the layout that was found.
 pub record VersionFits (bytes : List ℕ) : Type 0 where
   pub some : 1 ≤ length bytes
-  pub version : getD bytes 0 0 ≡ layoutIn bytes .version
+  pub version : versionIn bytes ≡ layoutIn bytes .version
 
 -- There is a header, and its length field says how many bytes were given.
 pub record FieldFits (bytes : List ℕ) : Type 0 where
@@ -27,9 +27,13 @@ pub record SizesFit (bytes : List ℕ) : Type 0 where
 pub record LengthFits (bytes : List ℕ) : Type 0 where
   pub whole : length bytes ≡ lengthOf (layoutIn bytes) (classesIn bytes) (columnsIn bytes)
 
--- All of it, and the header's further bytes hold what the layout says.
+-- The header's further bytes hold what the layout says.
+pub record FurtherFits (bytes : List ℕ) : Type 0 where
+  pub further : (k : ℕ) → k < layoutIn bytes .further → getD bytes (HEADER + k) 0 ≡ layoutIn bytes .holds (columnsIn bytes) k
+
+-- All of it.
 pub record Framed (bytes : List ℕ) : Type 0 where
-  pub version : getD bytes 0 0 ≡ layoutIn bytes .version
+  pub version : versionIn bytes ≡ layoutIn bytes .version
   pub header : HEADER ≤ length bytes
   pub field : beAt 2 bytes 1 ≡ length bytes
   pub someClass : 1 ≤ classesIn bytes

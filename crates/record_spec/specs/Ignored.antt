@@ -9,13 +9,14 @@ use Rattle.scheme.specs.declared.Scheme.{Scheme}
 use Rattle.scheme.specs.Cause.{causeOf}
 use Rattle.scheme.specs.Stored.{cleared}
 use Rattle.scheme.specs.Values.{SameButBands, SameValues}
-use Rattle.scheme.specs.Laws.FirstCause.{first-none, by-cause}
+use Rattle.scheme.specs.FirstCause.{_when_, orElse}
+use Rattle.scheme.specs.Laws.FirstCause.{first-none, second-none, by-cause}
 use Rattle.scheme.specs.Laws.Judged.{accepted-cause}
 use Rattle.scheme.specs.Laws.Stored.{made-cleared, none-cleared}
 use Rattle.scheme.specs.Laws.Values.{Alike, same, alike-values, alike-same, next-same, cleared-alike}
 use Rattle.record_spec.specs.declared.ReadAnswer.{ReadAnswer}
 use Rattle.record_spec.specs.declared.WriteAnswer.the-variants.{Written, Declined}
-use Rattle.record_spec.specs.Layout.{version1, lengthOf, schemeIn}
+use Rattle.record_spec.specs.Layout.{otherVersion, layoutOf, lengthOf, schemeIn}
 use Rattle.record_spec.specs.Read.{readCause, declinedWith, readAnswer}
 use Rattle.record_spec.specs.Write.{recordLength, writeCause, writeAnswer, writeLeaves}
 use Rattle.record_spec.specs.Laws.Joined.{bytes-same}
@@ -32,33 +33,33 @@ read-cleared bytes = by (eqb (readCause bytes) 0)
     by true = made-cleared _ _ _ _ _ _ _ _
     by false = none-cleared
 
--- A writing answers the same for both schemes, and leaves the same in the slice.
+-- A writing in any version answers the same for both schemes, and leaves the same in the slice.
 pub record SameWriting (s s′ : Scheme) : Type 0 where
-  pub answer : (out : List ℕ) → writeAnswer s out ≡ writeAnswer s′ out
-  pub leaves : (out : List ℕ) → writeLeaves s out ≡ writeLeaves s′ out
+  pub answer : (version : ℕ) (out : List ℕ) → writeAnswer s version out ≡ writeAnswer s′ version out
+  pub leaves : (version : ℕ) (out : List ℕ) → writeLeaves s version out ≡ writeLeaves s′ version out
 
 alike-writing : {s s′ : Scheme} → Alike s s′ → SameWriting s s′
 unfolding writeAnswer writeLeaves
 alike-writing {s} {s′} w =
     record {
-      answer = λ out. by-cause (cause out) (λ z. ap Written (size (values out z .others))) (ap Declined (cause out));
-      leaves = λ out.
-          by-cause (cause out)
-          (λ z. ap₂ (λ l n. l ++ drop n out) (bytes-same version1 (values out z) (accepted-cause s (none out z) .size .someClass)) (size (values out z .others)))
+      answer = λ v out. by-cause (cause v out) (λ z. ap Written (size v (values v out z .others))) (ap Declined (cause v out));
+      leaves = λ v out.
+          by-cause (cause v out)
+          (λ z. ap₂ (λ l n. l ++ drop n out) (bytes-same (layoutOf v) (values v out z) (accepted-cause s (none v out z) .size .someClass)) (size v (values v out z .others)))
           refl;
     }
   where
-    size : SameButBands s s′ → recordLength s ≡ recordLength s′
-    size v = ap₂ (lengthOf version1) (v .classes) (v .columns)
+    size : (v : ℕ) → SameButBands s s′ → recordLength s v ≡ recordLength s′ v
+    size v b = ap₂ (lengthOf (layoutOf v)) (b .classes) (b .columns)
 
-    cause : (out : List ℕ) → writeCause s out ≡ writeCause s′ out
-    cause out = next-same (alike-same w) (λ v. ap (λ n. cond (ltb (length out) n) 13 0) (size v))
+    cause : (v : ℕ) (out : List ℕ) → writeCause s v out ≡ writeCause s′ v out
+    cause v out = ap (orElse (1 when otherVersion v)) (next-same (alike-same w) (λ b. ap (λ n. cond (ltb (length out) n) 13 0) (size v b)))
 
-    none : (out : List ℕ) → writeCause s out ≡ 0 → causeOf s ≡ 0
-    none out z = first-none (causeOf s) (cond (ltb (length out) (recordLength s)) 13 0) z
+    none : (v : ℕ) (out : List ℕ) → writeCause s v out ≡ 0 → causeOf s ≡ 0
+    none v out z = first-none (causeOf s) (cond (ltb (length out) (recordLength s v)) 13 0) (second-none (1 when otherVersion v) _ z)
 
-    values : (out : List ℕ) → writeCause s out ≡ 0 → SameValues s s′
-    values out z = alike-values w (none out z)
+    values : (v : ℕ) (out : List ℕ) → writeCause s v out ≡ 0 → SameValues s s′
+    values v out z = alike-values w (none v out z)
 
 -- Schemes with the same values are written the same, or declined the same.
 pub same-writing : {s s′ : Scheme} → SameValues s s′ → SameWriting s s′

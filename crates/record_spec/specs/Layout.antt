@@ -1,6 +1,8 @@
--- Where a record's fields stand and what they hold (document 01, "Record"), over any layout: what its versions differ in are parameters.
-use Prim.Native.Nat.{ℕ, _+_, _*_}
+-- Where a record's fields stand and what they hold (document 01, "Record", and document 02, item 5), over any layout: what its versions differ in are parameters.
+use Prim.Native.Nat.{ℕ, _+_, _-_, _*_}
+use mathlib.Core.Bool.{Bool, cond, not, _||_}
 use mathlib.Core.List.{List}
+use lib.Dec.{eqb}
 use lib.ListN.{getD}
 use Rattle.scheme.specs.declared.Scheme.{Scheme}
 use Rattle.big_endian_spec.specs.Numbers.{beAt}
@@ -32,15 +34,23 @@ BAND_WIDTH = 8
 abbrev pub version1 : Layout
 version1 = record { version = 1; further = 0; holds = λ m k. 0; width = 4 }
 
--- The layout of a record, found from its bytes: that of version 1.
-unfoldable pub layoutIn : List ℕ → Layout
-layoutIn bytes = version1
+-- "byte 7 holds the claim number that opens the last column, m − 1. Rules start at byte 8.", "a premium in 3 bytes" (document 02, item 5).
+abbrev pub version2 : Layout
+version2 = record { version = 2; further = 1; holds = λ m k. m - 1; width = 3 }
+
+-- There is no such version: it is neither 1 nor 2.
+abbrev pub otherVersion : (version : ℕ) → Bool
+otherVersion version = not (eqb version 1 || eqb version 2)
+
+-- The layout of a version; where there is no such version, which is cause 1, that of version 1.
+unfoldable pub layoutOf : (version : ℕ) → Layout
+layoutOf version = cond (eqb version 2) version2 version1
 
 -- The header's length: the rules start there.
 abbrev pub headerLength : Layout → ℕ
 headerLength y = HEADER + y .further
 
--- "Length = 7 + s × m + 8 × m + 4 × s".
+-- "Length = 7 + s × m + 8 × m + 4 × s", and in version 2 "8 + s × m + 8 × m + 3 × s".
 abbrev pub lengthOf : Layout → (s m : ℕ) → ℕ
 lengthOf y s m = headerLength y + s * m + BAND_WIDTH * m + y .width * s
 
@@ -52,9 +62,17 @@ rowPlace y m i = headerLength y + i * m
 abbrev pub bandPlace : Layout → (s m : ℕ) → (k : ℕ) → ℕ
 bandPlace y s m k = headerLength y + s * m + k * BAND_WIDTH
 
--- "s premiums of 4 bytes": the premium of class i, counted from 0.
+-- "s premiums of 4 bytes", in version 2 of 3: the premium of class i, counted from 0.
 abbrev pub premiumPlace : Layout → (s m : ℕ) → (i : ℕ) → ℕ
 premiumPlace y s m i = headerLength y + s * m + m * BAND_WIDTH + i * y .width
+
+-- "Byte 0: version".
+abbrev pub versionIn : List ℕ → ℕ
+versionIn bytes = getD bytes 0 0
+
+-- The layout of a record, found from its version.
+abbrev pub layoutIn : List ℕ → Layout
+layoutIn bytes = layoutOf (versionIn bytes)
 
 -- "Byte 3: s."
 abbrev pub classesIn : List ℕ → ℕ

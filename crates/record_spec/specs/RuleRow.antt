@@ -1,4 +1,4 @@
--- The rule row of a class, as a part of the record (document 01, "Record").
+-- The rule row of a class, as a part of the record (document 01, "Record", and document 02, item 5).
 use Prim.Native.Nat.{ℕ, _-_}
 use mathlib.Core.Bool.{cond}
 use mathlib.Core.List.{List, [], _∷_}
@@ -13,7 +13,7 @@ use Rattle.record_spec.specs.Read.{readCause}
 abbrev pub ruleRowCause : List ℕ → ℕ → ℕ
 ruleRowCause bytes class = firstOf (readCause bytes ∷ 11 when outside (classesIn bytes) class ∷ [])
 
--- "m bytes from 7 + (class − 1) × m"; "an empty part for every cause".
+-- "m bytes from 7 + (class − 1) × m", in version 2 from 8; "an empty part for every cause".
 unfoldable pub ruleRow : List ℕ → ℕ → List ℕ
 ruleRow bytes class =
     cond (eqb (ruleRowCause bytes class) 0)

@@ -1,4 +1,4 @@
--- Reading and writing agree both ways (document 01, "Record"), over any layout that reading finds by its version.
+-- Reading and writing agree both ways (document 01, "Record", and document 02, item 5), over any layout that reading finds by its version, whatever a premium's width.
 use Prim.Native.Nat.{ℕ, _+_, _*_, _^_, _≤_, _<_}
 use mathlib.Core.Path.{_≡_, refl, ap, ap₂, sym, _∙_, subst}
 use mathlib.Core.List.{List, [], _∷_, _++_, append-assoc}
@@ -6,46 +6,57 @@ use native.Mathlib.Omega.{arith}
 use native.Mathlib.Nat.{mul-le-mul}
 use lib.ListN.{length, getD, take, drop, take-append-drop}
 use lib.Seq.{take-add, take-at}
-use lib.Dec.{ltb}
-use borrow.Author.Tests.{ltb-false}
-use Rattle.scheme.specs.Laws.FirstCause.{first-none, second-none, test-none}
+use mathlib.Core.Bool.{false}
 use Rattle.scheme.specs.declared.Scheme.{Scheme}
 use Rattle.scheme.specs.Tables.{tab}
 use Rattle.scheme.specs.Access.{ruleAt, lowerAt, upperAt, premiumAt}
 use Rattle.scheme.specs.Cause.{causeOf}
 use Rattle.scheme.specs.Accepted.{Accepted}
 use Rattle.scheme.specs.Laws.Judged.{accepted-cause}
-use Rattle.scheme.specs.Values.{SameValues}
 use Rattle.scheme.specs.Laws.Tab.{tab-eq}
-use Rattle.scheme.specs.Laws.Stored.{made-eq}
+use Rattle.scheme.specs.Laws.Stored.{made-eq, made-cleared}
 use Rattle.scheme.specs.Laws.Values.{cause-same, cleared-values}
 use Rattle.big_endian_spec.specs.Numbers.{Bytes, beAt, beBytes}
 use Rattle.scheme.specs.Stored.{schemeOf, cleared}
 use Rattle.record_spec.specs.declared.WriteAnswer.{WriteAnswer}
-use Rattle.record_spec.specs.Layout.{Layout, HEADER, version1, layoutIn, headerLength, lengthOf, rowPlace, bandPlace, premiumPlace, classesIn, columnsIn, schemeFrom, schemeIn, END_WIDTH}
+use Rattle.record_spec.specs.Layout.{Layout, HEADER, END_WIDTH, otherVersion, layoutOf, headerLength, lengthOf, rowPlace, bandPlace, premiumPlace}
+use Rattle.record_spec.specs.Layout.{versionIn, layoutIn, classesIn, columnsIn, schemeFrom, schemeIn}
 use Rattle.record_spec.specs.Bytes.{headerBytes, headerOf, rulesOf, bandsOf, premiumsOf, bytesOf}
-use Rattle.record_spec.specs.Read.{frameCause, readCause, readAnswer}
-use Rattle.record_spec.specs.Write.{recordOf, recordLength, writeCause, writeAnswer, writeLeaves, WritePromise}
+use Rattle.record_spec.specs.Read.{readCause, readAnswer}
+use Rattle.record_spec.specs.Write.{recordOf, recordLength, writeCause, writeAnswer, writeLeaves, Reread, WritePromise}
 use Rattle.record_spec.specs.Frame.{Framed}
 use Rattle.record_write.specs.Laws.Lists.{tab-part}
 use Rattle.big_endian_spec.specs.Laws.{put-read}
 use Rattle.record_spec.specs.Laws.Frame.{framed}
-use Rattle.record_spec.specs.Laws.Read.{read-framed, scheme-next, answer-scheme}
+use Rattle.record_spec.specs.Laws.Read.{read-framed, scheme-none, scheme-next, answer-scheme, read-scheme}
+use Rattle.record_spec.specs.Laws.Layout.{of-both, further-most, width-most, version-told, version-known}
 use Rattle.record_write.specs.Laws.Bytes.{length-header, further-at, length-bytes}
-use Rattle.record_write.specs.Laws.Write.{written, answer-number, answer-value}
+use Rattle.record_write.specs.Laws.Write.{written, write-clear, answer-number, answer-value}
 use Rattle.record_write.specs.Laws.Body.{body-put, rule-read, lower-read, upper-read, premium-read}
 
 -- A layout that reading finds by its version, with room for every permitted length and premium.
 pub record Known (y : Layout) : Type 0 where
-  pub found : (bytes : List ℕ) → getD bytes 0 0 ≡ y .version → layoutIn bytes ≡ y
+  pub found : (bytes : List ℕ) → versionIn bytes ≡ y .version → layoutIn bytes ≡ y
   pub short : y .further ≤ 255
   pub narrow : y .width ≤ 4
   pub roomy : 10000000 < 256 ^ y .width
 
--- The layout that is written is.
-pub known1 : Known version1
-unfolding layoutIn
-known1 = record { found = λ bytes e. refl; short = omega arith; narrow = omega arith; roomy = omega arith }
+-- "3 bytes, which holds every permitted premium, so no cent is lost": so do the bytes of a premium in either version.
+pub premium-room : (version : ℕ) → 10000000 < 256 ^ layoutOf version .width
+premium-room = of-both (λ y. 10000000 < 256 ^ y .width) (omega arith) (omega arith)
+
+pub premium-fits : (s : Scheme) → causeOf s ≡ 0 → (version i : ℕ) → i < s .classes → premiumAt s i < 256 ^ layoutOf version .width
+premium-fits s accepted version i l = omega (arith, accepted-cause s accepted .premiums .within i l, premium-room version)
+
+-- The layout of each version is known.
+pub known : (version : ℕ) → otherVersion version ≡ false → Known (layoutOf version)
+known version is =
+    record {
+      found = λ bytes e. ap layoutOf (e ∙ sym (version-told version is));
+      short = omega (arith, further-most version);
+      narrow = width-most version;
+      roomy = premium-room version;
+    }
 
 -- The header's bytes, put after read.
 header-put : (bytes : List ℕ) → Bytes bytes → Framed bytes → headerOf (layoutIn bytes) (schemeIn bytes) ≡ take (headerLength (layoutIn bytes)) bytes
@@ -144,42 +155,62 @@ module _ {y : Layout} (known : Known y) (s : Scheme) (accepted : causeOf s ≡ 0
   pub reread-answer : readAnswer (bytesOf y s) ≡ record { number = 0; scheme = cleared s }
   reread-answer = sym (ap (λ x. record { number = 0; scheme = x }) (sym reread) ∙ answer-scheme (bytesOf y s) (sym reread-cause) refl)
 
-module _ (s : Scheme) (accepted : causeOf s ≡ 0) where
+module _ (s : Scheme) (version : ℕ) (is : otherVersion version ≡ false) (accepted : causeOf s ≡ 0) where
   -- What the writer leaves begins with that record.
-  pub written-record : (out : List ℕ) → recordLength s ≤ length out → take (recordLength s) (writeLeaves s out) ≡ recordOf s
+  pub written-record : (out : List ℕ) → recordLength s version ≤ length out → take (recordLength s version) (writeLeaves s version out) ≡ recordOf s version
   written-record out fits =
-      rw (← (written s out accepted refl fits refl .1)) (take-at (recordOf s) (drop (recordLength s) out) (recordLength s) (length-bytes version1 s))
+      rw (← (written s version out is accepted refl fits refl .1))
+      (take-at (recordOf s version) (drop (recordLength s version) out) (recordLength s version) (length-bytes (layoutOf version) s))
+
+  -- Read, it has the scheme with 0 beyond s and m.
+  pub written-read : (out : List ℕ) → recordLength s version ≤ length out
+      → readAnswer (take (recordLength s version) (writeLeaves s version out)) ≡ record { number = 0; scheme = cleared s }
+  written-read out fits = ap readAnswer (written-record out fits) ∙ reread-answer (known version is) s accepted
 
   -- "written and read, a scheme keeps each value it uses": start, horizon, and every rule, band and premium up to s and m.
-  pub kept-values : (out : List ℕ) → recordLength s ≤ length out
-      → (readAnswer (take (recordLength s) (writeLeaves s out)) .number ≡ 0) × SameValues s (readAnswer (take (recordLength s) (writeLeaves s out)) .scheme)
-  kept-values out fits =
-      let e : readAnswer (take (recordLength s) (writeLeaves s out)) ≡ record { number = 0; scheme = cleared s } = ap readAnswer (written-record out fits) ∙ reread-answer known1 s accepted in
-      rw e (refl, cleared-values s (accepted-cause s accepted .size))
+  pub kept-values : (out : List ℕ) → recordLength s version ≤ length out → Reread s (readAnswer (take (recordLength s version) (writeLeaves s version out)))
+  kept-values out fits = rw (written-read out fits) (record { number = refl; values = cleared-values s (accepted-cause s accepted .size) })
 
 -- The answer of a writing keeps its promise.
-pub write-kept : (s : Scheme) (out : List ℕ) → WritePromise s (writeLeaves s out) (writeAnswer s out)
-write-kept s out e =
-    let none : writeCause s out ≡ 0 = sym (answer-number s out) ∙ e in
-    let accepted : causeOf s ≡ 0 = first-none (causeOf s) _ none in
-    let fits : recordLength s ≤ length out = ltb-false (length out) (recordLength s) (test-none (ltb (length out) (recordLength s)) 13 (omega arith) (second-none (causeOf s) _ none)) in
-    let kept = kept-values s accepted out fits in
-    rw (answer-value s out none) (record { number = kept .0; values = kept .1 })
+pub write-kept : (s : Scheme) (version : ℕ) (out : List ℕ) → WritePromise s (writeLeaves s version out) (writeAnswer s version out)
+write-kept s version out e =
+    let none : writeCause s version out ≡ 0 = sym (answer-number s version out) ∙ e in
+    let clear = write-clear s version out none in
+    rw (answer-value s version out none) (kept-values s version (clear .0) (clear .1) out (clear .2))
 
 -- With what is answered and left.
-pub keeps : (s : Scheme) (out : List ℕ) {after : List ℕ} {r : WriteAnswer} → (r ≡ writeAnswer s out) × (after ≡ writeLeaves s out)
-    → (r ≡ writeAnswer s out) × ((after ≡ writeLeaves s out) × WritePromise s after r)
-keeps s out (e, f) = (e, (f, rw (e, f) (write-kept s out)))
+pub keeps : (s : Scheme) (version : ℕ) (out : List ℕ) {after : List ℕ} {r : WriteAnswer} → (r ≡ writeAnswer s version out) × (after ≡ writeLeaves s version out)
+    → (r ≡ writeAnswer s version out) × ((after ≡ writeLeaves s version out) × WritePromise s after r)
+keeps s version out (e, f) = (e, (f, rw (e, f) (write-kept s version out)))
 
--- The scheme that was read is written in as many bytes.
-pub rewritten-length : (bytes : List ℕ) → readCause bytes ≡ 0 → length bytes ≡ recordLength (schemeIn bytes)
-unfolding schemeOf layoutIn
-rewritten-length bytes e = read-framed bytes e .whole
+-- Bytes that are accepted, by their scheme and their version.
+module _ (bytes : List ℕ) (e : readCause bytes ≡ 0) where
+  pub own-version : otherVersion (versionIn bytes) ≡ false
+  own-version = version-known (versionIn bytes) (read-framed bytes e .version)
 
--- Writing the scheme that was read gives the bytes again.
-pub copied : (bytes out : List ℕ) → Bytes bytes → readCause bytes ≡ 0 → length bytes ≤ length out
-    → writeLeaves (schemeIn bytes) out ≡ bytes ++ drop (length bytes) out
-unfolding layoutIn
-copied bytes out small e fits =
-    let accepted : causeOf (schemeIn bytes) ≡ 0 = second-none (frameCause bytes) (causeOf (schemeIn bytes)) e in
-    sym (written (schemeIn bytes) out accepted (rewritten-length bytes e) fits refl .1) ∙ ap (λ l. l ++ drop (length bytes) out) (rewritten bytes small e)
+  -- The scheme that was read is written in its own version in as many bytes.
+  pub rewritten-length : length bytes ≡ recordLength (schemeIn bytes) (versionIn bytes)
+  unfolding schemeOf
+  rewritten-length = read-framed bytes e .whole
+
+  -- "A record keeps its bytes where it is rewritten in its own version."
+  pub copied : (out : List ℕ) → Bytes bytes → length bytes ≤ length out → writeLeaves (schemeIn bytes) (versionIn bytes) out ≡ bytes ++ drop (length bytes) out
+  copied out small fits =
+      sym (written (schemeIn bytes) (versionIn bytes) out own-version (scheme-none bytes e) rewritten-length fits refl .1) ∙ ap (λ l. l ++ drop (length bytes) out) (rewritten bytes small e)
+
+  -- Rewritten in either version, it is read as before.
+  module _ (version : ℕ) (is : otherVersion version ≡ false) (out : List ℕ) (fits : recordLength (schemeIn bytes) version ≤ length out) where
+    abbrev other : List ℕ
+    other = take (recordLength (schemeIn bytes) version) (writeLeaves (schemeIn bytes) version out)
+
+    pub read-again : readAnswer other ≡ readAnswer bytes
+    read-again =
+        written-read (schemeIn bytes) version is (scheme-none bytes e) out fits
+        ∙ ap (λ s. record { number = 0; scheme = s }) (made-cleared _ _ _ _ _ _ _ _)
+        ∙ answer-scheme bytes (sym e) refl
+
+    -- So a record rewritten in the other version and back is the same record.
+    pub there-and-back : (back : List ℕ) → Bytes bytes → length bytes ≤ length back
+        → writeLeaves (readAnswer other .scheme) (versionIn bytes) back ≡ bytes ++ drop (length bytes) back
+    there-and-back back small room =
+        ap (λ a. writeLeaves (a .scheme) (versionIn bytes) back) read-again ∙ ap (λ s. writeLeaves s (versionIn bytes) back) (read-scheme bytes e) ∙ copied back small room

@@ -6,21 +6,24 @@ use scheme::Scheme;
 
 mod parts;
 
-// Writes the record of a scheme into the slice, and leaves bytes past it unchanged; declined, all of them.
-pub fn write(scheme: Scheme, out: &mut [u8]) -> WriteAnswer
-    ensures answer { λ r. ⌜ r ≡ writeAnswer scheme (now (out .entry)) ⌝ }
-    ensures leaves { λ r. ⌜ now (out .exit) ≡ writeLeaves scheme (now (out .entry)) ⌝ }
+// Writes the record of a scheme, in a version, into the slice, and leaves bytes past it unchanged; declined, all of them.
+pub fn write(scheme: Scheme, version: u64, out: &mut [u8]) -> WriteAnswer
+    ensures answer { λ r. ⌜ r ≡ writeAnswer scheme version (now (out .entry)) ⌝ }
+    ensures leaves { λ r. ⌜ now (out .exit) ≡ writeLeaves scheme version (now (out .entry)) ⌝ }
     ensures promise { λ r. ⌜ WritePromise scheme (now (out .exit)) r ⌝ }
 {
+    if record::other_version(version) {
+        return WriteAnswer::Declined(record::VERSION_OUT);
+    }
     let number = acceptance::cause(scheme);
     if number != 0 {
         return WriteAnswer::Declined(number);
     }
-    let size = record::length_of(scheme.classes, scheme.columns);
+    let size = record::length_of(version, scheme.classes, scheme.columns);
     if out.len() < size {
         return WriteAnswer::Declined(scheme::SLICE_OUT);
     }
-    parts::whole(scheme, out, size);
+    parts::whole(scheme, version, out, size);
     WriteAnswer::Written(size)
 }
 

@@ -1,5 +1,6 @@
 // A record written into a lent slice, part by part.
 ghost use mathlib.Core.Path.{_≡_};
+ghost use mathlib.Core.Bool.{false};
 ghost use mathlib.Core.List.{_++_};
 ghost use Prim.Native.Nat.{_+_, _*_, _≤_};
 ghost use lib.ListN.{length, getD, drop};
@@ -9,26 +10,27 @@ ghost use Rattle.scheme.specs.Tables.{tab};
 ghost use Rattle.scheme.specs.Accepted.{SizeFits};
 ghost use Rattle.big_endian_spec.specs.Numbers.{beBytes};
 ghost use Rattle.record_spec.specs.Joined.{joined};
-ghost use Rattle.record_spec.specs.Layout.{HEADER, BAND_WIDTH, version1};
+ghost use Rattle.record_spec.specs.Layout.{BAND_WIDTH, otherVersion, layoutOf, headerLength};
 ghost use Rattle.record_spec.specs.Bytes.{headerBytes, bandBytes};
 ghost use Rattle.record_spec.specs.Write.{recordOf, recordLength};
 use record_spec::BAND_WIDTH;
 use record_spec::END_WIDTH;
-use record_spec::HEADER;
-use record_spec::PREMIUM_WIDTH;
 use scheme::Scheme;
 
-// Puts the header.
-fn header(out: &mut [u8], size: usize, s: u8, m: u8, start: u8, horizon: u8)
-    requires { ⌜ (HEADER ≤ length (now out)) × (size ≤ 455) ⌝ }
-    ensures { λ _. ⌜ now (out .exit) ≡ sets (now (out .entry)) 0 (headerBytes version1 size s m start horizon) ⌝ }
+// Puts the header of a version.
+fn header(out: &mut [u8], version: u64, size: usize, s: u8, m: u8, start: u8, horizon: u8)
+    requires { ⌜ (otherVersion version ≡ false) × (headerLength (layoutOf version) ≤ length (now out)) × (size ≤ 455) × (1 ≤ m) ⌝ }
+    ensures { λ _. ⌜ now (out .exit) ≡ sets (now (out .entry)) 0 (headerBytes (layoutOf version) size s m start horizon) ⌝ }
 {
-    out[0] = 1;
+    out[0] = version as u8;
     big_endian::put_number(out, 1, 2, size as u32);
     out[3] = s;
     out[4] = m;
     out[5] = start;
     out[6] = horizon;
+    if version == 2 {
+        out[7] = m - 1;
+    }
 }
 
 // Puts the rules of s classes and m columns, class by class, from place `from` on.
@@ -84,25 +86,27 @@ fn premiums(out: &mut [u8], from: usize, width: usize, premiums: &[u32], s: usiz
     }
 }
 
-// Puts the whole record of a scheme, of `size` bytes.
-pub fn whole(scheme: Scheme, out: &mut [u8], size: usize)
-    requires { ⌜ SizeFits scheme × (size ≡ recordLength scheme) × (size ≤ length (now out)) ⌝ }
-    ensures { λ _. ⌜ now (out .exit) ≡ recordOf scheme ++ drop size (now (out .entry)) ⌝ }
+// Puts the whole record of a scheme in a version, of `size` bytes.
+pub fn whole(scheme: Scheme, version: u64, out: &mut [u8], size: usize)
+    requires { ⌜ SizeFits scheme × (otherVersion version ≡ false) × (size ≡ recordLength scheme version) × (size ≤ length (now out)) ⌝ }
+    ensures { λ _. ⌜ now (out .exit) ≡ recordOf scheme version ++ drop size (now (out .entry)) ⌝ }
 {
     let s = scheme.classes as usize;
     let m = scheme.columns as usize;
     header(
         out,
+        version,
         size,
         scheme.classes,
         scheme.columns,
         scheme.start,
         scheme.horizon,
     );
-    let header_length = HEADER;
+    let header_length = record::header_length(version);
+    let width = record::premium_width(version);
     rules(out, header_length, &scheme.rules, s, m);
     let after = header_length + s * m;
     let money = after + m * BAND_WIDTH;
     bands(out, after, &scheme.lowers, &scheme.uppers, m);
-    premiums(out, money, PREMIUM_WIDTH, &scheme.premiums, s);
+    premiums(out, money, width, &scheme.premiums, s);
 }

@@ -5,7 +5,7 @@ use mathlib.Core.List.{List, [], _∷_}
 use native.Mathlib.Omega.{arith}
 use lib.ListN.{getD}
 use Rattle.big_endian_spec.specs.Numbers.{Bytes, beAt}
-use Rattle.record_spec.specs.Layout.{layoutIn}
+use Rattle.record_spec.specs.Layout.{layoutOf}
 use Rattle.record_spec.specs.Read.{frameCause}
 use Rattle.sheet_spec.specs.Text.{digitsWithin}
 use Rattle.sheet_spec.specs.Sheet.{refusedLine, sheetText}
@@ -32,7 +32,7 @@ pub record Forbidden : Type 0 where
   pub past : ComposePost (1 ∷ []) 1 (refusedLine 2) 11 → ⊥
 
 pub forbidden : Forbidden
-unfolding sheetText refusedLine digitsWithin layoutIn frameCause beAt
+unfolding sheetText refusedLine digitsWithin layoutOf frameCause beAt
 forbidden =
     record {
       cut = λ h. let e : _≡_ {A = ℕ} 50 51 = ap (λ l. getD l 8 0) (h .whole seven seven-bytes refl) in omega arith;

@@ -12,13 +12,14 @@ use Rattle.setchain.specs.Years.{yearsFigure}
 use Rattle.scheme.specs.Examples.{schemeA}
 use Rattle.scheme.specs.Tables.{tab}
 use Rattle.scheme.specs.Cause.{sizeOut, startOut, horizonOut, ruleOut, bandOut, sumOut, premiumOut, causeOf}
-use Rattle.record_spec.specs.Layout.{layoutIn}
+use Rattle.record_spec.specs.Layout.{layoutOf}
 use Rattle.record_spec.specs.Joined.{joined}
 use Rattle.big_endian_spec.specs.Numbers.{beAt}
 use Rattle.scheme.specs.Stored.{upTo, schemeOf}
 use Rattle.record_spec.specs.Read.{frameCause}
 use Rattle.record_spec.specs.declared.WriteAnswer.the-variants.{Written}
-use Rattle.record_spec.specs.Examples.{exampleA}
+use Rattle.record_spec.specs.Examples.{exampleA, read-a, scheme-a}
+use Rattle.record_spec.specs.DoorLabelExamples.{labelA, read-label}
 use Rattle.sheet_spec.specs.Text.{digitsWithin, twoDigits, decimal}
 use Rattle.sheet_spec.specs.Answer.{TextPromise}
 use Rattle.sheet_spec.specs.Sheet.{classLine, premiumLine, yearLines, totalLine, refusedLine, schemeLine, sheetOf, sheetText}
@@ -56,10 +57,10 @@ pub total-line-A : totalLine 25500 26000 ≡ 84 ∷ 79 ∷ 84 ∷ 65 ∷ 76 ∷ 
 unfolding digitsWithin totalLine
 total-line-A = refl
 
--- REFUSED 10.
-pub refused-line-10 : refusedLine 10 ≡ 82 ∷ 69 ∷ 70 ∷ 85 ∷ 83 ∷ 69 ∷ 68 ∷ 32 ∷ 49 ∷ 48 ∷ 10 ∷ []
+-- REFUSED 17.
+pub refused-line-17 : refusedLine 17 ≡ 82 ∷ 69 ∷ 70 ∷ 85 ∷ 83 ∷ 69 ∷ 68 ∷ 32 ∷ 49 ∷ 55 ∷ 10 ∷ []
 unfolding digitsWithin refusedLine
-refused-line-10 = refl
+refused-line-17 = refl
 
 -- Example A, year 0: its classes in order, then its premium.
 pub year-A : yearLines schemeA 0
@@ -84,9 +85,14 @@ pub sheet-A : sheetText exampleA
     ∷ 89 ∷ 69 ∷ 65 ∷ 82 ∷ 32 ∷ 50 ∷ 32 ∷ 80 ∷ 82 ∷ 69 ∷ 77 ∷ 73 ∷ 85 ∷ 77 ∷ 32 ∷ 49 ∷ 48 ∷ 48 ∷ 53 ∷ 48 ∷ 32 ∷ 49 ∷ 48 ∷ 52 ∷ 48 ∷ 48 ∷ 10
     ∷ 84 ∷ 79 ∷ 84 ∷ 65 ∷ 76 ∷ 32 ∷ 50 ∷ 53 ∷ 53 ∷ 48 ∷ 48 ∷ 32 ∷ 50 ∷ 54 ∷ 48 ∷ 48 ∷ 48 ∷ 10
     ∷ []
-unfolding layoutIn sheetText frameCause beAt schemeOf upTo tab causeOf sizeOut startOut horizonOut ruleOut bandOut sumOut premiumOut
+unfolding layoutOf sheetText frameCause beAt schemeOf upTo tab causeOf sizeOut startOut horizonOut ruleOut bandOut sumOut premiumOut
     anyBelow digitsWithin schemeLine classLine premiumLine yearLines totalLine sheetOf joined yearsFigure stepFigure fillRow capacityBefore sumTo onlyIf
 sheet-A = refl
+
+-- Its label has the same sheet.
+pub sheet-label : sheetText labelA ≡ sheetText exampleA
+unfolding sheetText
+sheet-label = rw (read-label .0, read-label .1, read-a, scheme-a)
 
 -- The sheet in the first bytes of a slice, and a slice that lacks it.
 pub record TextPromises : Type 0 where

@@ -252,18 +252,19 @@ fn check(record: &[u8]) -> Operation<'_> {
     }
 }
 
-fn rewrite(record: &[u8]) -> Operation<'_> {
+/// The record read and written in a version.
+fn rewrite<'a>(name: &'static str, record: &'a [u8], version: u64) -> Operation<'a> {
     let mut out = [0; library::RECORD_ROOM];
     let mut length = [0];
     let mut plain_out = [0; library::RECORD_ROOM];
     Operation {
-        name: "read, write",
+        name,
         library: Box::new(move || {
-            library::rewrite(black_box(record), &mut out, &mut length).expect("a record");
+            library::rewrite(black_box(record), version, &mut out, &mut length).expect("a record");
             black_box((&out, &length));
         }),
         plain: Box::new(move || {
-            black_box(plain::write(&read(record), &mut plain_out).expect("a record"));
+            black_box(plain::write(&read(record), version, &mut plain_out).expect("a record"));
             black_box(&plain_out);
         }),
     }
@@ -344,9 +345,9 @@ fn schemes(s: u8) -> [(&'static str, Vec<u8>); 4] {
 }
 
 /// How many operations are timed.
-const OPERATIONS: usize = 11;
+const OPERATIONS: usize = 12;
 
-/// All operations on a record of 32 classes and 100 years.
+/// All operations on a record of version 1 with 32 classes and 100 years.
 fn operations(record: &[u8]) -> [Operation<'_>; OPERATIONS] {
     [
         share(record, 20, 100),
@@ -358,7 +359,8 @@ fn operations(record: &[u8]) -> [Operation<'_>; OPERATIONS] {
         total(record, 100),
         sheet(record),
         check(record),
-        rewrite(record),
+        rewrite("read, write", record, 1),
+        rewrite("read, write as 2", record, 2),
         mixing(record),
     ]
 }

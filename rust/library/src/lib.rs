@@ -72,6 +72,7 @@ mod archive {
         pub fn joguyvi_rewrite(
             bytes: *const u8,
             bytes_length: usize,
+            version: u64,
             out: *mut u8,
             out_length: usize,
             length: *mut u64,
@@ -80,6 +81,7 @@ mod archive {
         pub fn joguyvi_ready(
             number: u64,
             base: u64,
+            version: u64,
             out: *mut u8,
             out_length: usize,
             length: *mut u64,
@@ -91,7 +93,7 @@ mod archive {
 /// Room for the text of any sheet, in bytes.
 pub const SHEET_ROOM: usize = 132_862;
 
-/// Room for any record, in bytes.
+/// Room for any record of either version, in bytes.
 pub const RECORD_ROOM: usize = 455;
 
 /// 0 is no cause.
@@ -206,15 +208,17 @@ pub fn sheet(record: &[u8], out: &mut [u8], length: &mut [u64]) -> Result<(), u8
     })
 }
 
-/// The record read and written again to the front of `out`, and its length
-/// into a slice of 1 number.
-pub fn rewrite(record: &[u8], out: &mut [u8], length: &mut [u64]) -> Result<(), u8> {
+/// The record read and written in a version, 1 or 2, to the front of `out`, and
+/// its length into a slice of 1 number. Another version is cause 1, told before
+/// the record's own.
+pub fn rewrite(record: &[u8], version: u64, out: &mut [u8], length: &mut [u64]) -> Result<(), u8> {
     // SAFETY: the pointers and lengths are those of slices; `out` and `length`
     // are lent alone.
     answer(unsafe {
         archive::joguyvi_rewrite(
             record.as_ptr(),
             record.len(),
+            version,
             out.as_mut_ptr(),
             out.len(),
             length.as_mut_ptr(),
@@ -223,15 +227,23 @@ pub fn rewrite(record: &[u8], out: &mut [u8], length: &mut [u64]) -> Result<(), 
     })
 }
 
-/// A ready scheme as a record to the front of `out`, and its length into a
-/// slice of 1 number.
-pub fn ready(number: u64, base: u64, out: &mut [u8], length: &mut [u64]) -> Result<(), u8> {
+/// A ready scheme as a record of a version, 1 or 2, to the front of `out`, and
+/// its length into a slice of 1 number. Another version is cause 1, told before
+/// those of the number and the base.
+pub fn ready(
+    number: u64,
+    base: u64,
+    version: u64,
+    out: &mut [u8],
+    length: &mut [u64],
+) -> Result<(), u8> {
     // SAFETY: the pointers and lengths are those of slices; `out` and `length`
     // are lent alone.
     answer(unsafe {
         archive::joguyvi_ready(
             number,
             base,
+            version,
             out.as_mut_ptr(),
             out.len(),
             length.as_mut_ptr(),

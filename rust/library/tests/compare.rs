@@ -1,32 +1,43 @@
-//! The proved library against the plain version, on more than 100,000 records.
+//! The proved library against the plain version, on more than 100,000 records
+//! of each version.
 
 mod lent;
 mod pooled;
 
 use lent::{check_one, near, of_length, Lent};
-use plain::{places, Scheme, VERSION_1};
+use plain::{places, Scheme, FRONT};
 use std::io::Write;
 use trials::family;
-use trials::made::{self, Shape};
+use trials::made::{self, Shape, DAMAGES};
 use trials::rng::Rng;
 
 /// Marks that no call writes: answers stay below, texts and their lengths too.
 const MARK: u64 = 0xA5A5_A5A5_A5A5_A5A5;
 const BYTE: u8 = 0xA5;
 
-/// How many records are to be compared at least.
+/// How many records of each version are to be compared at least.
 const LEAST: u64 = 100_000;
+
+/// The versions of the record.
+const VERSIONS: [u8; 2] = [1, 2];
+
+/// Versions that no record is written in; the last bytes of some are 1 or 2.
+const NO_VERSIONS: [u64; 6] = [0, 3, 257, 258, (1 << 32) + 1, u64::MAX];
 
 /// What was compared.
 #[derive(Default)]
 struct Tally {
     records: u64,
+    /// Records whose first byte is 1, and 2.
+    versions: [u64; 2],
     calls: u64,
+    /// Records written in the other version and in their own again.
+    returned: u64,
     /// Sheets of accepted records, and REFUSED lines of the others.
     sheets: u64,
     refusals: u64,
     /// Records by the cause of reading them.
-    causes: [u64; 11],
+    causes: [u64; 18],
     /// Pooled calls by their cause, 0 where they are answered.
     pooled: [u64; 20],
 }
@@ -37,11 +48,24 @@ impl Tally {
         self.calls += other.calls;
         self.sheets += other.sheets;
         self.refusals += other.refusals;
+        self.returned += other.returned;
+        for (sum, count) in self.versions.iter_mut().zip(other.versions) {
+            *sum += count;
+        }
         for (sum, count) in self.causes.iter_mut().zip(other.causes) {
             *sum += count;
         }
         for (sum, count) in self.pooled.iter_mut().zip(other.pooled) {
             *sum += count;
+        }
+    }
+
+    /// Counts a record by its first byte and by the cause of reading it.
+    fn count_record(&mut self, record: &[u8], cause: u8) {
+        self.records += 1;
+        self.causes[usize::from(cause)] += 1;
+        for (count, version) in self.versions.iter_mut().zip(VERSIONS) {
+            *count += u64::from(record.first() == Some(&version));
         }
     }
 
@@ -153,13 +177,43 @@ fn check_text(
     tally.calls += 1;
 }
 
-/// The record read and written again, with slices of these lengths.
-fn check_rewrite(tally: &mut Tally, trial: &Trial, lengths: (usize, usize)) {
-    let text = trial.asked(|scheme| Ok(made::record_of(scheme)));
+/// The version as a byte, or its cause.
+fn known(version: u64) -> Result<u8, u8> {
+    match version {
+        1 => Ok(1),
+        2 => Ok(2),
+        _ => Err(1),
+    }
+}
+
+/// The record read and written in a version, with slices of these lengths.
+fn check_rewrite(tally: &mut Tally, trial: &Trial, version: u64, lengths: (usize, usize)) {
+    let write = |version| trial.asked(|scheme| Ok(made::record_in(scheme, version)));
+    let text = known(version).and_then(write);
     let room = text.as_ref().map_or(0, |text| text.len());
     check_text(tally, text, room, lengths, |out, length| {
-        library::rewrite(trial.record, out, length)
+        library::rewrite(trial.record, version, out, length)
     });
+}
+
+/// The library's own bytes of a record in a version.
+fn rewritten(record: &[u8], version: u8) -> Vec<u8> {
+    let mut out = vec![BYTE; library::RECORD_ROOM];
+    let mut length = [0];
+    library::rewrite(record, version.into(), &mut out, &mut length).expect("a record");
+    out.truncate(length[0] as usize);
+    out
+}
+
+/// An accepted record keeps its bytes where the library writes it in the other
+/// version and that in its own again.
+fn check_return(tally: &mut Tally, record: &[u8]) {
+    let own = record[places::VERSION];
+    let other = rewritten(record, if own == 1 { 2 } else { 1 });
+    assert_ne!(other[places::VERSION], own);
+    assert_eq!(library::check(&other), Ok(()));
+    assert_eq!(rewritten(&other, own), record);
+    tally.returned += 1;
 }
 
 /// The room that a sheet of the record is to have.
@@ -222,8 +276,7 @@ fn compare(tally: &mut Tally, rng: &mut Rng, record: &[u8]) {
         read: plain::read(record),
     };
     let cause = trial.read.as_ref().err().copied().unwrap_or(0);
-    tally.records += 1;
-    tally.causes[usize::from(cause)] += 1;
+    tally.count_record(record, cause);
     assert_eq!(library::check(record).err().unwrap_or(0), cause);
 
     let (s, horizon) = (trial.s(), trial.horizon());
@@ -244,6 +297,7 @@ fn compare(tally: &mut Tally, rng: &mut Rng, record: &[u8]) {
     let years_all = years(rng, horizon.min(few + 400 / (s * s)), horizon);
     check_share_sheet(tally, &trial, rng.pick(&years_all), s as usize, s as usize);
     compare_lengths(tally, rng, &trial);
+    compare_rewrites(tally, rng, &trial);
     pooled::compare(tally, &trial);
     if rng.once_in(16) || cause != 0 {
         compare_sheet(tally, rng, &trial);
@@ -276,10 +330,28 @@ fn compare_lengths(tally: &mut Tally, rng: &mut Rng, trial: &Trial) {
         check_share_sheet(tally, trial, early, a, rng.pick(&near(s as usize)));
         check_share_sheet(tally, trial, late, a, rng.pick(&near(s as usize)));
     }
-    for out in near(trial.record.len()) {
-        for length in [1, rng.pick(&near(1))] {
-            check_rewrite(tally, trial, (out, length));
+}
+
+/// The record written in every version, with every length near the right one.
+fn compare_rewrites(tally: &mut Tally, rng: &mut Rng, trial: &Trial) {
+    for version in VERSIONS {
+        let room = match &trial.read {
+            Ok(scheme) => made::record_in(scheme, version).len(),
+            Err(_) => trial.record.len(),
+        };
+        for out in near(room) {
+            for length in [1, rng.pick(&near(1))] {
+                check_rewrite(tally, trial, version.into(), (out, length));
+            }
         }
+    }
+    for version in NO_VERSIONS {
+        let lengths = (rng.pick(&near(trial.record.len())), rng.pick(&near(1)));
+        check_rewrite(tally, trial, version, lengths);
+        check_rewrite(tally, trial, version, (library::RECORD_ROOM, 1));
+    }
+    if trial.read.is_ok() {
+        check_return(tally, trial.record);
     }
 }
 
@@ -313,32 +385,52 @@ fn check_sheet_length(tally: &mut Tally, trial: &Trial, lengths: (usize, usize))
     );
 }
 
-/// Accepted schemes of every size.
+/// Accepted schemes of every size, in both versions.
 fn sizes(tally: &mut Tally) {
     let mut rng = Rng::new(101);
     for s in 1..=32 {
         for m in 1..=8 {
-            for _ in 0..200 {
+            for turn in 0..400 {
                 let scheme = made::scheme_of(&mut rng, Shape::of(s, m));
-                compare(tally, &mut rng, &made::record_of(&scheme));
+                compare(tally, &mut rng, &made::record_by_turns(&scheme, turn));
             }
         }
     }
 }
 
-/// Records with damage of every kind.
+/// Records of both versions with damage of every kind.
 fn damaged(tally: &mut Tally) {
     let mut rng = Rng::new(102);
-    for _ in 0..44_000 {
+    for _ in 0..88_000 {
         let record = made::damaged(&mut rng);
         compare(tally, &mut rng, &record);
     }
 }
 
-/// The family's records, and every byte of some set to edge values.
+/// Records of version 2 beside the family's of version 1: of the same schemes,
+/// and small ones with damage of every kind.
+fn labels(rng: &mut Rng, records: &[Vec<u8>]) -> Vec<Vec<u8>> {
+    let schemes = records
+        .iter()
+        .filter(|record| record.first() == Some(&1))
+        .filter_map(|record| plain::read(record).ok());
+    let mut labels: Vec<Vec<u8>> = schemes.map(|scheme| made::record_in(&scheme, 2)).collect();
+    for kind in (0..DAMAGES).cycle().take(2 * DAMAGES as usize) {
+        let shape = Shape::up_to(rng, 6, 4).in_version(2);
+        let mut label = made::record_in(&made::scheme_of(rng, shape), shape.version);
+        made::damage(rng, &mut label, kind);
+        labels.push(label);
+    }
+    labels
+}
+
+/// The family's records and more of version 2, and every byte of some set to
+/// edge values.
 fn edges(tally: &mut Tally) {
     let mut rng = Rng::new(103);
-    for record in family::records() {
+    let mut records = family::records();
+    records.extend(labels(&mut rng, &records));
+    for record in records {
         compare(tally, &mut rng, &record);
         if record.len() > 120 {
             continue;
@@ -367,7 +459,7 @@ fn edges(tally: &mut Tally) {
 /// than a length field can say.
 fn bytes(tally: &mut Tally) {
     let mut rng = Rng::new(104);
-    for _ in 0..10_000 {
+    for _ in 0..20_000 {
         let length = match rng.below(200) {
             0 => rng.between(60_000, 70_000),
             1..=20 => rng.between(0, 600),
@@ -375,11 +467,14 @@ fn bytes(tally: &mut Tally) {
         } as usize;
         let mut record = vec![0; length];
         record.fill_with(|| rng.draw() as u8);
-        if length >= VERSION_1.header && !rng.once_in(4) {
-            record[places::VERSION] = VERSION_1.version;
+        if length >= FRONT && !rng.once_in(4) {
+            record[places::VERSION] = rng.pick(&VERSIONS);
             made::set_length(&mut record);
             record[places::CLASSES] = rng.between(0, 5) as u8;
             record[places::COLUMNS] = rng.between(0, 5) as u8;
+        }
+        if length > places::LAST_COLUMN && rng.once_in(2) {
+            record[places::LAST_COLUMN] = record[places::COLUMNS].wrapping_sub(1);
         }
         compare(tally, &mut rng, &record);
     }
@@ -403,24 +498,45 @@ fn records() {
         }
     });
     let line = format!(
-        "library and plain version agree: {} records, {} calls, {} of them pooled, {} sheets, {} REFUSED lines; by cause 0 to 10: {:?}",
+        "library and plain version agree: {} records, {} of them of version 2, {} calls, {} of them pooled, {} sheets, {} REFUSED lines, {} records rewritten in the other version and back; by cause 0 to 10: {:?}, 17: {}",
         all.records,
+        all.versions[1],
         all.calls,
         all.pooled.iter().sum::<u64>(),
         all.sheets,
         all.refusals,
-        all.causes
+        all.returned,
+        &all.causes[..=10],
+        all.causes[17]
     );
     // Past the capture of tests, so that it always shows.
     writeln!(std::io::stderr(), "{line}").expect("standard error");
-    assert!(all.records >= LEAST);
-    assert!(all.causes.iter().all(|&count| count >= 100));
-    for cause in (0..=13).chain([18, 19]) {
+    assert!(all.versions.iter().all(|&count| count >= LEAST));
+    assert_eq!(all.returned, all.causes[0]);
+    for cause in (0..=10).chain([17]) {
+        assert!(all.causes[cause] >= 100, "{:?}", all.causes);
+    }
+    for cause in (0..=13).chain([17, 18, 19]) {
         assert!(all.pooled[cause] >= 1_000, "{:?}", all.pooled);
     }
 }
 
-/// The ready schemes, with every length near the right one.
+/// A ready scheme in a version, with every length near the right one.
+fn check_ready(tally: &mut Tally, number: u64, base: u64, version: u64) {
+    let write = |version| Ok(made::record_in(&plain::ready(number, base)?, version));
+    let record = known(version).and_then(write);
+    let room = record.as_ref().map_or(5, |record| record.len());
+    for out in near(room) {
+        for length in near(1) {
+            let record = record.clone();
+            check_text(tally, record, room, (out, length), |out, length| {
+                library::ready(number, base, version, out, length)
+            });
+        }
+    }
+}
+
+/// The ready schemes in every version.
 #[test]
 fn ready() {
     let mut rng = Rng::new(105);
@@ -439,18 +555,8 @@ fn ready() {
         ];
         bases.extend((0..200).map(|_| rng.between(0, 2_600_000)));
         for base in bases {
-            let record = plain::ready(number, base).map(|scheme| made::record_of(&scheme));
-            let room = record.as_ref().map_or(5, |record| record.len());
-            for out in near(room) {
-                for length in near(1) {
-                    check_text(
-                        &mut tally,
-                        record.clone(),
-                        room,
-                        (out, length),
-                        |out, length| library::ready(number, base, out, length),
-                    );
-                }
+            for version in VERSIONS.map(u64::from).into_iter().chain(NO_VERSIONS) {
+                check_ready(&mut tally, number, base, version);
             }
         }
     }

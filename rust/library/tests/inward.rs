@@ -9,7 +9,8 @@ use trials::rng::Rng;
 /// How many pairs of schemes are tried.
 const PAIRS: u64 = 20_000;
 
-/// The record of a scheme, and that of the scheme with trimmed bands.
+/// The record of a scheme, and that of the scheme with trimmed bands, of the
+/// same version or not.
 struct Pair {
     wide: Vec<u8>,
     narrow: Vec<u8>,
@@ -173,12 +174,12 @@ fn sheet(record: &[u8]) -> Vec<(String, [u64; 2])> {
 fn trimmed_bands_move_bounds_inward() {
     let mut rng = Rng::new(121);
     let mut moves = Moves::default();
-    for _ in 0..PAIRS {
+    for turn in 0..PAIRS {
         let scheme = made::scheme(&mut rng);
         let narrow = made::trimmed(&mut rng, &scheme);
         let pair = Pair {
-            wide: made::record_of(&scheme),
-            narrow: made::record_of(&narrow),
+            wide: made::record_by_turns(&scheme, turn),
+            narrow: made::record_by_turns(&narrow, turn / 2),
             s: u64::from(scheme.classes),
             horizon: u64::from(scheme.horizon),
         };

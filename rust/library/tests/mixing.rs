@@ -4,7 +4,7 @@
 mod lent;
 
 use lent::{check_one, near, of_length, Lent};
-use plain::{Scheme, MAX_COLUMNS};
+use plain::{Scheme, LAYOUTS, MAX_COLUMNS};
 use std::collections::BTreeSet;
 use std::io::Write;
 use trials::family::{slowest, turning};
@@ -48,14 +48,14 @@ fn compare(tally: &mut Tally, rng: &mut Rng, record: &[u8]) {
     check(tally, record, rng.pick(&near(1)));
 }
 
-/// Accepted schemes of every size.
+/// Accepted schemes of every size, in both versions.
 fn sizes(tally: &mut Tally) {
     let mut rng = Rng::new(141);
     for s in 1..=32 {
         for m in 1..=8 {
-            for _ in 0..20 {
+            for turn in 0..20 {
                 let scheme = made::scheme_of(&mut rng, Shape::of(s, m));
-                compare(tally, &mut rng, &made::record_of(&scheme));
+                compare(tally, &mut rng, &made::record_by_turns(&scheme, turn));
             }
         }
     }
@@ -66,18 +66,18 @@ fn sizes(tally: &mut Tally) {
 fn chords(tally: &mut Tally) {
     let mut rng = Rng::new(144);
     for s in 2..=32 {
-        for _ in 0..100 {
+        for turn in 0..100 {
             let mut scheme = turning(s);
             for _ in 0..rng.between(1, 3) {
                 let from = rng.below(u64::from(s)) as usize;
                 scheme.rules[from * MAX_COLUMNS + 1] = rng.between(1, u64::from(s)) as u8;
             }
-            compare(tally, &mut rng, &made::record_of(&scheme));
+            compare(tally, &mut rng, &made::record_by_turns(&scheme, turn));
         }
     }
 }
 
-/// Records with damage of every kind.
+/// Records of both versions with damage of every kind.
 fn damaged(tally: &mut Tally) {
     let mut rng = Rng::new(142);
     for _ in 0..10_000 {
@@ -106,10 +106,15 @@ fn agrees() {
     assert!(tally.counts.len() >= 300);
 }
 
-/// What the library answers for a scheme.
+/// What the library answers for a scheme, in both versions alike.
 fn answer(scheme: &Scheme) -> Result<u64, u8> {
-    let mut count = [0];
-    library::mixing(&made::record_of(scheme), &mut count).map(|()| count[0])
+    let [first, second] = LAYOUTS.map(|layout| {
+        let mut count = [0];
+        let record = made::record_in(scheme, layout.version);
+        library::mixing(&record, &mut count).map(|()| count[0])
+    });
+    assert_eq!(first, second);
+    first
 }
 
 /// Cycles of every size never mix; with one chord they mix at last.

@@ -81,7 +81,7 @@ fn pooled(record: &[u8], s: usize, book: &Book, year: u64) -> Figures<(u64, u64)
 
 impl<'a> Trial<'a> {
     fn new(scheme: &'a Scheme, book: Option<&'a Book>, year: u64) -> Trial<'a> {
-        let record = made::record_of(scheme);
+        let record = made::record_by_turns(scheme, year);
         let s = usize::from(scheme.classes);
         let bounds = match book {
             None => from_start(&record, s, year),

@@ -146,9 +146,9 @@ fn accepted() {
     let mut rng = Rng::new(131);
     for s in 1..=32 {
         for m in 1..=8 {
-            for _ in 0..60 {
+            for turn in 0..120 {
                 let scheme = made::scheme_of(&mut rng, Shape::of(s, m));
-                compare(&mut rng, &made::record_of(&scheme));
+                compare(&mut rng, &made::record_by_turns(&scheme, turn));
             }
         }
     }
@@ -157,7 +157,7 @@ fn accepted() {
 #[test]
 fn damaged() {
     let mut rng = Rng::new(132);
-    for _ in 0..20_000 {
+    for _ in 0..40_000 {
         let record = made::damaged(&mut rng);
         compare(&mut rng, &record);
     }
@@ -180,7 +180,7 @@ fn extreme_picks_come_close() {
 
 /// Checks the picks of each bound of a year against it.
 fn check_close(scheme: &Scheme, year: u64) {
-    let record = made::record_of(scheme);
+    let record = made::record_by_turns(scheme, year);
     let s = scheme.classes;
     let premiums = premium_tenths(scheme);
     for high in [false, true] {

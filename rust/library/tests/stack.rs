@@ -6,11 +6,11 @@ use trials::rng::Rng;
 
 const SMALL: usize = 64 * 1024;
 
-/// The record of a scheme of 32 classes, 8 columns and 100 years.
-fn largest() -> Vec<u8> {
+/// The record of a scheme of 32 classes, 8 columns and 100 years, in a version.
+fn largest(version: u8) -> Vec<u8> {
     let mut scheme = made::scheme_of(&mut Rng::new(121), Shape::of(32, 8));
     scheme.horizon = 100;
-    made::record_of(&scheme)
+    made::record_in(&scheme, version)
 }
 
 /// Shares, the chance of having reached a class, mean and total of the last
@@ -55,7 +55,13 @@ fn both(record: &[u8]) -> ([u64; 72], [u64; 70]) {
 
 #[test]
 fn deepest_calls_on_64_kib() {
-    let record = largest();
+    deepest_calls(1);
+    deepest_calls(2);
+}
+
+/// The calls on the record of a version.
+fn deepest_calls(version: u8) {
+    let record = largest(version);
     let wanted = both(&record);
     let thread = std::thread::Builder::new()
         .name("a stack of 64 KiB".to_string())

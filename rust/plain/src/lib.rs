@@ -23,8 +23,8 @@ pub use books::{
 pub use mixing::mixing;
 pub use ready::ready;
 pub use record::{
-    bands, layout_of, number_at, open, places, put_number, read, rule_row, write, Bands, Layout,
-    END_WIDTH, LAYOUTS, LENGTH_WIDTH, MAX_RECORD, VERSION_1,
+    bands, layout_in, layout_of, number_at, open, places, put_number, read, rule_row, write, Bands,
+    Layout, END_WIDTH, FRONT, LAYOUTS, LENGTH_WIDTH, MAX_RECORD, VERSION_1, VERSION_2,
 };
 pub use rows::{interval_row, row};
 pub use scheme::{

@@ -3,7 +3,8 @@
 
 use crate::scheme::{accept, index_of, Scheme, MAX_CLASSES, MAX_COLUMNS};
 
-/// Where the numbers at the front of a record stand, whatever its version.
+/// Where the numbers at the front of a record stand: all but the last whatever
+/// its version.
 pub mod places {
     /// The version.
     pub const VERSION: usize = 0;
@@ -17,8 +18,12 @@ pub mod places {
     pub const START: usize = 5;
     /// The horizon.
     pub const HORIZON: usize = 6;
+    /// From version 2 on, the claim number that opens the last column, m - 1.
+    pub const LAST_COLUMN: usize = 7;
 }
 
+/// The bytes at the front that every version has.
+pub const FRONT: usize = 7;
 /// The bytes of the length field.
 pub const LENGTH_WIDTH: usize = 2;
 /// The bytes of a lower or an upper end of a band.
@@ -33,6 +38,8 @@ pub struct Layout {
     pub version: u8,
     /// The bytes before the rules.
     pub header: usize,
+    /// Where the claim number that opens the last column stands, if it does.
+    pub last_column: Option<usize>,
     /// The bytes of a premium.
     pub premium_width: usize,
 }
@@ -40,21 +47,47 @@ pub struct Layout {
 /// Version 1.
 pub const VERSION_1: Layout = Layout {
     version: 1,
-    header: 7,
+    header: FRONT,
+    last_column: None,
     premium_width: 4,
 };
 
+/// Version 2, the door label.
+pub const VERSION_2: Layout = Layout {
+    version: 2,
+    header: FRONT + 1,
+    last_column: Some(places::LAST_COLUMN),
+    premium_width: 3,
+};
+
 /// The layouts of all versions, the oldest first.
-pub const LAYOUTS: [Layout; 1] = [VERSION_1];
+pub const LAYOUTS: [Layout; 2] = [VERSION_1, VERSION_2];
 
 /// The length of the longest record.
-pub const MAX_RECORD: usize = VERSION_1.length(MAX_CLASSES, MAX_COLUMNS);
+pub const MAX_RECORD: usize = longest();
+
+/// The greatest length over all layouts.
+const fn longest() -> usize {
+    let (mut most, mut at) = (0, 0);
+    while at < LAYOUTS.len() {
+        let length = LAYOUTS[at].length(MAX_CLASSES, MAX_COLUMNS);
+        if length > most {
+            most = length;
+        }
+        at += 1;
+    }
+    most
+}
+
+/// The layout of a version; none where there is no such version.
+pub fn layout_in(version: u64) -> Option<Layout> {
+    let is_it = |layout: &&Layout| u64::from(layout.version) == version;
+    LAYOUTS.iter().find(is_it).copied()
+}
 
 /// The layout that the first byte tells; none where there is no such version.
 pub fn layout_of(bytes: &[u8]) -> Option<Layout> {
-    let version = bytes.get(places::VERSION)?;
-    let found = LAYOUTS.iter().find(|layout| layout.version == *version);
-    found.copied()
+    layout_in(u64::from(*bytes.get(places::VERSION)?))
 }
 
 /// Places in a record of s classes and m columns.
@@ -103,7 +136,7 @@ pub fn read(record: &[u8]) -> Result<Scheme, u8> {
 /// The layout and the scheme of an accepted record.
 fn accepted(record: &[u8]) -> Result<(Layout, Scheme), u8> {
     let layout = layout_of(record).ok_or(1)?;
-    if record.len() < layout.header {
+    if record.len() < FRONT {
         return Err(2);
     }
     if number_at(record, places::LENGTH, LENGTH_WIDTH) as usize != record.len() {
@@ -115,6 +148,10 @@ fn accepted(record: &[u8]) -> Result<(Layout, Scheme), u8> {
     }
     if record.len() != layout.length(s, m) {
         return Err(4);
+    }
+    let differs = |place: usize| usize::from(record[place]) != m - 1;
+    if layout.last_column.is_some_and(differs) {
+        return Err(17);
     }
     let scheme = stored(layout, record);
     accept(&scheme)?;
@@ -153,10 +190,10 @@ fn stored(layout: Layout, record: &[u8]) -> Scheme {
     scheme
 }
 
-/// Writes the record of a scheme to the front of `out` and answers its length.
-/// Bytes past the length stay as they were.
-pub fn write(scheme: &Scheme, out: &mut [u8]) -> Result<usize, u8> {
-    let layout = VERSION_1;
+/// Writes the record of a scheme in a version to the front of `out` and answers
+/// its length. Bytes past the length stay as they were.
+pub fn write(scheme: &Scheme, version: u64, out: &mut [u8]) -> Result<usize, u8> {
+    let layout = layout_in(version).ok_or(1)?;
     accept(scheme)?;
     let length = layout.length(scheme.s(), scheme.m());
     if out.len() < length {
@@ -175,6 +212,9 @@ fn store(layout: Layout, scheme: &Scheme, record: &mut [u8]) {
     record[places::COLUMNS] = scheme.columns;
     record[places::START] = scheme.start;
     record[places::HORIZON] = scheme.horizon;
+    if let Some(place) = layout.last_column {
+        record[place] = scheme.columns - 1;
+    }
     let rows = record[layout.rules()..].chunks_exact_mut(m).take(s);
     for (i, row) in rows.enumerate() {
         row.copy_from_slice(scheme.rules_of(i));

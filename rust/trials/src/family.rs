@@ -1,7 +1,8 @@
 //! The fixed family of records and the report of the answers on it. The line
 //! format is described in the binary `family`.
 
-use crate::made::{damage, record_in, record_of, scheme_of, Shape, DAMAGES};
+use crate::labels::labels;
+use crate::made::{damage, record_in, record_of, scheme_of, Shape};
 use crate::rng::Rng;
 use plain::{
     Book, Figures, Scheme, MAX_CLASSES, MAX_COLUMNS, MAX_COUNT, MAX_HORIZON, MAX_PAYOFF, MAX_RECORD,
@@ -45,7 +46,10 @@ const SIZES: [(u8, u8); 26] = [
     (32, 8),
 ];
 
-/// The records of the family.
+/// How many of the kinds of damage the family has, each in records of version 1.
+const DAMAGES: u64 = 17;
+
+/// The records of the family; those of version 2 come last.
 pub fn records() -> Vec<Vec<u8>> {
     let mut rng = Rng::new(2007);
     let mut records = vec![EXAMPLE_A.to_vec()];
@@ -59,11 +63,12 @@ pub fn records() -> Vec<Vec<u8>> {
     records.extend(edges());
     records.extend(damaged_examples());
     records.extend([turning(32), slowest(32)].iter().map(record_of));
+    records.extend(labels());
     records
 }
 
 /// Both classes 0 to 1, 1+ to 2, in thirds.
-fn thirds() -> Scheme {
+pub(crate) fn thirds() -> Scheme {
     let mut thirds = small(2, 2, 2);
     for rules in thirds.rules.chunks_exact_mut(MAX_COLUMNS).take(2) {
         rules[..2].copy_from_slice(&[1, 2]);
@@ -75,7 +80,7 @@ fn thirds() -> Scheme {
 }
 
 /// One row of three classes.
-fn three() -> Scheme {
+pub(crate) fn three() -> Scheme {
     let mut three = small(3, 3, 3);
     for rules in three.rules.chunks_exact_mut(MAX_COLUMNS).take(3) {
         rules[..3].copy_from_slice(&[1, 2, 3]);
@@ -87,7 +92,7 @@ fn three() -> Scheme {
 }
 
 /// The ready schemes as they are, and one with narrow bands.
-fn ready_schemes() -> [Scheme; 4] {
+pub(crate) fn ready_schemes() -> [Scheme; 4] {
     let ready = |number, base| plain::ready(number, base).expect("a ready scheme");
     let mut narrow = ready(3, 120_000);
     narrow.lowers[..5].copy_from_slice(&[880_000_000, 70_000_000, 3_000_000, 50_000, 0]);
@@ -102,7 +107,7 @@ fn ready_schemes() -> [Scheme; 4] {
 }
 
 /// The record of a made-up scheme; of the largest at the longest horizon.
-fn made_up(rng: &mut Rng, shape: Shape) -> Vec<u8> {
+pub(crate) fn made_up(rng: &mut Rng, shape: Shape) -> Vec<u8> {
     let mut scheme = scheme_of(rng, shape);
     if shape.classes >= 31 {
         scheme.horizon = MAX_HORIZON;
@@ -126,7 +131,7 @@ fn declined(rng: &mut Rng, kind: u64) -> Vec<Vec<u8>> {
 
 /// One class and two columns at the edges of acceptance: the lowers sum to
 /// ONE, the premium is 10,000,000 and the horizon 100.
-const EDGE: [u8; 29] = [
+pub(crate) const EDGE: [u8; 29] = [
     0x01, 0x00, 0x1D, 0x01, 0x02, 0x01, 0x64, 0x01, 0x01, 0x1D, 0xCD, 0x65, 0x00, 0x23, 0xC3, 0x46,
     0x00, 0x1D, 0xCD, 0x65, 0x00, 0x23, 0xC3, 0x46, 0x00, 0x00, 0x98, 0x96, 0x80,
 ];
@@ -148,8 +153,8 @@ fn edges() -> [Vec<u8>; 9] {
     ]
 }
 
-/// Example A cut to 6 and to 44 bytes, with version 2, with 33 classes and with
-/// 4 columns; and one byte more than a record can have, all of them 1.
+/// Example A cut to 6 and to 44 bytes, saying version 2, with 33 classes and
+/// with 4 columns; and one byte more than a record can have, all of them 1.
 fn damaged_examples() -> [Vec<u8>; 6] {
     [
         EXAMPLE_A[..6].to_vec(),
@@ -183,7 +188,7 @@ pub fn slowest(classes: u8) -> Scheme {
 }
 
 /// The record with other bytes at a place.
-fn changed(record: &[u8], place: usize, bytes: &[u8]) -> Vec<u8> {
+pub(crate) fn changed(record: &[u8], place: usize, bytes: &[u8]) -> Vec<u8> {
     let mut record = record.to_vec();
     record[place..place + bytes.len()].copy_from_slice(bytes);
     record
@@ -268,16 +273,7 @@ fn report_scheme(out: &mut String, number: u64, record: &[u8], scheme: &Scheme) 
     let horizon = u64::from(scheme.horizon);
     let years = [0, 1, 2, horizon, horizon + 1];
     report_rules(out, record, &[start, s, s + 1]);
-    for room in [record.len(), record.len() + 5, record.len() - 1] {
-        let mut bytes = vec![0xAA; room];
-        let result = plain::write(scheme, &mut bytes).map(|length| vec![length as u64]);
-        put!(
-            out,
-            "WRITE {room} {} {}\n",
-            answer(result),
-            bytes_sum(&bytes)
-        );
-    }
+    report_writes(out, scheme);
     let mixing = plain::mixing(scheme).map(|count| vec![count]);
     put!(out, "MIXING {}\n", answer(mixing));
     for class in [0, 1, start, s, s + 1] {
@@ -293,6 +289,30 @@ fn report_scheme(out: &mut String, number: u64, record: &[u8], scheme: &Scheme) 
         }
     }
     report_joins(out, number, scheme);
+}
+
+/// The scheme written in each version: with room to spare, with as many bytes
+/// as that takes, and with one less; then in versions that there are not.
+fn report_writes(out: &mut String, scheme: &Scheme) {
+    let spare = MAX_RECORD + 5;
+    for version in [1, 2] {
+        let length = report_write(out, scheme, version, spare).expect("an accepted scheme");
+        for room in [length, length - 1] {
+            let _ = report_write(out, scheme, version, room);
+        }
+    }
+    for version in [0, 3, 257] {
+        let _ = report_write(out, scheme, version, spare);
+    }
+}
+
+/// The scheme written in a version to so many bytes, and the answer.
+fn report_write(out: &mut String, scheme: &Scheme, version: u64, room: usize) -> Result<usize, u8> {
+    let mut bytes = vec![0xAA; room];
+    let written = plain::write(scheme, version, &mut bytes);
+    let told = answer(written.map(|length| vec![length as u64]));
+    put!(out, "WRITE {version} {room} {told} {}\n", bytes_sum(&bytes));
+    written
 }
 
 fn report_class(out: &mut String, number: u64, scheme: &Scheme, class: u64, years: &[u64]) {
@@ -393,8 +413,9 @@ fn report_ready(out: &mut String) {
     for (number, base) in queries {
         let ready = plain::ready(number, base);
         let result = ready.as_ref().map_err(|&cause| cause).map(|scheme| {
-            let record = record_of(scheme);
-            vec![record.len() as u64, bytes_sum(&record)]
+            let records = [1, 2].map(|version| record_in(scheme, version));
+            let sums = records.map(|record| [record.len() as u64, bytes_sum(&record)]);
+            sums.concat()
         });
         put!(out, "READY {number} {base} {}\n", answer(result));
         if let Ok(scheme) = ready {

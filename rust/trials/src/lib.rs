@@ -5,6 +5,7 @@
 
 pub mod exact;
 pub mod family;
+pub mod labels;
 pub mod made;
 pub mod picks;
 pub mod rng;

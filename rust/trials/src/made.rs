@@ -3,9 +3,9 @@
 
 use crate::rng::Rng;
 use plain::{
-    layout_of, number_at, places, put_number, Book, Figures, Layout, Scheme, END_WIDTH, LAYOUTS,
-    LENGTH_WIDTH, MAX_CLASSES, MAX_COLUMNS, MAX_COUNT, MAX_HORIZON, MAX_PAYOFF, MAX_PREMIUM,
-    MAX_RECORD, ONE, VERSION_1,
+    layout_in, layout_of, number_at, places, put_number, Book, Figures, Layout, Scheme, END_WIDTH,
+    FRONT, LAYOUTS, LENGTH_WIDTH, MAX_CLASSES, MAX_COLUMNS, MAX_COUNT, MAX_HORIZON, MAX_PAYOFF,
+    MAX_PREMIUM, MAX_RECORD, ONE, VERSION_1, VERSION_2,
 };
 
 /// How the bands of a scheme are given.
@@ -18,7 +18,7 @@ pub enum BandLists {
 }
 
 /// What is to be made. Today's schemes have shared bands and one size step, and
-/// their records version 1; asked for anything else, a maker fails.
+/// their records version 1 or 2; asked for anything else, a maker fails.
 #[derive(Clone, Copy, Debug, PartialEq, Eq)]
 pub struct Shape {
     /// The version of the record.
@@ -34,7 +34,7 @@ pub struct Shape {
 }
 
 impl Shape {
-    /// The usual shape of s classes and m columns.
+    /// The usual shape of s classes and m columns, its record of version 1.
     pub const fn of(s: u8, m: u8) -> Shape {
         Shape {
             version: VERSION_1.version,
@@ -43,6 +43,11 @@ impl Shape {
             bands: BandLists::Shared,
             sizes: 1,
         }
+    }
+
+    /// The same with a record of this version.
+    pub const fn in_version(self, version: u8) -> Shape {
+        Shape { version, ..self }
     }
 
     /// The usual shape of 1 to s classes and 1 to m columns.
@@ -64,7 +69,8 @@ impl Shape {
             0 => rng.pick(&[1, 2, most_m]),
             _ => rng.between(1, most_m),
         };
-        Shape::of(s as u8, m as u8)
+        let layout = rng.pick(&LAYOUTS);
+        Shape::of(s as u8, m as u8).in_version(layout.version)
     }
 
     /// Fails where the shape cannot be made.
@@ -81,8 +87,8 @@ impl Shape {
 
 /// Fails where no record is written in a version.
 fn check_version(version: u8) {
-    let known = VERSION_1.version;
-    assert_eq!(version, known, "no record is written in this version");
+    let known = layout_in(u64::from(version)).is_some();
+    assert!(known, "no record is written in version {version}");
 }
 
 /// An accepted scheme of any shape.
@@ -311,19 +317,25 @@ pub fn record_of(scheme: &Scheme) -> Vec<u8> {
 pub fn record_in(scheme: &Scheme, version: u8) -> Vec<u8> {
     check_version(version);
     let mut bytes = vec![0; MAX_RECORD];
-    let length = plain::write(scheme, &mut bytes).expect("an accepted scheme");
+    let length = plain::write(scheme, version.into(), &mut bytes).expect("an accepted scheme");
     bytes.truncate(length);
     bytes
 }
 
-/// The record of some accepted scheme.
+/// The record of an accepted scheme, the versions taking turns.
+pub fn record_by_turns(scheme: &Scheme, turn: u64) -> Vec<u8> {
+    let at = turn % LAYOUTS.len() as u64;
+    record_in(scheme, LAYOUTS[at as usize].version)
+}
+
+/// The record of some accepted scheme in some version.
 pub fn record(rng: &mut Rng) -> Vec<u8> {
     let shape = Shape::any(rng);
     record_in(&scheme_of(rng, shape), shape.version)
 }
 
 /// How many kinds of damage `damage` knows.
-pub const DAMAGES: u64 = 17;
+pub const DAMAGES: u64 = 19;
 
 /// A record with one or two damages; a few of these leave it accepted.
 pub fn damaged(rng: &mut Rng) -> Vec<u8> {
@@ -342,7 +354,7 @@ pub fn damaged(rng: &mut Rng) -> Vec<u8> {
 /// past its end.
 pub fn damage(rng: &mut Rng, bytes: &mut Vec<u8>, kind: u64) {
     let layout = layout_of(bytes).unwrap_or(VERSION_1);
-    if bytes.len() < layout.header {
+    if bytes.len() < FRONT {
         bytes.push(rng.draw() as u8);
         return;
     }
@@ -367,6 +379,8 @@ pub fn damage(rng: &mut Rng, bytes: &mut Vec<u8>, kind: u64) {
         14 => fields.damage_lowers(rng, bytes, column),
         15 => fields.damage_uppers(rng, bytes, column),
         16 => fields.damage_premium(rng, bytes),
+        17 => fields.damage_last_column(rng, bytes),
+        18 => fields.change_version(rng, bytes),
         _ => panic!("there is no damage of kind {kind}"),
     }
     if matches!(kind, 1 | 3) {
@@ -407,8 +421,11 @@ fn damage_front(rng: &mut Rng, bytes: &mut [u8], kind: u64) {
             (last, bytes[last].wrapping_add(rng.pick(&[1, 255])))
         }
         6 => (places::LENGTH, rng.draw() as u8),
-        // A version that there is not.
-        7 => (places::VERSION, rng.pick(&[0, NEXT_VERSION, 255])),
+        // The next version, or one that there is not.
+        7 => {
+            let next = bytes[places::VERSION].wrapping_add(1);
+            (places::VERSION, rng.pick(&[0, next, 255]))
+        }
         // s and m, past their limits or only not those of this record.
         8 => (places::CLASSES, rng.pick(&[0, 1, most_s, most_s + 1, 255])),
         9 => (places::COLUMNS, rng.pick(&[0, 1, most_m, most_m + 1, 255])),
@@ -421,9 +438,6 @@ fn damage_front(rng: &mut Rng, bytes: &mut [u8], kind: u64) {
     };
     bytes[place] = value;
 }
-
-/// The first version that there is not.
-const NEXT_VERSION: u8 = LAYOUTS[LAYOUTS.len() - 1].version + 1;
 
 /// Where the fields of a record are: its layout, s and m, whatever these are.
 struct Fields {
@@ -495,6 +509,30 @@ impl Fields {
         let value = rng.pick(&[0, MAX_PREMIUM, MAX_PREMIUM + 1, u32::MAX]);
         let at = self.layout.premium(self.s, self.m, i);
         put(bytes, at, self.layout.premium_width, value);
+    }
+
+    /// The claim number that opens the last column; in version 1 the first rule
+    /// stands there.
+    fn damage_last_column(&self, rng: &mut Rng, bytes: &mut [u8]) {
+        let m = self.m as u8;
+        let near = [m.wrapping_sub(2), m.wrapping_sub(1), m];
+        let value = rng.pick(&[0, near[0], near[1], near[2], 255]);
+        if let Some(byte) = bytes.get_mut(places::LAST_COLUMN) {
+            *byte = value;
+        }
+    }
+
+    /// The other version, half the time with as many bytes as it would have.
+    fn change_version(&self, rng: &mut Rng, bytes: &mut Vec<u8>) {
+        let other = match self.layout == VERSION_1 {
+            true => VERSION_2,
+            false => VERSION_1,
+        };
+        bytes[places::VERSION] = other.version;
+        if rng.once_in(2) {
+            bytes.resize(other.length(self.s, self.m), rng.draw() as u8);
+            set_length(bytes);
+        }
     }
 }
 

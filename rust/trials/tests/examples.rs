@@ -5,7 +5,8 @@ use plain::{
     share_sheet, sheet, total, write, Scheme, MAX_RECORD, ONE,
 };
 use trials::family::EXAMPLE_A;
-use trials::made::{cleared, record_of};
+use trials::labels::LABEL_A;
+use trials::made::{cleared, record_in, record_of};
 
 const SHEET_A: &str = "\
 SCHEME 2 3 2 2
@@ -68,11 +69,13 @@ fn scheme(
     scheme
 }
 
+/// The bands of Example A, in either version.
+const BANDS_A: &str = "2FAF0800 35A4E900 05F5E100 0BEBC200 00000000 02FAF080";
+
 #[test]
 fn example_a_record() {
-    let text = "01 002D 02 03 02 02 | 01 01 02 01 02 02 | 2FAF0800 35A4E900 05F5E100 0BEBC200 \
-                00000000 02FAF080 | 00002710 00003A98";
-    assert_eq!(bytes(text), EXAMPLE_A);
+    let text = format!("01 002D 02 03 02 02 | 01 01 02 01 02 02 | {BANDS_A} | 00002710 00003A98");
+    assert_eq!(bytes(&text), EXAMPLE_A);
     let expected = scheme(
         2,
         2,
@@ -88,7 +91,7 @@ fn example_a_record() {
     assert_eq!(cause(&expected), 0);
 
     let mut out = [0xEE; 50];
-    assert_eq!(write(&expected, &mut out), Ok(45));
+    assert_eq!(write(&expected, 1, &mut out), Ok(45));
     assert_eq!(out[..45], EXAMPLE_A);
     assert_eq!(out[45..], [0xEE; 5]);
 
@@ -113,6 +116,101 @@ fn example_a_record() {
     assert_eq!((reader.next(), reader.next()), (None, None));
     let (number, mut reader) = open(&EXAMPLE_A[..44]);
     assert_eq!((number, reader.next()), (2, None));
+}
+
+#[test]
+fn example_a_label() {
+    let text = format!("02 002C 02 03 02 02 02 | 01 01 02 01 02 02 | {BANDS_A} | 002710 003A98");
+    let label = bytes(&text);
+    assert_eq!((label.len(), &label[..]), (44, &LABEL_A[..]));
+    let a = example_a();
+    assert_eq!(read(&label), Ok(a.clone()));
+
+    let mut out = [0xEE; 50];
+    assert_eq!(write(&a, 2, &mut out), Ok(44));
+    assert_eq!(out[..44], label);
+    assert_eq!(out[44..], [0xEE; 6]);
+    assert_eq!(write(&a, 2, &mut [0xEE; 43]), Err(13));
+
+    assert_eq!(rule_row(&label, 1), [1, 1, 2]);
+    assert!(std::ptr::eq(rule_row(&label, 1), &label[8..11]));
+    assert!(std::ptr::eq(rule_row(&label, 2), &label[11..14]));
+    assert!(rule_row(&label, 3).is_empty());
+    assert_eq!(bands(&label), bands(&EXAMPLE_A));
+    let (number, mut reader) = open(&label);
+    assert_eq!((number, reader.by_ref().count()), (0, 3));
+    assert_eq!((reader.next(), reader.next()), (None, None));
+    assert_eq!(sheet(&label), sheet(&EXAMPLE_A));
+    assert_eq!(sheet(&label), SHEET_A.as_bytes());
+}
+
+/// The label of Example A with other bytes at these places.
+fn label_with(changes: &[(usize, u8)]) -> Vec<u8> {
+    let mut label = LABEL_A.to_vec();
+    for &(place, value) in changes {
+        label[place] = value;
+    }
+    label
+}
+
+#[test]
+fn labels_declined() {
+    for last in (0..=255).filter(|&last| last != 2) {
+        let label = label_with(&[(7, last)]);
+        assert_eq!(read(&label), Err(17));
+        assert_eq!(sheet(&label), b"REFUSED 17\n");
+        assert_eq!(open(&label).0, 17);
+        assert!(bands(&label).is_empty() && rule_row(&label, 1).is_empty());
+    }
+    // Before the start, and after the length and the sizes.
+    assert_eq!(read(&label_with(&[(7, 3), (5, 0)])), Err(17));
+    assert_eq!(read(&label_with(&[(5, 0)])), Err(5));
+    assert_eq!(read(&label_with(&[(7, 3), (2, 0x2B)])[..43]), Err(4));
+    assert_eq!(read(&label_with(&[(7, 3), (4, 4)])), Err(4));
+    assert_eq!(read(&label_with(&[(7, 3), (3, 33)])), Err(3));
+    assert_eq!(read(&label_with(&[(7, 3), (2, 0x2B)])), Err(2));
+    // The bytes of one version under the name of another.
+    assert_eq!(read(&label_with(&[(0, 1)])), Err(4));
+    assert_eq!(read(&label_with(&[(0, 3)])), Err(1));
+    let mut other = EXAMPLE_A;
+    other[0] = 2;
+    assert_eq!(read(&other), Err(4));
+}
+
+#[test]
+fn premiums_of_three_bytes() {
+    let mut a = example_a();
+    a.premiums[1] = 10_000_000;
+    let label = record_in(&a, 2);
+    assert_eq!(label[38..], [0x00, 0x27, 0x10, 0x98, 0x96, 0x80]);
+    assert_eq!(read(&label), Ok(a.clone()));
+    assert_eq!(read(&record_of(&a)), Ok(a.clone()));
+    for premium in [[0x98, 0x96, 0x81], [0xFF, 0x96, 0x80], [0xFF; 3]] {
+        let changes = [(41, premium[0]), (42, premium[1]), (43, premium[2])];
+        assert_eq!(read(&label_with(&changes)), Err(10));
+    }
+    a.premiums[1] = 10_000_001;
+    for version in [1, 2] {
+        assert_eq!(write(&a, version, &mut [0; 45]), Err(10));
+    }
+    // A premium that would lose its first byte.
+    a.premiums[1] = 1 << 24;
+    assert_eq!(write(&a, 2, &mut [0; 44]), Err(10));
+}
+
+#[test]
+fn versions_to_write() {
+    let mut a = example_a();
+    for version in [0, 3, 255, 256, 257, 258, (1 << 32) | 1, u64::MAX] {
+        for room in [0, 43, 44, 45, 50] {
+            let mut out = vec![0xEE; room];
+            assert_eq!(write(&a, version, &mut out), Err(1));
+            assert!(out.iter().all(|&byte| byte == 0xEE));
+        }
+    }
+    a.classes = 0;
+    assert_eq!(write(&a, 3, &mut [0; 45]), Err(1));
+    assert_eq!(write(&a, 2, &mut []), Err(3));
 }
 
 #[test]
@@ -400,6 +498,7 @@ fn limits() {
     let rules = [[32; 8]; 32];
     let rules: Vec<&[u8]> = rules.iter().map(|row| &row[..]).collect();
     let most = scheme(32, 100, &rules, &[(0, ONE as u32); 8], &[10_000_000; 32]);
-    assert_eq!((record_of(&most).len(), MAX_RECORD), (455, 455));
+    let lengths = [1, 2].map(|version| record_in(&most, version).len());
+    assert_eq!((lengths, MAX_RECORD), ([455, 424], 455));
     assert_eq!(total(&most, 100), Ok((ONE, ONE)));
 }

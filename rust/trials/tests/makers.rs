@@ -1,8 +1,14 @@
 //! The makers fail where they are asked for what they cannot make, books come
 //! in all kinds, and numbers are put and read by their width.
 
-use plain::{join, layout_of, number_at, pooled_mean, put_number, LAYOUTS, MAX_COUNT};
-use trials::made::{book, damage, pooled_book, record_in, scheme_of, BandLists, Shape, DAMAGES};
+use plain::{
+    join, layout_in, layout_of, number_at, pooled_mean, put_number, LAYOUTS, MAX_COUNT, VERSION_1,
+    VERSION_2,
+};
+use trials::made::{
+    book, damage, damaged, pooled_book, record, record_by_turns, record_in, scheme_of, BandLists,
+    Shape, DAMAGES,
+};
 use trials::rng::Rng;
 
 /// A shape that can be made.
@@ -15,22 +21,20 @@ fn make(shape: Shape) {
 #[test]
 fn the_usual_shape() {
     make(SHAPE);
+    make(SHAPE.in_version(2));
 }
 
 #[test]
-#[should_panic(expected = "no record is written in this version")]
+#[should_panic(expected = "no record is written in version 3")]
 fn a_scheme_for_another_version() {
-    make(Shape {
-        version: 2,
-        ..SHAPE
-    });
+    make(SHAPE.in_version(3));
 }
 
 #[test]
-#[should_panic(expected = "no record is written in this version")]
+#[should_panic(expected = "no record is written in version 0")]
 fn a_record_in_another_version() {
     let scheme = scheme_of(&mut Rng::new(32), SHAPE);
-    record_in(&scheme, 2);
+    record_in(&scheme, 0);
 }
 
 #[test]
@@ -61,7 +65,7 @@ fn size_steps() {
 }
 
 #[test]
-#[should_panic(expected = "there is no damage of kind 17")]
+#[should_panic(expected = "there is no damage of kind 19")]
 fn damage_of_another_kind() {
     let mut rng = Rng::new(33);
     let mut record = record_in(&scheme_of(&mut rng, SHAPE), SHAPE.version);
@@ -102,14 +106,40 @@ fn books_of_all_kinds() {
     }
 }
 
+/// Records and damaged ones come in both versions alike, and by turns.
+#[test]
+fn records_of_both_versions() {
+    let mut rng = Rng::new(36);
+    let (mut whole, mut damages) = ([0; 256], [0; 256]);
+    for _ in 0..4_000 {
+        whole[usize::from(record(&mut rng)[0])] += 1;
+        if let Some(&version) = damaged(&mut rng).first() {
+            damages[usize::from(version)] += 1;
+        }
+    }
+    assert_eq!(whole[1] + whole[2], 4_000);
+    for counts in [whole, damages] {
+        assert!(counts[1] > 1_700 && counts[2] > 1_700, "{counts:?}");
+    }
+    let scheme = scheme_of(&mut rng, SHAPE);
+    for (turn, version) in [(0, 1), (1, 2), (2, 1), (u64::MAX, 2)] {
+        assert_eq!(record_by_turns(&scheme, turn), record_in(&scheme, version));
+    }
+}
+
 #[test]
 fn layouts_by_their_version() {
+    assert_eq!(LAYOUTS, [VERSION_1, VERSION_2]);
     for layout in LAYOUTS {
         assert_eq!(layout_of(&[layout.version, 9]), Some(layout));
+        assert_eq!(layout_in(layout.version.into()), Some(layout));
+        assert_eq!(layout_in(u64::from(layout.version) + (1 << 8)), None);
+        assert_eq!(layout_in(u64::from(layout.version) + (1 << 32)), None);
     }
     let known = |version: &u8| LAYOUTS.iter().any(|layout| layout.version == *version);
     for version in (0..=255).filter(|version| !known(version)) {
         assert_eq!(layout_of(&[version]), None);
+        assert_eq!(layout_in(version.into()), None);
     }
     assert_eq!(layout_of(&[]), None);
 }

@@ -6,11 +6,10 @@ use mathlib.Core.Bool.{Bool, true, false, cond}
 use mathlib.Core.List.{List}
 use Rattle.scheme.specs.FirstCause.{orElse}
 use Rattle.scheme.specs.Cause.{causeOf}
-use Rattle.scheme.specs.Laws.FirstCause.{second-none, cause-first, cause-second}
+use Rattle.scheme.specs.Laws.FirstCause.{cause-first, cause-second}
 use Rattle.record_spec.specs.declared.ReadAnswer.{ReadAnswer}
-use Rattle.record_spec.specs.Layout.{schemeIn}
-use Rattle.record_spec.specs.Read.{frameCause, readCause, readAnswer}
-use Rattle.record_spec.specs.Laws.Read.{read-cause, read-passed, read-in}
+use Rattle.record_spec.specs.Read.{readCause, readAnswer}
+use Rattle.record_spec.specs.Laws.Read.{scheme-none, read-cause, read-passed, read-in}
 
 -- A test's number is the one that it gives, or 0.
 pub cause-only : (b : Bool) (k : ℕ) {n : ℕ} → n ≡ cond b k 0 → (n ≡ 0 → ⊥) → n ≡ k
@@ -27,5 +26,4 @@ module _ (bytes : List ℕ) {a : ReadAnswer} (is : a ≡ readAnswer bytes) where
 
   -- The scheme that is read has no cause.
   pub passed-scheme : a .number ≡ 0 → causeOf (a .scheme) ≡ 0
-  passed-scheme none =
-      ap causeOf (read-in bytes is none) ∙ second-none (frameCause bytes) (causeOf (schemeIn bytes)) (read-passed bytes is none)
+  passed-scheme none = ap causeOf (read-in bytes is none) ∙ scheme-none bytes (read-passed bytes is none)

@@ -15,7 +15,7 @@ use Rattle.record_spec.specs.Layout.{schemeIn}
 use Rattle.record_spec.specs.Read.{readCause}
 use Rattle.mixing_spec.specs.MixingAnswer.{mixesScheme, firstCount, mixingNumber}
 use Rattle.mixing_spec.specs.Theorems.{ShortestCount, first-shortest, answer-some, never-mixes}
-use Rattle.sheet_spec.specs.Laws.Space.{read-cause-most}
+use Rattle.sheet_spec.specs.Laws.Space.{read-number}
 use Rattle.joguyvi_spec.specs.Buffers.{bufferCause}
 use Rattle.joguyvi_spec.specs.Mixing.{MixingCall}
 use Rattle.joguyvi_spec.specs.Laws.Buffers.{buffer-out, buffer-fits}
@@ -30,7 +30,7 @@ mixing-shortest bytes out {number} w z =
 -- 16 is neither a cause of reading nor one of the scheme, nor that of the buffer.
 pub mixing-never : (bytes out : List ℕ) {number : ℕ} {out′ : List ℕ} → MixingCall bytes out number out′ → number ≡ 16 → (t : ℕ) → 1 ≤ t → mixesScheme (schemeIn bytes) t ≡ false
 mixing-never bytes out {number} w e =
-    ⊎-elim (λ early. absurd (omega (arith, early, read-cause-most bytes)))
+    ⊎-elim (λ early. absurd (⊎-elim (λ l. omega (arith, early)) (λ other. omega (arith, early)) (read-number bytes)))
     (λ late. by (cause-either (mixingNumber s) (bufferCause 1 out) (late .1)))
     (cause-either (readCause bytes) (orElse (mixingNumber s) (bufferCause 1 out)) (sym (w .answer) ∙ e))
   where

@@ -45,8 +45,8 @@ module _ (bytes : List ℕ) (class : ℕ) where
       let less : suc (class - 1) ≤ classesIn bytes = omega arith in
       omega (arith, mul-le-mul-right (columnsIn bytes) less)
 
-  pub row-shown : ruleRowCause bytes class ≡ 0 → take (place + columnsIn bytes - place) (drop place bytes) ≡ ruleRow bytes class
+  pub row-shown : {at : ℕ} → at ≡ place → ruleRowCause bytes class ≡ 0 → take (at + columnsIn bytes - at) (drop at bytes) ≡ ruleRow bytes class
   unfolding ruleRow
-  row-shown none =
-      let size : place + columnsIn bytes - place ≡ columnsIn bytes = omega arith in
-      rw (size, eq-eqb (ruleRowCause bytes class) 0 none)
+  row-shown {at} e none =
+      let size : at + columnsIn bytes - at ≡ columnsIn bytes = omega arith in
+      rw (size, e, eq-eqb (ruleRowCause bytes class) 0 none)

@@ -1,32 +1,24 @@
--- The causes 1 to 4 of a record's bytes, by cases.
-use Prim.Native.Nat.{ℕ, _+_, _*_, _≤_, _<_}
-use mathlib.Core.Path.{_≡_, refl, sym, _∙_}
+-- The causes 1 to 4 and 17 of a record's bytes, by cases.
+use Prim.Native.Nat.{ℕ, _+_, _-_, _≤_}
+use mathlib.Core.Path.{_≡_, refl, ap, sym, _∙_, subst}
 use mathlib.Core.Bool.{not}
 use mathlib.Core.List.{List}
+use mathlib.Core.Logic.{_⊎_, inl, inr}
 use native.Mathlib.Omega.{arith}
-use native.Mathlib.Nat.{mul-le-mul}
 use lib.Dec.{eqb, ltb}
 use lib.ListN.{length, getD}
 use borrow.Author.Tests.{ltb-false, eqb-true, eqb-false, not-false, eq-eqb, ne-eqb, le-ltb}
-use Rattle.setchain.specs.Laws.Tests.{or-false-left, or-false-right}
+use Rattle.setchain.specs.Tests.{anyBelow}
+use Rattle.setchain.specs.Laws.Tests.{or-false, or-false-left, or-false-right, any-clear, any-false}
 use Rattle.scheme.specs.FirstCause.{_when_, orElse}
 use Rattle.scheme.specs.Cause.{sizesOut, sizesCause}
-use Rattle.scheme.specs.Laws.FirstCause.{first-cause, second-cause, second-none, test-none, or-assoc, Tells, Told, all-fit, none-applies, first-most}
+use Rattle.scheme.specs.Laws.FirstCause.{first-cause, second-cause, first-none, second-none, test-none, or-assoc, Tells, Told, all-fit, none-applies, first-holds}
 use Rattle.scheme.specs.Laws.Cause.{inside-outside, sizes-inside}
 use Rattle.big_endian_spec.specs.Numbers.{beAt}
-use Rattle.record_spec.specs.Layout.{HEADER, layoutIn, lengthOf, classesIn, columnsIn}
-use Rattle.record_spec.specs.Frame.{VersionFits, FieldFits, SizesFit, LengthFits, Framed}
-use Rattle.record_spec.specs.Read.{versionOut, fieldOut, lengthOut, frameTable, frameCause}
-
--- The first byte alone tells the layout.
-pub layout-same : (a b : List ℕ) → getD a 0 0 ≡ getD b 0 0 → layoutIn a ≡ layoutIn b
-unfolding layoutIn
-layout-same a b e = refl
-
--- The layout that is found has no further bytes in its header.
-none-further : (bytes : List ℕ) (k : ℕ) → k < layoutIn bytes .further → getD bytes (HEADER + k) 0 ≡ layoutIn bytes .holds (columnsIn bytes) k
-unfolding layoutIn
-none-further bytes k l = absurd (omega arith)
+use Rattle.record_spec.specs.Layout.{Layout, HEADER, otherVersion, versionIn, layoutIn, lengthOf, classesIn, columnsIn}
+use Rattle.record_spec.specs.Frame.{VersionFits, FieldFits, SizesFit, LengthFits, FurtherFits, Framed}
+use Rattle.record_spec.specs.Read.{versionOut, fieldOut, lengthOut, furtherOut, frameTable, frameCause}
+use Rattle.record_spec.specs.Laws.Layout.{first-layout, second-layout, length-most, version-told, version-known}
 
 -- Each test of the table tells what its line asks for.
 module _ (bytes : List ℕ) where
@@ -34,9 +26,9 @@ module _ (bytes : List ℕ) where
   version-tells =
       record {
         fits = λ e.
-            let some : (length bytes ≡ 0 → ⊥) = eqb-false (length bytes) 0 (or-false-left (eqb (length bytes) 0) (not (eqb (getD bytes 0 0) (layoutIn bytes .version))) e) in
-            record { some = omega arith; version = eqb-true (getD bytes 0 0) (layoutIn bytes .version) (not-false _ (or-false-right (eqb (length bytes) 0) _ e)) };
-        passes = λ h. simp (ne-eqb (length bytes) 0 (λ e. omega (arith, h .some)), eq-eqb (getD bytes 0 0) (layoutIn bytes .version) (h .version));
+            let some : (length bytes ≡ 0 → ⊥) = eqb-false (length bytes) 0 (or-false-left (eqb (length bytes) 0) (otherVersion (versionIn bytes)) e) in
+            record { some = omega arith; version = version-told (versionIn bytes) (or-false-right (eqb (length bytes) 0) (otherVersion (versionIn bytes)) e) };
+        passes = λ h. or-false (ne-eqb (length bytes) 0 (λ e. omega (arith, h .some))) (version-known (versionIn bytes) (h .version));
       }
 
   field-tells : Tells (fieldOut bytes) (FieldFits bytes)
@@ -66,14 +58,23 @@ module _ (bytes : List ℕ) where
         passes = λ h. simp (eq-eqb (length bytes) (lengthOf (layoutIn bytes) (classesIn bytes) (columnsIn bytes)) (h .whole));
       }
 
-  told : Told (frameTable bytes)
-  told = ((omega arith, version-tells), ((omega arith, field-tells), ((omega arith, sizes-tell), ((omega arith, length-tells), tt))))
+  further-tells : Tells (furtherOut bytes) (FurtherFits bytes)
+  further-tells =
+      let y : Layout = layoutIn bytes in
+      record {
+        fits = λ e. record { further = λ k l. eqb-true (getD bytes (HEADER + k) 0) (y .holds (columnsIn bytes) k) (not-false _ (any-false (y .further) _ e k l)) };
+        passes = λ h. any-clear (y .further) _ (λ k l. simp (eq-eqb (getD bytes (HEADER + k) 0) (y .holds (columnsIn bytes) k) (h .further k l)));
+      }
 
-  -- Bytes without the causes 1 to 4 are framed.
+  told : Told (frameTable bytes)
+  told =
+      ((omega arith, version-tells), ((omega arith, field-tells), ((omega arith, sizes-tell), ((omega arith, length-tells), ((omega arith, further-tells), tt)))))
+
+  -- Bytes without the causes 1 to 4 and 17 are framed.
   pub frame-clear : frameCause bytes ≡ 0 → Framed bytes
   unfolding frameCause
   frame-clear e =
-      let (version, (field, (sizes, (length, last)))) = all-fit (frameTable bytes) told e in
+      let (version, (field, (sizes, (length, (further, last))))) = all-fit (frameTable bytes) told e in
       record {
         version = version .version;
         header = field .header;
@@ -83,10 +84,10 @@ module _ (bytes : List ℕ) where
         someColumn = sizes .someColumn;
         columns = sizes .columns;
         whole = length .whole;
-        further = none-further bytes;
+        further = further .further;
       }
 
-  -- Framed bytes have none of the causes 1 to 4.
+  -- Framed bytes have none of the causes 1 to 4 and 17.
   pub framed : Framed bytes → frameCause bytes ≡ 0
   unfolding frameCause
   framed h =
@@ -96,28 +97,41 @@ module _ (bytes : List ℕ) where
           record { header = h .header; field = h .field },
           (
             record { someClass = h .someClass; classes = h .classes; someColumn = h .someColumn; columns = h .columns },
-            (record { whole = h .whole }, tt),
+            (record { whole = h .whole }, (record { further = h .further }, tt)),
           ),
         ),
       )
 
-  -- They are 4 at most.
-  pub frame-most : frameCause bytes ≤ 4
+  -- They are 4 at most, or 17.
+  pub frame-number : (frameCause bytes ≤ 4) ⊎ (frameCause bytes ≡ 17)
   unfolding frameCause
-  frame-most = first-most 4 (frameTable bytes) (omega arith, (omega arith, (omega arith, (omega arith, tt))))
+  frame-number =
+      first-holds (λ n. (n ≤ 4) ⊎ (n ≡ 17)) (inl (omega arith)) (frameTable bytes)
+      (inl (omega arith), (inl (omega arith), (inl (omega arith), (inl (omega arith), (inr refl, tt)))))
 
 -- The header of bytes without the causes 1 and 2.
 pub head-long : (bytes : List ℕ) → orElse (1 when versionOut bytes) (2 when fieldOut bytes) ≡ 0 → HEADER ≤ length bytes
 head-long bytes e = field-tells bytes .fits (test-none (fieldOut bytes) 2 (omega arith) (second-none (1 when versionOut bytes) (2 when fieldOut bytes) e)) .header
 
+-- Cause 17 by the version and byte 7.
+module _ (bytes : List ℕ) where
+  pub none-further : (versionIn bytes ≡ 2 → ⊥) → 0 ≡ 17 when furtherOut bytes
+  unfolding anyBelow
+  none-further other = rw (first-layout other)
+
+  pub last-differs : versionIn bytes ≡ 2 → (getD bytes 7 0 ≡ columnsIn bytes - 1 → ⊥) → 17 ≡ 17 when furtherOut bytes
+  unfolding anyBelow
+  last-differs two other = rw (second-layout two, ne-eqb (getD bytes 7 0) (columnsIn bytes - 1) other)
+
+  pub last-same : versionIn bytes ≡ 2 → getD bytes 7 0 ≡ columnsIn bytes - 1 → 0 ≡ 17 when furtherOut bytes
+  unfolding anyBelow
+  last-same two same = rw (second-layout two, eq-eqb (getD bytes 7 0) (columnsIn bytes - 1) same)
+
 -- "at most 455".
 pub framed-short : {bytes : List ℕ} → Framed bytes → length bytes ≤ 455
-unfolding layoutIn
-framed-short {bytes} f =
-    let most : classesIn bytes * columnsIn bytes ≤ 32 * 8 = mul-le-mul (f .classes) (f .columns) in
-    omega (arith, f .whole, f .classes, f .columns)
+framed-short {bytes} f = subst (λ n. n ≤ 455) (sym (f .whole)) (length-most (versionIn bytes) (f .classes) (f .columns))
 
--- The causes 1 to 4 in two steps.
+-- The causes 1 to 4 and 17 in three steps.
 module _ (bytes : List ℕ) where
   head : ℕ
   head = orElse (1 when versionOut bytes) (2 when fieldOut bytes)
@@ -125,15 +139,33 @@ module _ (bytes : List ℕ) where
   shape : ℕ
   shape = orElse (sizesCause (classesIn bytes) (columnsIn bytes)) (4 when lengthOut bytes)
 
-  in-turn : frameCause bytes ≡ orElse head shape
-  unfolding frameCause head shape
-  in-turn = sym (or-assoc (1 when versionOut bytes) (2 when fieldOut bytes) shape)
+  last : ℕ
+  last = 17 when furtherOut bytes
+
+  in-turn : frameCause bytes ≡ orElse head (orElse shape last)
+  unfolding frameCause head shape last
+  in-turn =
+      sym
+      (or-assoc (1 when versionOut bytes) (2 when fieldOut bytes) (orElse shape last)
+      ∙ ap (λ n. orElse (1 when versionOut bytes) (orElse (2 when fieldOut bytes) n)) (or-assoc (sizesCause (classesIn bytes) (columnsIn bytes)) (4 when lengthOut bytes) last))
 
   pub frame-head : {number : ℕ} → number ≡ orElse (1 when versionOut bytes) (2 when fieldOut bytes) → (number ≡ 0 → ⊥) → number ≡ frameCause bytes
   unfolding head
-  frame-head e some = e ∙ sym (in-turn ∙ first-cause head shape (λ z. some (e ∙ z)))
+  frame-head e some = e ∙ sym (in-turn ∙ first-cause head (orElse shape last) (λ z. some (e ∙ z)))
 
   pub frame-shape : {number : ℕ} → orElse (1 when versionOut bytes) (2 when fieldOut bytes) ≡ 0
-      → number ≡ orElse (sizesCause (classesIn bytes) (columnsIn bytes)) (4 when lengthOut bytes) → number ≡ frameCause bytes
+      → number ≡ orElse (sizesCause (classesIn bytes) (columnsIn bytes)) (4 when lengthOut bytes) → (number ≡ 0 → ⊥) → number ≡ frameCause bytes
   unfolding head shape
-  frame-shape none e = e ∙ sym (in-turn ∙ second-cause head shape none)
+  frame-shape none e some = e ∙ sym (in-turn ∙ second-cause head (orElse shape last) none ∙ first-cause shape last (λ z. some (e ∙ z)))
+
+  pub frame-last : {number : ℕ} → orElse (1 when versionOut bytes) (2 when fieldOut bytes) ≡ 0
+      → orElse (sizesCause (classesIn bytes) (columnsIn bytes)) (4 when lengthOut bytes) ≡ 0 → number ≡ 17 when furtherOut bytes → number ≡ frameCause bytes
+  unfolding head shape last
+  frame-last none fits e = e ∙ sym (in-turn ∙ second-cause head (orElse shape last) none ∙ second-cause shape last fits)
+
+  -- What bytes without the causes 3 and 4 have.
+  pub shape-fits : orElse (sizesCause (classesIn bytes) (columnsIn bytes)) (4 when lengthOut bytes) ≡ 0 → SizesFit bytes × LengthFits bytes
+  shape-fits e = (
+    sizes-tell bytes .fits (test-none _ 3 (omega arith) (first-none (sizesCause (classesIn bytes) (columnsIn bytes)) (4 when lengthOut bytes) e)),
+    length-tells bytes .fits (test-none (lengthOut bytes) 4 (omega arith) (second-none (sizesCause (classesIn bytes) (columnsIn bytes)) (4 when lengthOut bytes) e)),
+  )

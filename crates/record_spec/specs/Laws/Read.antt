@@ -5,7 +5,7 @@ use mathlib.Core.List.{List}
 use native.Mathlib.Decide.{ℕ-discrete}
 use borrow.Author.Tests.{eq-eqb, ne-eqb}
 use Rattle.scheme.specs.Cause.{causeOf}
-use Rattle.scheme.specs.Laws.FirstCause.{first-cause, second-cause, first-none}
+use Rattle.scheme.specs.Laws.FirstCause.{first-cause, second-cause, first-none, second-none}
 use Rattle.record_spec.specs.declared.ReadAnswer.{ReadAnswer}
 use Rattle.record_spec.specs.Layout.{schemeIn}
 use Rattle.record_spec.specs.Frame.{Framed}
@@ -13,7 +13,7 @@ use Rattle.record_spec.specs.Read.{frameCause, readCause, declinedWith, 
 use Rattle.record_spec.specs.Laws.Frame.{frame-clear}
 
 module _ (bytes : List ℕ) where
-  -- One of the causes 1 to 4 is the bytes' cause.
+  -- One of the causes 1 to 4 and 17 is the bytes' cause.
   pub frame-first : {n : ℕ} → n ≡ frameCause bytes → (n ≡ 0 → ⊥) → n ≡ readCause bytes
   frame-first e some = rw e (sym (first-cause (frameCause bytes) (causeOf (schemeIn bytes)) (λ z. some (e ∙ z))))
 
@@ -32,6 +32,10 @@ module _ (bytes : List ℕ) where
   -- Bytes without a cause are framed.
   pub read-framed : readCause bytes ≡ 0 → Framed bytes
   read-framed e = frame-clear bytes (first-none (frameCause bytes) (causeOf (schemeIn bytes)) e)
+
+  -- Bytes without a cause hold a scheme without one.
+  pub scheme-none : readCause bytes ≡ 0 → causeOf (schemeIn bytes) ≡ 0
+  scheme-none e = second-none (frameCause bytes) (causeOf (schemeIn bytes)) e
 
   -- What a reading answers.
   pub read-number : readAnswer bytes .number ≡ readCause bytes

@@ -11,7 +11,7 @@ use Rattle.big_endian_spec.specs.Numbers.{beBytes}
 use Rattle.record_spec.specs.Joined.{joined}
 use Rattle.record_spec.specs.Write.{recordOf, recordLength}
 use Rattle.scheme.specs.Tables.{tab}
-use Rattle.record_spec.specs.Layout.{Layout, HEADER, version1, headerLength, lengthOf, BAND_WIDTH}
+use Rattle.record_spec.specs.Layout.{Layout, HEADER, layoutOf, headerLength, lengthOf, BAND_WIDTH}
 use Rattle.record_spec.specs.Bytes.{bandBytes, headerBytes, headerOf, rulesOf, bandsOf, premiumsOf, bytesOf}
 use Rattle.scheme.specs.Laws.Tab.{length-tab, getD-tab}
 use Rattle.record_write.specs.Laws.Lists.{length-joined, sets-4}
@@ -62,10 +62,11 @@ module _ (y : Layout) (s : Scheme) where
       ∙ ap (λ n. bytesOf y s ++ drop n l) length-bytes
 
 -- What the writer lays, in its own terms.
-pub wrote : (s : Scheme) (l : List ℕ) {size : ℕ} {h r m p : List ℕ} → size ≡ recordLength s → size ≤ length l
-    → h ≡ sets l 0 (headerBytes version1 size (s .classes) (s .columns) (s .start) (s .horizon))
-    → r ≡ sets h HEADER (joined (s .classes) (λ i. tab (s .columns) (λ k. getD (s .rules) (i * CELL_STRIDE + k) 0)))
-    → m ≡ sets r (HEADER + s .classes * s .columns) (joined (s .columns) (λ k. bandBytes (getD (s .lowers) k 0) (getD (s .uppers) k 0)))
-    → p ≡ sets m (HEADER + s .classes * s .columns + s .columns * BAND_WIDTH) (joined (s .classes) (λ i. beBytes 4 (getD (s .premiums) i 0)))
-    → p ≡ recordOf s ++ drop size l
-wrote s l es fits eh er em ep = rw (ep, em, er, eh, es) (laid version1 s l (rw es at fits))
+pub wrote : (s : Scheme) (version : ℕ) (l : List ℕ) {size header width : ℕ} {h r m p : List ℕ} → size ≡ recordLength s version → size ≤ length l
+    → header ≡ headerLength (layoutOf version) → width ≡ layoutOf version .width
+    → h ≡ sets l 0 (headerBytes (layoutOf version) size (s .classes) (s .columns) (s .start) (s .horizon))
+    → r ≡ sets h header (joined (s .classes) (λ i. tab (s .columns) (λ k. getD (s .rules) (i * CELL_STRIDE + k) 0)))
+    → m ≡ sets r (header + s .classes * s .columns) (joined (s .columns) (λ k. bandBytes (getD (s .lowers) k 0) (getD (s .uppers) k 0)))
+    → p ≡ sets m (header + s .classes * s .columns + s .columns * BAND_WIDTH) (joined (s .classes) (λ i. beBytes width (getD (s .premiums) i 0)))
+    → p ≡ recordOf s version ++ drop size l
+wrote s version l es fits at-rules wide eh er em ep = rw (ep, em, er, eh, es, at-rules, wide) (laid (layoutOf version) s l (rw es at fits))

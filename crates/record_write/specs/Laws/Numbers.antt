@@ -1,13 +1,13 @@
 -- The bytes of a band and of the header, put one after another.
-use Prim.Native.Nat.{ℕ, _+_, _≤_}
-use mathlib.Core.Path.{_≡_, refl}
+use Prim.Native.Nat.{ℕ, _+_, _-_, _≤_}
+use mathlib.Core.Path.{_≡_}
 use mathlib.Core.List.{List}
 use native.Mathlib.Omega.{arith}
 use lib.ListN.{length, set, length-append}
 use lib.Seq.{sets, length-sets}
 use Rattle.big_endian_spec.specs.Numbers.{beBytes, numberPut}
 use Rattle.scheme.specs.Tables.{tab}
-use Rattle.record_spec.specs.Layout.{version1, END_WIDTH, BAND_WIDTH}
+use Rattle.record_spec.specs.Layout.{layoutOf, END_WIDTH, BAND_WIDTH}
 use Rattle.record_spec.specs.Bytes.{bandBytes, headerBytes}
 use Rattle.big_endian_spec.specs.Laws.{sets-append, length-beBytes, put-held}
 
@@ -23,8 +23,15 @@ put-band l p lower upper fits =
     let next : p + END_WIDTH ≡ p + length (beBytes END_WIDTH lower) = omega (arith, length-beBytes END_WIDTH lower) in
     rw (low, high, next) (sets-append l p (beBytes END_WIDTH lower) (beBytes END_WIDTH upper))
 
--- The header's bytes, one by one.
-pub put-header : (l : List ℕ) (size s m start horizon : ℕ)
-    → set (set (set (set (sets (set l 0 1) 1 (beBytes 2 size)) 3 s) 4 m) 5 start) 6 horizon ≡ sets l 0 (headerBytes version1 size s m start horizon)
-unfolding headerBytes beBytes tab
-put-header l size s m start horizon = refl
+-- The header's bytes, one by one, in version 1 and in version 2.
+module _ (l : List ℕ) (size s m start horizon : ℕ) {version : ℕ} where
+  pub put-header : version ≡ 1
+      → set (set (set (set (sets (set l 0 version) 1 (beBytes 2 size)) 3 s) 4 m) 5 start) 6 horizon ≡ sets l 0 (headerBytes (layoutOf version) size s m start horizon)
+  unfolding layoutOf headerBytes beBytes tab
+  put-header one = rw one
+
+  pub put-label-header : version ≡ 2
+      → set (set (set (set (set (sets (set l 0 version) 1 (beBytes 2 size)) 3 s) 4 m) 5 start) 6 horizon) 7 (m - 1)
+      ≡ sets l 0 (headerBytes (layoutOf version) size s m start horizon)
+  unfolding layoutOf headerBytes beBytes tab
+  put-label-header two = rw two

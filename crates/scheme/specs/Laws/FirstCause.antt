@@ -1,5 +1,5 @@
 -- Laws of the first cause of a list, and the table of causes by its lines: none applies exactly where everything fits.
-use Prim.Native.Nat.{ℕ, _≤_, _<_}
+use Prim.Native.Nat.{ℕ, _<_}
 use mathlib.Core.Path.{_≡_, refl, ap, sym, _∙_, subst, subst₂}
 use mathlib.Core.Bool.{Bool, true, false, cond, true≢false}
 use mathlib.Core.List.{List, [], _∷_}
@@ -144,25 +144,26 @@ none-applies (line ∷ rest) ((positive, tells), told) (h, all) =
     ∙ second-cause (line .number when line .applies) _ (cond-false (line .applies) (line .number) 0 (tells .passes h))
     ∙ none-applies rest told all
 
--- The numbers of a table's lines are at most this.
-abbrev pub NumbersWithin : ℕ → List Line → Type 0
-NumbersWithin most [] = Unit {0}
-NumbersWithin most (line ∷ rest) = (line .number ≤ most) × NumbersWithin most rest
-
-when-most : (b : Bool) (number most : ℕ) → number ≤ most → number when b ≤ most
-when-most true number most h = h
-when-most false number most h = omega arith
-
-pub or-most : (a b most : ℕ) → a ≤ most → b ≤ most → orElse a b ≤ most
-or-most a b most h k = by (eqb a 0)
+-- What holds of either cause holds of the first of them.
+pub or-holds : (P : ℕ → Type 0) (a b : ℕ) → P a → P b → P (orElse a b)
+or-holds P a b h k = by (eqb a 0)
   where
-    by : (t : Bool) → cond t b a ≤ most
+    by : (t : Bool) → P (cond t b a)
     by true = k
     by false = h
 
--- So is the first that applies.
-pub first-most : (most : ℕ) (lines : List Line) → NumbersWithin most lines → firstOf (tests lines) ≤ most
-first-most most [] all = omega arith
-first-most most (line ∷ rest) (h, all) =
-    subst (λ n. n ≤ most) (sym (first-more (line .number when line .applies) (tests rest)))
-    (or-most (line .number when line .applies) (firstOf (tests rest)) most (when-most (line .applies) (line .number) most h) (first-most most rest all))
+when-holds : (P : ℕ → Type 0) (b : Bool) {number : ℕ} → P 0 → P number → P (number when b)
+when-holds P true none h = h
+when-holds P false none h = none
+
+-- The number of every line of a table has this property.
+abbrev pub Numbers : (ℕ → Type 0) → List Line → Type 0
+Numbers P [] = Unit {0}
+Numbers P (line ∷ rest) = P (line .number) × Numbers P rest
+
+-- So has the first that applies, where 0 has it.
+pub first-holds : (P : ℕ → Type 0) → P 0 → (lines : List Line) → Numbers P lines → P (firstOf (tests lines))
+first-holds P none [] all = none
+first-holds P none (line ∷ rest) (h, all) =
+    subst P (sym (first-more (line .number when line .applies) (tests rest)))
+    (or-holds P (line .number when line .applies) (firstOf (tests rest)) (when-holds P (line .applies) none h) (first-holds P none rest all))

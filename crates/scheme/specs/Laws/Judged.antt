@@ -13,7 +13,7 @@ use Rattle.scheme.specs.declared.Scheme.{Scheme}
 use Rattle.scheme.specs.Access.{cellCount, ruleAt, lowerAt, upperAt, premiumAt}
 use Rattle.scheme.specs.Accepted.{SizeFits, StartFits, HorizonFits, RulesFit, BandsFit, SumsFit, PremiumsFit, Accepted}
 use Rattle.scheme.specs.Cause.{outside, bandTest, sizeOut, startOut, horizonOut, ruleOut, bandOut, sumOut, premiumOut, schemeTable, causeOf}
-use Rattle.scheme.specs.Laws.FirstCause.{Tells, Told, Judged, judged, all-fit, none-applies, first-most}
+use Rattle.scheme.specs.Laws.FirstCause.{Tells, Told, Judged, judged, all-fit, none-applies, first-holds}
 use Rattle.scheme.specs.Laws.Cause.{outside-false, inside-outside}
 
 -- A test over all classes and cells, read at each.
@@ -152,4 +152,4 @@ module _ (s : Scheme) where
   -- The causes of a scheme are 10 at most.
   pub cause-most : causeOf s ≤ 10
   unfolding causeOf
-  cause-most = first-most 10 (schemeTable s) (omega arith, (omega arith, (omega arith, (omega arith, (omega arith, (omega arith, (omega arith, tt)))))))
+  cause-most = first-holds (λ n. n ≤ 10) (omega arith) (schemeTable s) (omega arith, (omega arith, (omega arith, (omega arith, (omega arith, (omega arith, (omega arith, tt)))))))

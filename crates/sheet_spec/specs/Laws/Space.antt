@@ -3,6 +3,7 @@ use Prim.Native.Nat.{ℕ, suc, _+_, _*_, _≤_}
 use mathlib.Core.Path.{_≡_, refl}
 use mathlib.Core.Bool.{Bool, true, false, cond}
 use mathlib.Core.List.{List, _++_}
+use mathlib.Core.Logic.{_⊎_, inl, inr, ⊎-elim}
 use native.Mathlib.Omega.{arith}
 use native.Mathlib.Nat.{mul-le-mul}
 use native.Mathlib.Decide.{ℕ-discrete}
@@ -10,14 +11,15 @@ use borrow.Author.Tests.{eq-eqb, ne-eqb}
 use lib.Dec.{ltb}
 use lib.ListN.{length, take, drop, replicate, length-replicate}
 use lib.Seq.{length-take-le, take-at}
-use Rattle.scheme.specs.Laws.FirstCause.{second-none, or-most}
+use Rattle.scheme.specs.Laws.FirstCause.{or-holds}
 use Rattle.scheme.specs.declared.Scheme.{Scheme}
 use Rattle.scheme.specs.Accepted.{Accepted}
 use Rattle.scheme.specs.Cause.{causeOf}
 use Rattle.scheme.specs.Laws.Judged.{accepted-cause, cause-most}
 use Rattle.record_spec.specs.Layout.{schemeIn}
 use Rattle.record_spec.specs.Read.{frameCause, readCause}
-use Rattle.record_spec.specs.Laws.Frame.{frame-most}
+use Rattle.record_spec.specs.Laws.Frame.{frame-number}
+use Rattle.record_spec.specs.Laws.Read.{scheme-none}
 use Rattle.record_spec.specs.declared.WriteAnswer.the-variants.{Written, Declined}
 use Rattle.sheet_spec.specs.Sheet.{classLines, yearPremium, yearLines, sheetOf, refusedLine, sheetText}
 use Rattle.sheet_spec.specs.Answer.{spaceOf, spaceFor, sheetAnswer, sheetLeaves, TextPromise}
@@ -64,13 +66,17 @@ module _ (s : Scheme) (ok : Accepted s) where
 pub zeros-part : (m n : ℕ) → n ≤ m → length {A = ℕ} (take n (replicate m 0)) ≡ n
 zeros-part m n h = length-take-le n (replicate m 0) (omega (arith, length-replicate {A = ℕ} m 0))
 
--- The causes of a record are 10 at most.
-pub read-cause-most : (bytes : List ℕ) → readCause bytes ≤ 10
-read-cause-most bytes = or-most (frameCause bytes) (causeOf (schemeIn bytes)) 10 (omega (arith, frame-most bytes)) (cause-most (schemeIn bytes))
+-- The causes of a record are 10 at most, or 17.
+pub read-number : (bytes : List ℕ) → (readCause bytes ≤ 10) ⊎ (readCause bytes ≡ 17)
+read-number bytes =
+    or-holds (λ n. (n ≤ 10) ⊎ (n ≡ 17)) (frameCause bytes) (causeOf (schemeIn bytes)) (⊎-elim (λ l. inl (omega arith)) inr (frame-number bytes)) (inl (cause-most (schemeIn bytes)))
+
+pub read-cause-most : (bytes : List ℕ) → readCause bytes ≤ 17
+read-cause-most bytes = ⊎-elim (λ l. omega arith) (λ e. omega arith) (read-number bytes)
 
 -- Bytes without a cause hold an accepted scheme.
 pub read-accepted : (bytes : List ℕ) → readCause bytes ≡ 0 → Accepted (schemeIn bytes)
-read-accepted bytes e = accepted-cause _ (second-none (frameCause bytes) (causeOf (schemeIn bytes)) e)
+read-accepted bytes e = accepted-cause _ (scheme-none bytes e)
 
 -- The text and the space of any bytes, by cases.
 module _ (bytes : List ℕ) where

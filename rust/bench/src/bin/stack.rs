@@ -56,11 +56,11 @@ fn used<F: FnMut()>(mut call: F) -> usize {
     depths[0].max(depths[1])
 }
 
-/// The record of the largest scheme; several are tried.
-fn largest(seed: u64) -> Vec<u8> {
+/// The record of the largest scheme in a version; several are tried.
+fn largest(seed: u64, version: u8) -> Vec<u8> {
     let mut scheme = made::scheme_of(&mut Rng::new(seed), Shape::of(32, 8));
     scheme.horizon = 100;
-    made::record_of(&scheme)
+    made::record_in(&scheme, version)
 }
 
 /// A call's name, and its depth.
@@ -127,11 +127,10 @@ fn pooled(record: &[u8]) -> [Depth; 5] {
     ]
 }
 
-/// The depth of each other call.
-fn others(record: &[u8]) -> [Depth; 6] {
+/// The depth of each other call that writes no record.
+fn others(record: &[u8]) -> [Depth; 4] {
     let mut text = vec![0; library::SHEET_ROOM];
     let mut length = [0];
-    let mut bytes = [0; library::RECORD_ROOM];
     let payoff: Vec<u64> = (1..=32).collect();
     let (mut figure, mut row) = ([0], [0; 32]);
     [
@@ -153,13 +152,29 @@ fn others(record: &[u8]) -> [Depth; 6] {
             }),
         ),
         ("check", used(|| library::check(record).expect("a record"))),
+    ]
+}
+
+/// The depth of each call that writes a record, by its version.
+fn writers(record: &[u8]) -> [Depth; 4] {
+    let mut bytes = [0; library::RECORD_ROOM];
+    let mut length = [0];
+    [
         (
             "rewrite",
-            used(|| library::rewrite(record, &mut bytes, &mut length).expect("a record")),
+            used(|| library::rewrite(record, 1, &mut bytes, &mut length).expect("a record")),
+        ),
+        (
+            "rewrite as 2",
+            used(|| library::rewrite(record, 2, &mut bytes, &mut length).expect("a record")),
         ),
         (
             "ready",
-            used(|| library::ready(3, 1000, &mut bytes, &mut length).expect("a record")),
+            used(|| library::ready(3, 1000, 1, &mut bytes, &mut length).expect("a record")),
+        ),
+        (
+            "ready as 2",
+            used(|| library::ready(3, 1000, 2, &mut bytes, &mut length).expect("a record")),
         ),
     ]
 }
@@ -170,14 +185,15 @@ fn depths(record: &[u8]) -> Vec<Depth> {
     all.extend(figures(record));
     all.extend(pooled(record));
     all.extend(others(record));
+    all.extend(writers(record));
     all
 }
 
 fn main() {
-    // The most over several schemes.
-    let mut rows = depths(&largest(1));
-    for seed in 2..=5 {
-        for (row, depth) in rows.iter_mut().zip(depths(&largest(seed))) {
+    // The most over several schemes, in both versions.
+    let mut rows = depths(&largest(1, 1));
+    for (seed, version) in (1..=5).flat_map(|seed| [(seed, 1), (seed, 2)]) {
+        for (row, depth) in rows.iter_mut().zip(depths(&largest(seed, version))) {
             row.1 = row.1.max(depth.1);
         }
     }

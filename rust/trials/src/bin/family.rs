@@ -23,9 +23,11 @@
 //!
 //! ```text
 //! RULES class rule ...             class start, s, s + 1
-//! WRITE room ANSWER sum            room = length, length + 5, length - 1;
-//!                                  OK length; then in any case the checksum
-//!                                  of the room, filled with AA beforehand
+//! WRITE version room ANSWER sum    version 1, 2; room = 460, the length that
+//!                                  was then written, that length - 1; OK
+//!                                  length; then in any case the checksum of
+//!                                  the room, filled with AA beforehand
+//! WRITE version room ANSWER sum    the same of version 0, 3, 257; room = 460
 //! MIXING ANSWER                    OK count, the first that mixes
 //! ```
 //!
@@ -100,13 +102,15 @@
 //! are equal. After all records come the ready schemes:
 //!
 //! ```text
-//! READY number base ANSWER         OK length and checksum of the record
+//! READY number base ANSWER         OK length and checksum of its record in
+//!                                  version 1, then of that in version 2
 //! ```
 //!
 //! and, where there is such a scheme:
 //!
 //! ```text
-//! RULES class rule ...             the rule row in that record; class 1, 10
+//! RULES class rule ...             the rule row in its record of version 1;
+//!                                  class 1, 10
 //! PREMIUM class premium            class 1, 18
 //! ```
 //!

@@ -12,8 +12,9 @@ returns : tie.Need-returns
 returns c =
     let start = c .before .before .before in
     let s = start .args .scheme in
+    let version = start .args .version in
     let out = start .args .out .now in
-    text-out (write-only s out (start .pre)) (write-left s out) (c .if1 .taken)
+    text-out (write-only s version out (start .pre .0) (start .pre .1)) (write-left s version out) (c .if1 .taken)
 
 write-requires : tie.Need-write-requires
 write-requires c κs = search needs
@@ -29,9 +30,10 @@ returns-2 c =
     let at-write = c .before .before .before .before in
     let start = at-write .before .before .before .before .before in
     let s = start .args .scheme in
+    let version = start .args .version in
     let out = start .args .out .now in
     let w = at-write .write .ensures in
-    text-declined (write-only s out (start .pre)) (write-left s out) (c .before .write-number .ensures ∙ ap writeNumber (w .0)) (c .if2 .taken) (w .1 .0)
+    text-declined (write-only s version out (start .pre .0) (start .pre .1)) (write-left s version out) (c .before .write-number .ensures ∙ ap writeNumber (w .0)) (c .if2 .taken) (w .1 .0)
 
 written-length-requires : tie.Need-written-length-requires
 written-length-requires c κs = search needs
@@ -52,9 +54,10 @@ returns-3 c =
     let at-size = at-call .before .before in
     let start = at-size .before .before .before in
     let s = start .args .scheme in
+    let version = start .args .version in
     let out = start .args .out .now in
     let w = at-call .write .ensures in
-    text-written (write-only s out (start .pre)) (write-left s out) (at-number .write-number .ensures ∙ ap writeNumber (w .0)) (c .before .if2 .left)
+    text-written (write-only s version out (start .pre .0) (start .pre .1)) (write-left s version out) (at-number .write-number .ensures ∙ ap writeNumber (w .0)) (c .before .if2 .left)
     (at-size .if1 .left) (c .written-length .ensures ∙ ap writtenLength (w .0)) (w .1 .0)
 
 pub put-record-spec : {M : Type 1} → statement M

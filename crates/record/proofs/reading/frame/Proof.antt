@@ -1,11 +1,13 @@
--- `reading::frame` meets its contract: the header's causes, then the shape's.
+-- `reading::frame` meets its contract: the header's causes, then the shape's, then that of byte 7.
 use mathlib.Core.Path.{_≡_, ap₂, sym, _∙_}
 use mathlib.Core.List.{List}
 use Prim.Native.Nat.{ℕ}
 use native.Mathlib.Omega.{arith}
 use Rattle.scheme.specs.FirstCause.{_when_, orElse}
-use Rattle.record_spec.specs.Read.{versionOut, fieldOut}
-use Rattle.record_spec.specs.Laws.Frame.{head-long, frame-head, frame-shape}
+use Rattle.record_spec.specs.Layout.{classesIn, columnsIn}
+use Rattle.scheme.specs.Cause.{sizesCause}
+use Rattle.record_spec.specs.Read.{versionOut, fieldOut, lengthOut}
+use Rattle.record_spec.specs.Laws.Frame.{head-long, frame-head, frame-shape, frame-last, shape-fits}
 use borrow.Author.Needs.{needs}
 use Rattle.record.proofs.reading.frame.Statement.{statement}
 use Rattle.record.proofs.reading.frame.Tie as tie
@@ -47,11 +49,32 @@ length-cause-requires c κs = head-long (given (c .before .before .before .befor
 or-else-requires-2 : tie.Need-or-else-requires-2
 or-else-requires-2 c κs = search needs
 
+-- The place behind the header's causes, the bytes at the shape's causes, and what these come to.
+abbrev headed : tie.After-or-else2 → tie.Else1
+headed c = let at-sizes = c .before .before in at-sizes .before .before .before
+
+abbrev at-shape : tie.After-or-else2 → List ℕ
+at-shape c = given (headed c .before)
+
+shape : (c : tie.After-or-else2) → let bytes = at-shape c in c .or-else2 .result ≡ orElse (sizesCause (classesIn bytes) (columnsIn bytes)) (4 when lengthOut bytes)
+shape c = c .or-else2 .ensures ∙ ap₂ (λ a b. orElse a b) (c .before .before .sizes-cause .ensures) (c .before .length-cause .ensures)
+
+no-head : (c : tie.After-or-else2) → orElse (1 when versionOut (at-shape c)) (2 when fieldOut (at-shape c)) ≡ 0
+no-head c = none (headed c)
+
 returns-2 : tie.Need-returns-2
-returns-2 c =
-    let at-sizes = c .before .before in
-    frame-shape _ (none (at-sizes .before .before .before))
-    (c .or-else2 .ensures ∙ ap₂ (λ a b. orElse a b) (at-sizes .sizes-cause .ensures) (c .before .length-cause .ensures))
+returns-2 c = frame-shape _ (no-head (c .before)) (shape (c .before)) (c .if2 .taken)
+
+last-column-cause-requires : tie.Need-last-column-cause-requires
+last-column-cause-requires c κs =
+    let bytes = at-shape (c .before) in
+    let fits = shape-fits bytes (sym (shape (c .before)) ∙ c .if2 .left) in
+    (omega (arith, fits .1 .whole), fits .0 .someColumn)
+
+returns-3 : tie.Need-returns-3
+returns-3 c =
+    let at-else2 = c .before in
+    frame-last (at-shape (at-else2 .before)) (no-head (at-else2 .before)) (sym (shape (at-else2 .before)) ∙ at-else2 .if2 .left) (c .last-column-cause .ensures)
 
 pub frame-spec : {M : Type 1} → statement M
 frame-spec =
@@ -66,4 +89,6 @@ frame-spec =
     sizes-cause-requires
     length-cause-requires
     or-else-requires-2
-    returns-2)
+    returns-2
+    last-column-cause-requires
+    returns-3)

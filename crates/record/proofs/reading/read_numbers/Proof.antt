@@ -30,7 +30,7 @@ size c = rw (c .loop .inv .2) (length-tab _ _)
 
 -- The bytes hold the next number.
 room : (c : tie.In-loop Inv-loop μ-loop)
-    → c .before .loop .at + c .before .before .before .before .args .stride ≤ length (c .before .before .before .before .args .bytes .now)
+    → c .before .loop .at + c .before .before .before .before .args .width ≤ length (c .before .before .before .before .args .bytes .now)
 room c =
     let start = c .before .before .before .before .args in
     let more : suc (c .before .loop .k) ≤ start .n = omega arith in
