@@ -1,6 +1,6 @@
 /* Writes a record as the label on a chamber's door, in version 2, to standard
- * output; or as version 1 where that is asked for: label RECORD [VERSION].
- * Example A where no file is named. */
+ * output; or in the version that is named: label RECORD [VERSION]. Example A
+ * where no file is named. */
 #include <stdio.h>
 #include <stdlib.h>
 #include "joguyvi.h"
@@ -13,7 +13,12 @@ int main(int argc, char **argv)
     uint8_t bytes[RECORD_MOST + 1], out[RECORD_MOST];
     uint64_t size[1] = {0};
     const char *name = argc > 1 ? argv[1] : "examples/example-a.record";
-    uint64_t version = argc > 2 ? strtoull(argv[2], NULL, 10) : 2;
+    char *end = NULL;
+    uint64_t version = argc > 2 ? strtoull(argv[2], &end, 10) : 2;
+    if (argc > 2 && (end == argv[2] || *end != '\0')) {
+        fprintf(stderr, "%s is no version\n", argv[2]);
+        return 2;
+    }
     FILE *file = fopen(name, "rb");
     if (file == NULL) {
         perror(name);

@@ -1,7 +1,7 @@
 -- A record written again, which has its bytes, and a ready scheme as a record: with a cause before writing, and without.
 -- Assumes nothing.
 use Prim.Native.Nat.{ℕ, _≤_}
-use mathlib.Core.Path.{_≡_, refl, ap, sym, _∙_, subst}
+use mathlib.Core.Path.{_≡_, ap, sym, _∙_, subst}
 use mathlib.Core.Bool.{true, false}
 use mathlib.Core.List.{List, [], _∷_}
 use lib.ListN.{length, take}
@@ -22,7 +22,11 @@ use Rattle.ready_spec.specs.Answer.{readyAnswer}
 use Rattle.joguyvi_spec.specs.Buffers.{bufferCause}
 use Rattle.joguyvi_spec.specs.Laws.Buffers.{unfilled}
 use Rattle.joguyvi_spec.specs.Laws.Causes.{stopped-number, passed-number}
-use Rattle.joguyvi_spec.specs.Records.{recordNumber, lengthAlone, RecordPost, RewriteCall, ReadyCall}
+use Rattle.joguyvi_spec.specs.Records.{recordNumber, lengthAlone, RecordPost, rewriteNumber, RewriteCall, readyNumber, ReadyCall}
+
+-- There is no such version: the cause is 1, whatever comes after it.
+before : (version rest : ℕ) → otherVersion version ≡ true → 1 ≡ orElse (1 when otherVersion version) rest
+before version rest other = cause-first rest (sym (cond-true (otherVersion version) 1 0 other)) (λ z. omega arith)
 
 -- There is such a version: the cause is one of those after it.
 after : (version : ℕ) → otherVersion version ≡ false → {n rest : ℕ} → n ≡ rest → n ≡ orElse (1 when otherVersion version) rest
@@ -30,28 +34,24 @@ after version known e = cause-second (cond-false (otherVersion version) 1 0 know
 
 -- A record written again.
 module _ (bytes : List ℕ) (version : ℕ) (out size : List ℕ) where
-  pub rewrite-other : otherVersion version ≡ true → RewriteCall bytes version out size 1 out size
-  rewrite-other other =
+  -- A call with a cause leaves the buffers as they were.
+  rewrite-declined : {n : ℕ} → n ≡ rewriteNumber bytes version out size → (n ≡ 0 → ⊥) → RewriteCall bytes version out size n out size
+  rewrite-declined e some =
       record {
-        answer = cause-first _ (sym (cond-true (otherVersion version) 1 0 other)) (λ z. omega arith);
-        written = refl;
-        lengths = refl;
-        copied = λ z. absurd (omega arith);
-        counted = λ z. absurd (omega arith);
-        readAgain = λ z. absurd (omega arith);
+        answer = e;
+        written = unfilled _ _ some;
+        lengths = unfilled _ _ some;
+        copied = λ z. absurd (some z);
+        counted = λ z. absurd (some z);
+        readAgain = λ z. absurd (some z);
       }
+
+  pub rewrite-other : otherVersion version ≡ true → RewriteCall bytes version out size 1 out size
+  rewrite-other other = rewrite-declined (before version _ other) (λ z. omega arith)
 
   module _ (known : otherVersion version ≡ false) {a : ReadAnswer} (is : a ≡ readAnswer bytes) where
     pub rewrite-stopped : (a .number ≡ 0 → ⊥) → RewriteCall bytes version out size (a .number) out size
-    rewrite-stopped some =
-        record {
-          answer = after version known (stopped-number bytes is _ some);
-          written = unfilled _ _ some;
-          lengths = unfilled _ _ some;
-          copied = λ z. absurd (some z);
-          counted = λ z. absurd (some z);
-          readAgain = λ z. absurd (some z);
-        }
+    rewrite-stopped some = rewrite-declined (after version known (stopped-number bytes is _ some)) some
 
     -- The scheme in the bytes.
     abbrev s : Scheme
@@ -88,12 +88,15 @@ module _ (bytes : List ℕ) (version : ℕ) (out size : List ℕ) where
 
 -- A ready scheme as a record.
 module _ (ready base version : ℕ) (out size : List ℕ) where
+  ready-declined : {n : ℕ} → n ≡ readyNumber ready base version out size → (n ≡ 0 → ⊥) → ReadyCall ready base version out size n out size
+  ready-declined e some = record { answer = e; written = unfilled _ _ some; lengths = unfilled _ _ some }
+
   pub ready-other : otherVersion version ≡ true → ReadyCall ready base version out size 1 out size
-  ready-other other = record { answer = cause-first _ (sym (cond-true (otherVersion version) 1 0 other)) (λ z. omega arith); written = refl; lengths = refl }
+  ready-other other = ready-declined (before version _ other) (λ z. omega arith)
 
   module _ (known : otherVersion version ≡ false) {a : ReadyAnswer} (is : a ≡ readyAnswer ready base) where
     pub ready-stopped : (a .number ≡ 0 → ⊥) → ReadyCall ready base version out size (a .number) out size
-    ready-stopped some = record { answer = after version known (cause-first _ (ap (λ r. r .number) is) some); written = unfilled _ _ some; lengths = unfilled _ _ some }
+    ready-stopped some = ready-declined (after version known (cause-first _ (ap (λ r. r .number) is) some)) some
 
     pub ready-passed : {n : ℕ} {out′ size′ : List ℕ} → a .number ≡ 0 → RecordPost (a .scheme) version out size n out′ size′ → ReadyCall ready base version out size n out′ size′
     ready-passed {n} {out′} {size′} none put =

@@ -12,14 +12,14 @@ use Rattle.scheme.specs.Laws.FirstCause.{second-cause, declined}
 use Rattle.scheme.specs.FirstCause.{_when_}
 use Rattle.record_spec.specs.Layout.{otherVersion}
 use Rattle.record_spec.specs.Write.{writeNumber, recordOf, recordLength, writeCause, writeAnswer, writeLeaves}
-use Rattle.record_write.specs.Laws.Write.{told, answer-number}
+use Rattle.record_write.specs.Laws.Write.{past-version, answer-number}
 use Rattle.joguyvi_spec.specs.Laws.Causes.{cause-only}
 
 module _ (s : Scheme) (version : ℕ) (out : List ℕ) where
   pub write-only : otherVersion version ≡ false → causeOf s ≡ 0 → (writeNumber (writeAnswer s version out) ≡ 0 → ⊥) → writeNumber (writeAnswer s version out) ≡ 13
   write-only is ok h =
       cause-only (ltb (length out) (recordLength s version)) 13
-      (answer-number s version out ∙ told s version out is ∙ second-cause (causeOf s) (13 when ltb (length out) (recordLength s version)) ok) h
+      (answer-number s version out ∙ past-version s version out is ∙ second-cause (causeOf s) (13 when ltb (length out) (recordLength s version)) ok) h
 
   pub write-left : (writeNumber (writeAnswer s version out) ≡ 0 → ⊥) → writeLeaves s version out ≡ out
   unfolding writeLeaves

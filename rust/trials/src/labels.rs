@@ -87,7 +87,7 @@ fn last_columns() -> [Vec<u8>; 6] {
     ]
 }
 
-/// Example A without its last byte; then 6 bytes and 7 of one class and one
+/// Example A's label without its last byte; then 6 bytes and 7 of one class and one
 /// column, and 7 of no class, with a length field that fits.
 fn short() -> [Vec<u8>; 4] {
     [

@@ -26,21 +26,21 @@ module _ (s : Scheme) (version : ℕ) (out : List ℕ) where
   by-version other = rw other
 
   -- There is such a version: the scheme's cause, and the slice's.
-  pub told : otherVersion version ≡ false → writeCause s version out ≡ orElse (causeOf s) (13 when ltb (length out) (recordLength s version))
-  told known = rw known
+  pub past-version : otherVersion version ≡ false → writeCause s version out ≡ orElse (causeOf s) (13 when ltb (length out) (recordLength s version))
+  past-version known = rw known
 
   pub by-scheme : {n : ℕ} → otherVersion version ≡ false → n ≡ causeOf s → (n ≡ 0 → ⊥) → n ≡ writeCause s version out
-  by-scheme known e some = rw (told known, e) (sym (first-cause (causeOf s) _ (λ z. some (e ∙ z))))
+  by-scheme known e some = rw (past-version known, e) (sym (first-cause (causeOf s) _ (λ z. some (e ∙ z))))
 
   pub by-slice : otherVersion version ≡ false → causeOf s ≡ 0 → length out < recordLength s version → 13 ≡ writeCause s version out
-  by-slice known none short = sym (told known ∙ second-cause (causeOf s) _ none ∙ rw (lt-ltb (length out) (recordLength s version) short))
+  by-slice known none short = sym (past-version known ∙ second-cause (causeOf s) _ none ∙ rw (lt-ltb (length out) (recordLength s version) short))
 
   -- none.
   pub written : {size : ℕ} {left : List ℕ} → otherVersion version ≡ false → causeOf s ≡ 0 → size ≡ recordLength s version → size ≤ length out
       → left ≡ recordOf s version ++ drop size out → (Written size ≡ writeAnswer s version out) × (left ≡ writeLeaves s version out)
   unfolding writeAnswer writeLeaves
   written known none is fits e =
-      let clear : writeCause s version out ≡ 0 = told known ∙ second-cause (causeOf s) _ none ∙ rw (le-ltb (length out) (recordLength s version) (rw is at fits)) in
+      let clear : writeCause s version out ≡ 0 = past-version known ∙ second-cause (causeOf s) _ none ∙ rw (le-ltb (length out) (recordLength s version) (rw is at fits)) in
       (rw (eq-eqb (writeCause s version out) 0 clear, is), rw (eq-eqb (writeCause s version out) 0 clear, e, is))
 
   -- What holds where there is none.
