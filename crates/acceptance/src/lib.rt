@@ -1,4 +1,6 @@
 // The acceptance of a scheme (document 01, "When a call is declined").
+#![tactic(auto)]
+
 ghost use Rattle.std.specs.Prelude.{◌≡◌};
 ghost use Rattle.scheme.specs.Cause.{cause_of};
 

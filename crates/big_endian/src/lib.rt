@@ -1,5 +1,7 @@
 // Numbers in lent bytes, big-endian, read and put at any place, and bytes copied from one slice to another.
 // Where the bytes do not hold them, 0 is read, and what is to be put or copied leaves the bytes as they were.
+#![tactic(auto)]
+
 ghost use Rattle.std.specs.Prelude.{◌≡◌, ◌+◌, ◌<◌, ◌%◌, leb};
 ghost use Rattle.big_endian_spec.specs.Numbers.{number_at, number_put, part_put};
 

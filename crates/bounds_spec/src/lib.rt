@@ -1,4 +1,5 @@
 // What a call for bounds answers. The definitions of all answers, what they promise, and the proof that they keep it stand in specs/.
+#![tactic(auto)]
 
 // What a call for bounds answers: low and high, or the number of the cause for which it is declined.
 #[derive(Drop)]

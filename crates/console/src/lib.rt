@@ -1,4 +1,5 @@
 // Standard input, output and error for the programs, and what the check programs share: the records of their input, and checksums.
+#![tactic(auto)]
 ghost use Rattle.std.specs.Prelude.{◌-◌, ◌≤◌, ◌≡◌, length, take};
 ghost use Rattle.console.specs.Input.{ReadInto};
 ghost use Rattle.console.specs.Records.{record_at};

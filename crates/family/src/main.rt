@@ -1,6 +1,7 @@
 // Prints the answers of every operation but the sheet's text on many records from standard input, each behind its length in two bytes,
 // and on ready schemes. What it must print was written by the plain Rust version (rust/regenerate); rust/trials/src/bin/family.rs
 // describes the lines.
+#![tactic(auto)]
 use bounds::Bounds;
 use record_parts::Band;
 use record_write::WriteAnswer;

@@ -1,4 +1,5 @@
 // What the mixing check answers. The answer and its cause are defined in specs/, paths and counts that mix in crate `setchain`.
+#![tactic(auto)]
 
 // The refusal number where no count to the limit mixes (document 02, item 3).
 pub const NOT_MIXING: u8 = 16;

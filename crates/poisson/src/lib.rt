@@ -1,4 +1,5 @@
 // The bands of two claim frequencies (document 02, item 10).
+#![tactic(auto)]
 mod table;
 mod values;
 

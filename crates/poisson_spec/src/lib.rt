@@ -1,4 +1,5 @@
 // What asking for the bands of claim frequencies answers. The exponential series, the table, the values and the bands are defined in specs/.
+#![tactic(auto)]
 
 // The largest claim frequency, in thousandths.
 pub const MOST_FREQUENCY: u64 = 1_000;

@@ -1,4 +1,6 @@
 // What asking for a ready scheme answers. The three schemes, their scales and the proof that each is accepted stand in specs/.
+#![tactic(auto)]
+
 use scheme::Scheme;
 
 // A ready scheme's answer: its number is 0, or that of the cause beside a scheme all 0.

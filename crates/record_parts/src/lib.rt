@@ -1,4 +1,5 @@
 // The parts of a record: the rule row of a class, the band of a column, and the band reader, which hands the bands out in order.
+#![tactic(auto)]
 ghost use Rattle.std.specs.Prelude.{◌≡◌};
 ghost use Rattle.record_spec.specs.Read.{read_cause};
 ghost use Rattle.record_spec.specs.RuleRow.{rule_row_cause, rule_row};

@@ -1,4 +1,6 @@
 // What reading a record, writing one and the band reader answer. The record's layout, and all that is read from it and written by it, are defined in specs/.
+#![tactic(auto)]
+
 use scheme::Scheme;
 
 // How many bytes every header has; in version 1 the rules start there.

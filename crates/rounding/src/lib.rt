@@ -1,4 +1,6 @@
 // Rounding outward, away from what a figure bounds (document 01, "One year").
+#![tactic(auto)]
+
 ghost use Rattle.std.specs.Prelude.{◌≡◌};
 ghost use Rattle.setchain.specs.Rounding.{rounded};
 

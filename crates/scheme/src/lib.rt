@@ -1,4 +1,6 @@
 // The scheme of document 01, its limits and its refusal numbers.
+#![tactic(auto)]
+
 ghost use Rattle.std.specs.Prelude.{◌≡◌, ◌≤◌};
 ghost use Rattle.scheme.specs.FirstCause.{or_else};
 ghost use Rattle.scheme.specs.Cause.{outside, sizes_cause, slice_cause, slices_cause};

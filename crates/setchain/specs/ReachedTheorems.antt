@@ -177,4 +177,6 @@ reached_filter n j ps i =
 pub counted_once : (n m : ℕ) (f : Sequence → Fraction) (ls : Sequence) → SequenceOf n m ls → sum_sequences n m (λ ks. cond (same ks ls) (f ks) (whole 0)) ≡ f ls
 unfolding sum_sequences same
 counted_once n zero f [] empty = refl
+counted_once n zero f (l ∷ ls) w = elim w [ ]
+counted_once n (suc m) f [] w = elim w [ ]
 counted_once n (suc m) f (l ∷ ls) (more g w) = first_fixed n m (λ k ks. same ks ls) f l g ∙ counted_once n m (λ ks. f (l ∷ ks)) ls w

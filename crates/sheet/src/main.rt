@@ -1,4 +1,5 @@
 // Reads one record from standard input and prints its sheet (document 01, "Sheet program and examples").
+#![tactic(auto)]
 ghost use Rattle.sheet.specs.Program.{ComposePre, ComposePost};
 
 // One byte more than a record's length field can say: input that has more is refused by its first bytes, as it would be by all of them.

@@ -1,5 +1,6 @@
 // Prints the sheets of many records from standard input, each behind its length in two bytes. What it must print was written by the
 // plain Rust version (rust/regenerate): a sheet of at most 1,000 bytes whole, of a longer one its length and a checksum.
+#![tactic(auto)]
 use sheet_text::WriteAnswer;
 
 // The text whole, or its length and checksum.

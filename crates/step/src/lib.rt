@@ -1,4 +1,5 @@
 // The one-year step of a class (document 01, "One year").
+#![tactic(auto)]
 ghost use Rattle.std.specs.Prelude.{true, false};
 ghost use Rattle.step_spec.specs.StepAnswer.{StepAnswered};
 

@@ -53,6 +53,7 @@ module _ (c : SetChain) where
   along_proper : (ps : List Matrix) → InsideEach c ps → (i : ℕ) → i < n → (ks : Sequence) → SequenceOf n (length ps) ks → Proper (along ps (i ∷ ks))
   unfolding along
   along_proper [] none i l ks w = le_refl 1
+  along_proper (p ∷ ps) (also h rest) i l [] w = elim w [ ]
   along_proper (p ∷ ps) (also h rest) i l (k ∷ ks) (more m w) = mul-pos (proper_row (h i l)) (along_proper ps rest k m ks w)
 
   -- The sum over the sequences from state i on that pass a test.

@@ -16,8 +16,8 @@ or_false_right true true e = e
 or_false_right true false e = refl
 or_false_right false b e = e
 
-pub or-false : {a b : Bool} → a ≡ false → b ≡ false → (a || b) ≡ false
-or-false {a} {b} p q = ap (λ x. x || b) p ∙ q
+pub or_false : {a b : Bool} → a ≡ false → b ≡ false → (a || b) ≡ false
+or_false {a} {b} p q = ap (λ x. x || b) p ∙ q
 
 -- One of two tests passes.
 pub or_either : (a b : Bool) → (a || b) ≡ true → (a ≡ true) ⊎ (b ≡ true)

@@ -1,0 +1,23 @@
+-- `band_out` meets its contract: no column before k has a bad band.
+use Prim.Native.Nat.{◌≤◌, ◌-◌}
+use mathlib.Core.Path.{◌≡◌, sym, ◌∙◌}
+use mathlib.Core.Bool.{false}
+use native.Mathlib.Omega.{arith}
+use lib.ListN.{get_or}
+use Rattle.setchain.specs.Tests.{any_below}
+use Rattle.setchain.specs.Laws.Tests.{any_none, any_more, any_hit, any_end}
+use Rattle.scheme.specs.Cause.{band_test}
+use Rattle.acceptance.proofs.tests.band_out.Goals as goal
+
+pub loop-k-init : goal.loop-k-init
+loop-k-init c = (omega arith, any_none _)
+
+pub returns-then-band_bad : goal.returns-then-band_bad
+returns-then-band_bad c =
+    let turn = c.loop-k in
+    sym (any_hit _ turn.k _ (omega arith) (sym c.band_bad.ensures ∙ c.if-band_bad.true))
+
+pub loop-k-preserved : goal.loop-k-preserved
+loop-k-preserved c =
+    let turn = c.loop-k in
+    (omega arith, any_more _ _ turn.invariant.1 (sym c.band_bad.ensures ∙ c.if-band_bad.false))

@@ -1,0 +1,16 @@
+-- `band_out` meets its contract: no column before k has a bad band.
+use Prim.Native.Nat.{◌≤◌, ◌-◌}
+use mathlib.Core.Path.{◌≡◌, sym, ◌∙◌}
+use mathlib.Core.Bool.{false}
+use native.Mathlib.Omega.{arith}
+use lib.ListN.{get_or}
+use Rattle.setchain.specs.Tests.{any_below}
+use Rattle.setchain.specs.Laws.Tests.{any_none, any_more, any_hit, any_end}
+use Rattle.scheme.specs.Cause.{band_test}
+use Rattle.acceptance.proofs.tests.band_out.Given as goal
+
+abbrev pub invariant-loop-k : goal.invariant-loop-k
+invariant-loop-k l = (l.k ≤ l.n) × (any_below l.k (λ j. band_test (get_or l.lowers j 0) (get_or l.uppers j 0)) ≡ false)
+
+abbrev pub decreases-loop-k : goal.decreases-loop-k
+decreases-loop-k l = l.n - l.k

@@ -1,0 +1,21 @@
+-- `rule_cause` meets its contract: no class before i has a rule outside 1 to s.
+use Prim.Native.Nat.{◌≤◌, ◌+◌, ◌*◌, ◌-◌}
+use mathlib.Core.Path.{◌≡◌, sym, ◌∙◌}
+use mathlib.Core.Bool.{false}
+use native.Mathlib.Omega.{arith}
+use lib.ListN.{get_or}
+use Rattle.setchain.specs.Tests.{any_below}
+use Rattle.setchain.specs.Laws.Tests.{any_none, any_more, any_hit, any_end}
+use Rattle.scheme.specs.Access.{CELL_STRIDE}
+use Rattle.scheme.specs.Cause.{outside}
+use Rattle.scheme.specs.Laws.FirstCause.{cond_true, cond_false}
+use Rattle.acceptance.proofs.tests.rule_cause.Goals as goal
+
+pub loop-i-init : goal.loop-i-init
+loop-i-init c = (omega arith, any_none _)
+
+pub returns-then-row_out : goal.returns-then-row_out
+returns-then-row_out c = sym (cond_true _ 7 0 (any_hit _ c.loop-i.i _ (omega arith) (sym c.row_out.ensures ∙ c.if-row_out.true)))
+
+pub loop-i-preserved : goal.loop-i-preserved
+loop-i-preserved c = (omega arith, any_more _ _ c.loop-i.invariant.1 (sym c.row_out.ensures ∙ c.if-row_out.false))
