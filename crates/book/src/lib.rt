@@ -1,5 +1,6 @@
 // Opening books: the cause for which a book is not pooled, and two books joined (document 02, item 7).
 #![tactic(auto)]
+
 ghost use Rattle.std.specs.Prelude.{◌≡◌};
 ghost use Rattle.setchain.specs.Sums.{at};
 ghost use Rattle.book_spec.specs.Book.{book_cause, join_answer};

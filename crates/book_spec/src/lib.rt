@@ -12,7 +12,7 @@ pub const COUNT_OUT: u8 = 18;
 pub const NO_CHAMBER: u8 = 19;
 
 // What joining two books answers: the number of the cause for which it is declined, or 0; and the joined book, all 0 beside a cause.
-#[derive(Drop)]
+#[derive(Clone, Copy)]
 pub struct JoinAnswer {
     pub number: u8,
     pub book: [u32; 32],

@@ -2,7 +2,7 @@
 #![tactic(auto)]
 
 // What a call for bounds answers: low and high, or the number of the cause for which it is declined.
-#[derive(Drop)]
+#[derive(Clone, Copy)]
 pub enum Bounds {
     Answered { low: u64, high: u64 },
     Refused(u8),

@@ -1,5 +1,6 @@
 // Standard input, output and error for the programs, and what the check programs share: the records of their input, and checksums.
 #![tactic(auto)]
+
 ghost use Rattle.std.specs.Prelude.{◌-◌, ◌≤◌, ◌≡◌, length, take};
 ghost use Rattle.console.specs.Input.{ReadInto};
 ghost use Rattle.console.specs.Records.{record_at};
@@ -42,7 +43,7 @@ pub fn complain(text: &[u8]) {
 }
 
 // What came of reading: how many bytes the buffer has of the input, from its front on, and whether a read failed.
-#[derive(Drop)]
+#[derive(Clone, Copy)]
 pub struct Input {
     pub length: usize,
     pub failed: bool,

@@ -1,5 +1,6 @@
 // The mixing check of a scheme: the first count of years in which every class can go to every class (document 02, items 3 and 11).
 #![tactic(auto)]
+
 ghost use Rattle.std.specs.Prelude.{◌≡◌};
 ghost use Rattle.mixing_spec.specs.MixingAnswer.{mixing_answer};
 

@@ -5,7 +5,7 @@
 pub const NOT_MIXING: u8 = 16;
 
 // What the mixing check answers: the number of the cause for which it is declined, or 0; and the first count of years that mixes.
-#[derive(Drop)]
+#[derive(Clone, Copy)]
 pub struct MixingAnswer {
     pub number: u8,
     pub count: u64,

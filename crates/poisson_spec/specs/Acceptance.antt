@@ -36,16 +36,16 @@ module _ (first second c : ℕ) (s : Scheme) (z : bands_cause first second (suc 
   column k l = omega (arith, has.columns)
 
   -- The ends that a scheme has are those of the two frequencies.
-  end_by : (high : Bool) (k : ℕ) → k < suc (suc c) → at (answered_ends first second (suc (suc c)) high) k ≡ end_by first second c asked.ordered asked.small few high k
-  end_by high k l =
+  end_by_lem : (high : Bool) (k : ℕ) → k < suc (suc c) → at (answered_ends first second (suc (suc c)) high) k ≡ end_by first second c asked.ordered asked.small few high k
+  end_by_lem high k l =
       ap (λ ends. at ends k) (ends_answered first second (suc (suc c)) high z)
       ∙ end_at high (claimed_by high first second) (free_by high first second) (suc (suc c)) k l asked.columns
 
   lower_by : (i k : ℕ) → i < s.classes → k < suc (suc c) → lower_at s i k ≡ end_by first second c asked.ordered asked.small few false k
-  lower_by i k h l = has.lowers i k h l ∙ end_by false k l
+  lower_by i k h l = has.lowers i k h l ∙ end_by_lem false k l
 
   upper_by : (i k : ℕ) → i < s.classes → k < suc (suc c) → upper_at s i k ≡ end_by first second c asked.ordered asked.small few true k
-  upper_by i k h l = has.uppers i k h l ∙ end_by true k l
+  upper_by i k h l = has.uppers i k h l ∙ end_by_lem true k l
 
   -- So are their sums.
   sum_by : (f g : ℕ → ℕ) → ((k : ℕ) → k < suc (suc c) → f k ≡ g k) → sum_to (suc (suc c)) g ≡ sum_to (cell_count s) f

@@ -8,7 +8,7 @@ pub const MOST_FREQUENCY: u64 = 1_000;
 pub const FREQUENCY_OUT: u8 = 21;
 
 // The bands of all columns: the number of the cause for which they are declined, or 0; and the lower and upper ends, all 0 beside a cause.
-#[derive(Drop)]
+#[derive(Clone, Copy)]
 pub struct BandsAnswer {
     pub number: u8,
     pub lower: [u32; 8],

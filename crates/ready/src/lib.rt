@@ -1,5 +1,6 @@
 // The ready schemes of document 01: number 1, 2 or 3, with premiums from a base.
 #![tactic(auto)]
+
 ghost use Rattle.std.specs.Prelude.{◌≡◌, ◌/◌, ◌≤◌, ◌<◌};
 ghost use Rattle.scheme.specs.Access.{CELL_PLACES};
 ghost use Rattle.scheme.specs.Tables.{tab};

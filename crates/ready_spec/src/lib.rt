@@ -4,7 +4,7 @@
 use scheme::Scheme;
 
 // A ready scheme's answer: its number is 0, or that of the cause beside a scheme all 0.
-#[derive(Drop)]
+#[derive(Clone, Copy)]
 pub struct ReadyAnswer {
     pub number: u8,
     pub scheme: Scheme,

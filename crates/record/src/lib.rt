@@ -1,5 +1,6 @@
 // The record of document 01, and its version 2 of document 02, item 5: its layouts, the scheme in any bytes, and their cause.
 #![tactic(auto)]
+
 ghost use Rattle.std.specs.Prelude.{◌≡◌};
 ghost use Rattle.record_spec.specs.Read.{read_cause, declined_with, read_answer};
 ghost use Rattle.record_spec.specs.Layout.{other_version, layout_of, header_length, length_of};

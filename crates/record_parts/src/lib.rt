@@ -36,14 +36,14 @@ pub fn rule_row(bytes: &[u8], class: u64) -> &[u8]
 }
 
 // A reader: the lent record, and the column whose band comes next.
-#[derive(Drop)]
+#[derive(Clone, Copy)]
 pub struct Reader<'a> {
     pub bytes: &'a [u8],
     pub at: usize,
 }
 
 // What opening a reader answers: number 0 and a reader over the record, or the cause and a reader over an empty part.
-#[derive(Drop)]
+#[derive(Clone, Copy)]
 pub struct Opened<'a> {
     pub number: u8,
     pub reader: Reader<'a>,

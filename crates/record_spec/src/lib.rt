@@ -21,21 +21,21 @@ pub const LABEL_PREMIUM_WIDTH: usize = 3;
 pub const BAND_WIDTH: usize = 8;
 
 // What reading a record answers: number 0 and the scheme, or the cause and a scheme of 0.
-#[derive(Drop)]
+#[derive(Clone, Copy)]
 pub struct ReadAnswer {
     pub number: u8,
     pub scheme: Scheme,
 }
 
 // What writing a record, or a text, into a lent slice answers: the length of what was written, or the cause.
-#[derive(Drop)]
+#[derive(Clone, Copy)]
 pub enum WriteAnswer {
     Written(usize),
     Declined(u8),
 }
 
 // What a reader answers: the lower and upper end of the next band, or that there is no more.
-#[derive(Drop)]
+#[derive(Clone, Copy)]
 pub enum Band {
     Ends { lower: u32, upper: u32 },
     NoMore,

@@ -1,5 +1,6 @@
 // The interval rows of document 01, and the tight rows of document 02, item 2.
 #![tactic(auto)]
+
 ghost use Rattle.std.specs.Prelude.{◌≡◌, min, ◌+◌, ◌-◌, ◌≤◌, length, replicate};
 ghost use Rattle.scheme.specs.RowAnswer.{interval_answer, row_answer};
 ghost use Rattle.setchain.specs.Rows.{ONE};

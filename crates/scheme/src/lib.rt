@@ -44,7 +44,7 @@ pub const YEAR_OUT: u8 = 12;
 pub const SLICE_OUT: u8 = 13;
 
 // A bonus-malus scheme. What is stored beyond `classes` or `columns` is ignored.
-#[derive(Drop)]
+#[derive(Clone, Copy)]
 pub struct Scheme {
     // s, the number of classes.
     pub classes: u8,
@@ -65,7 +65,7 @@ pub struct Scheme {
 }
 
 // The answer of the row operations: a refusal number or 0, and the lower and upper entries.
-#[derive(Drop)]
+#[derive(Clone, Copy)]
 pub struct RowAnswer {
     pub number: u8,
     pub lower: [u64; 32],

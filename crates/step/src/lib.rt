@@ -1,5 +1,6 @@
 // The one-year step of a class (document 01, "One year").
 #![tactic(auto)]
+
 ghost use Rattle.std.specs.Prelude.{true, false};
 ghost use Rattle.step_spec.specs.StepAnswer.{StepAnswered};
 

@@ -5,7 +5,7 @@
 pub const MOST_PAYOFF: u64 = 10_000_000_000;
 
 // What the one-year step answers: the number of the cause for which it is declined, or 0; the figure; and a row that reaches it.
-#[derive(Drop)]
+#[derive(Clone, Copy)]
 pub struct StepAnswer {
     pub number: u8,
     pub figure: u64,

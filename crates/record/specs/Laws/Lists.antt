@@ -24,6 +24,7 @@ sets_past l i [] q h = refl
 sets_past l i (x ∷ a) q h = sets_past (set l i x) (suc i) a q (omega arith) ∙ get_or-set_other l i q x 0 (λ e. omega arith)
 
 pub sets_within : (l : List ℕ) (i : ℕ) (a : List ℕ) (k : ℕ) → i + length a ≤ length l → k < length a → get_or (sets l i a) (i + k) 0 ≡ get_or a k 0
+sets_within l i [] k fits h = elim h [ ]
 sets_within l i (x ∷ a) zero fits h =
     ap (λ n. get_or (sets l i (x ∷ a)) n 0) (add-zero i) ∙ sets_below (set l i x) (suc i) a i (omega arith) ∙ get_or-set_same l i x 0 (omega arith)
 sets_within l i (x ∷ a) (suc k) fits h =

@@ -1,0 +1,13 @@
+-- `join` meets its contract: the joined counts before i are written, and within the limit.
+-- Assumes nothing.
+use Prim.Native.Nat.{◌+◌, ◌-◌}
+use mathlib.Core.Path.{ap₂}
+use native.Mathlib.Omega.{arith}
+use Rattle.book.proofs.BookLaws.{Joined, joined_none, joined_more, joined_declined, joined_answered}
+use Rattle.book.proofs.join.Goals as goal
+
+pub returns-then-chambers-gt-MOST_COUNT : goal.returns-then-chambers-gt-MOST_COUNT
+returns-then-chambers-gt-MOST_COUNT c = joined_declined c.loop-i.invariant (omega arith) (ap₂ ◌+◌ c.wide.ensures.0 c.wide-in-loop-i.ensures.0) c.if-chambers-gt-MOST_COUNT.true
+
+pub returns : goal.returns
+returns c = joined_answered c.loop-i.invariant (omega arith)

@@ -1,0 +1,16 @@
+-- `checksum` meets its contract: the checksum of the rest, from the sum so far, is that of the whole text.
+-- Assumes nothing.
+use Prim.Native.Nat.{◌≤◌, ◌-◌}
+use mathlib.Core.Path.{◌≡◌, refl, ap, ◌∙◌}
+use native.Mathlib.Omega.{arith}
+use lib.ListN.{length, drop}
+use borrow.Author.Rules.{rules}
+use Rattle.console.specs.Checksum.{added, checksum_from}
+use Rattle.console.proofs.RecordLaws.{checksum_more, checksum_all}
+use Rattle.console.proofs.checksum.Given as goal
+
+abbrev pub invariant-loop-i : goal.invariant-loop-i
+invariant-loop-i l = (l.i ≤ length l.text) × (checksum_from l.sum (drop l.i l.text) ≡ checksum_from 0 l.text)
+
+abbrev pub decreases-loop-i : goal.decreases-loop-i
+decreases-loop-i l = length l.text - l.i

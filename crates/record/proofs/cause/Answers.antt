@@ -1,0 +1,10 @@
+-- `cause` meets its contract: the frame's cause, or the scheme's.
+use mathlib.Core.Path.{ap, sym, ◌∙◌}
+use Rattle.scheme.specs.Cause.{cause_of}
+use Rattle.record_spec.specs.Laws.Frame.{frame_clear}
+use Rattle.record_spec.specs.Laws.Read.{frame_first, scheme_next}
+use borrow.Author.Rules.{rules}
+use Rattle.record.proofs.cause.Goals as goal
+
+pub parsed-requires : goal.parsed-requires
+parsed-requires c = frame_clear _ (sym c.frame-frame.ensures ∙ c.if-frame-ne0.false)

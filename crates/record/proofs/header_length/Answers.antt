@@ -1,0 +1,11 @@
+-- `header_length` meets its contract.
+use mathlib.Core.Path.{ap, sym}
+use Rattle.record_spec.specs.Layout.{header_length}
+use Rattle.record_spec.specs.Laws.Layout.{first_layout, second_layout}
+use Rattle.record.proofs.header_length.Goals as goal
+
+pub returns-then-version-eq2 : goal.returns-then-version-eq2
+returns-then-version-eq2 c = sym (ap header_length (second_layout c.if-version-eq2.true))
+
+pub returns : goal.returns
+returns c = sym (ap header_length (first_layout c.if-version-eq2.false))

@@ -1,0 +1,20 @@
+-- `reading::last_column_cause` meets its contract.
+use mathlib.Core.Path.{ap}
+use native.Mathlib.Omega.{arith}
+use Rattle.record_spec.specs.Layout.{header_length}
+use Rattle.record_spec.specs.Laws.Layout.{second_layout}
+use Rattle.record_spec.specs.Laws.Frame.{none_further, last_differs, last_same}
+use borrow.Author.Rules.{rules}
+use Rattle.record.proofs.reading.last_column_cause.Goals as goal
+
+pub returns-then-bytes-ne2 : goal.returns-then-bytes-ne2
+returns-then-bytes-ne2 c = none_further c.args.bytes.now c.if-bytes-ne2.true
+
+pub bounds-bytes-7 : goal.bounds-bytes-7
+bounds-bytes-7 c = omega (arith, ap header_length (second_layout c.if-bytes-ne2.false), c.requires.0)
+
+pub returns-then-bytes : goal.returns-then-bytes
+returns-then-bytes c = last_differs c.args.bytes.now c.if-bytes-ne2.false c.if-bytes.true
+
+pub returns : goal.returns
+returns c = last_same c.args.bytes.now c.if-bytes-ne2.false c.if-bytes.false

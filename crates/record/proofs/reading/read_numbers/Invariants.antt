@@ -1,0 +1,20 @@
+-- `reading::read_numbers` meets its contract: k numbers are read at the head of the loop.
+use Prim.Native.Nat.{suc, ◌≤◌, ◌+◌, ◌*◌, ◌-◌}
+use mathlib.Core.Path.{◌≡◌, ◌∙◌}
+use native.Mathlib.Omega.{arith}
+use native.Mathlib.Nat.{mul-le-mul_right}
+use lib.ListN.{length}
+use Rattle.scheme.specs.Tables.{tab}
+use Rattle.scheme.specs.Laws.Tab.{length_tab}
+use Rattle.big_endian_spec.specs.Numbers.{be_at}
+use Rattle.scheme.specs.Stored.{up_to}
+use Rattle.big_endian_spec.specs.Laws.{read_held}
+use Rattle.scheme.specs.Laws.Stored.{stored_none, stored_more}
+use borrow.Author.Rules.{rules}
+use Rattle.record.proofs.reading.read_numbers.Given as goal
+
+abbrev pub invariant-loop-k : goal.invariant-loop-k
+invariant-loop-k l = (l.k ≤ l.n) × (l.at ≡ l.from + l.k * l.stride) × (l.out ≡ tab (length l.initial.out) (up_to l.k (λ j. be_at l.width l.bytes (l.from + j * l.stride))))
+
+abbrev pub decreases-loop-k : goal.decreases-loop-k
+decreases-loop-k l = l.n - l.k

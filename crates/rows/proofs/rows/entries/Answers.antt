@@ -1,0 +1,10 @@
+-- `entries` meets its contract.
+use mathlib.Core.Path.{sym}
+use native.Mathlib.Omega.{arith}
+use Rattle.rows.specs.Laws.Front.{front_lent}
+use Rattle.rows.specs.Laws.Entries.{entries_joined}
+use borrow.Author.Rules.{rules}
+use Rattle.rows.proofs.rows.entries.Goals as goal
+
+pub returns : goal.returns
+returns c = entries_joined _ _ c.args.classes _ (omega arith) c.sum_by_target.ensures

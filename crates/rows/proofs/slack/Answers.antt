@@ -1,0 +1,16 @@
+-- `slack` takes each lower entry from what is left.
+-- Assumes nothing.
+use Prim.Native.Nat.{◌-◌, ◌≤◌}
+use mathlib.Core.Path.{◌≡◌}
+use native.Mathlib.Omega.{arith}
+use lib.ListN.{length, get_or}
+use Rattle.setchain.specs.Sums.{sum_to}
+use Rattle.setchain.specs.Rows.{ONE}
+use Rattle.setchain.specs.Laws.Sums.{total_start, sum_to_more}
+use Rattle.rows.proofs.slack.Goals as goal
+
+pub loop-i-init : goal.loop-i-init
+loop-i-init c = omega (arith, total_start (λ j. get_or c.args.lower.now j 0))
+
+pub loop-i-preserved : goal.loop-i-preserved
+loop-i-preserved c = omega (arith, c.less-left.ensures, sum_to_more (λ j. get_or c.args.lower.now j 0) c.loop-i.i)

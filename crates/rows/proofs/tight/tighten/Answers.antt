@@ -1,0 +1,17 @@
+-- `tighten` meets its contract: after j turns the first j entries are tight, and the others as they were.
+use Prim.Native.Nat.{min, max, ◌-◌, ◌<◌}
+use mathlib.Core.Path.{ap, ◌∙◌}
+use native.Mathlib.Omega.{arith}
+use lib.ListN.{length, length-set}
+use Rattle.rows.specs.Laws.Tight.{Tightened, tight_none, tight_more, tight_all}
+use Rattle.rows.proofs.tight.tighten.Goals as goal
+
+pub loop-j-preserved : goal.loop-j-preserved
+loop-j-preserved c =
+    tight_more c.requires.sizes (omega (arith, c.loop-j.invariant.lowers.filled.long)) c.loop-j.invariant
+    c.total-lower_sum.ensures c.total-upper_sum.ensures
+    (c.larger-tight_least.ensures ∙ ap (max _) c.left_by_others.ensures)
+    (c.smaller-tight_most.ensures ∙ ap (min _) c.left_by_others-in-loop-j.ensures)
+
+pub returns : goal.returns
+returns c = tight_all c.requires.sizes (omega (arith, c.loop-j.invariant.lowers.filled.long)) c.loop-j.invariant
