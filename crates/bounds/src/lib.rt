@@ -1,5 +1,6 @@
 // The bounds of a scheme: shares, means and totals, with what they promise (document 01, "Years").
 #![tactic(auto)]
+
 ghost use Rattle.std.specs.Prelude.{◌≡◌, false, true};
 ghost use Rattle.bounds_spec.specs.Answers.{high_shares, low_shares, mean_answer, share_answer, sheet_cause, sheet_slice, total_answer};
 ghost use Rattle.bounds_spec.specs.Table.{high_table, low_table, table_cause};

@@ -1,5 +1,6 @@
 // The parts of a record: the rule row of a class, the band of a column, and the band reader, which hands the bands out in order.
 #![tactic(auto)]
+
 ghost use Rattle.std.specs.Prelude.{◌≡◌};
 ghost use Rattle.record_spec.specs.Read.{read_cause};
 ghost use Rattle.record_spec.specs.RuleRow.{rule_row_cause, rule_row};
@@ -88,7 +89,7 @@ pub fn band_at(bytes: &[u8], column: usize) -> Band
 }
 
 // How many bands that answer hands out: 1, or 0 where there is no more.
-fn handed_out_lem(bytes: &[u8], column: usize) -> usize
+fn handed_out(bytes: &[u8], column: usize) -> usize
     ensures { result ≡ handed_out (band_at bytes.now column) }
 {
     if !stored(bytes, column) {
@@ -101,7 +102,7 @@ fn handed_out_lem(bytes: &[u8], column: usize) -> usize
 fn after(bytes: &[u8], column: usize) -> usize
     ensures { result ≡ after_at bytes.now column }
 {
-    column + handed_out_lem(bytes, column)
+    column + handed_out(bytes, column)
 }
 
 // Opens a reader over any bytes, at column 0.

@@ -1,5 +1,6 @@
 // A scheme written as a record, and what writing answered.
 #![tactic(auto)]
+
 ghost use Rattle.std.specs.Prelude.{◌≡◌};
 ghost use Rattle.record_spec.specs.Write.{write_answer, write_leaves, write_number, written_length, WritePromise};
 

@@ -44,6 +44,7 @@ joined_parts w p (suc n) l =
 pub get_d_joined : (w n : ℕ) (f : ℕ → List ℕ) → ((i : ℕ) → i < n → length (f i) ≡ w) → (i k : ℕ) → i < n → k < w
     → get_or (joined n f) (i * w + k) 0 ≡ get_or (f i) k 0
 unfolding joined
+get_d_joined w zero f h i k lt kw = elim lt [ ]
 get_d_joined w (suc n) f h i k lt kw =
     ⊎_elim
     (λ e.

@@ -1,0 +1,17 @@
+-- `add_row` stores one entry in the list of each state that it leads to.
+-- Assumes nothing.
+use Prim.Native.Nat.{◌+◌, ◌-◌, ◌≤◌, ◌<◌}
+use mathlib.Core.Logic.{⊎_elim}
+use native.Mathlib.Omega.{arith}
+use lib.ListN.{length}
+use Rattle.setchain.specs.Rows.{ONE, lists_row}
+use Rattle.bounds.specs.Entries.{counts}
+use Rattle.bounds.proofs.AddRowLaws.{Adding, adding_none, adding_here, adding_skip, adding_more, adding_as, adding_all}
+use Rattle.setchain.specs.Sums.{at}
+use Rattle.bounds.proofs.entries.add_row.Given as goal
+
+abbrev pub invariant-loop-j : goal.invariant-loop-j
+invariant-loop-j l = Adding (length l.upper) (lists_row l.lower l.upper) l.i l.initial.entries l.entries l.j
+
+abbrev pub decreases-loop-j : goal.decreases-loop-j
+decreases-loop-j l = length l.upper - l.j

@@ -1,0 +1,32 @@
+-- `list_row` sums the row's ends by target at the fronts of two arrays, and adds its entries.
+-- Assumes nothing.
+use mathlib.Core.Path.{◌≡◌, sym, ◌∙◌}
+use native.Mathlib.Omega.{arith}
+use lib.ListN.{length}
+use Rattle.rows.specs.Laws.Front.{front_fits, front_size, front_lent}
+use Rattle.bounds.proofs.ListRowLaws.{row_adds, row_added, row_slack}
+use borrow.Author.Rules.{rules}
+use Rattle.bounds.proofs.entries.list_row.Goals as goal
+
+pub add_row-requires : goal.add_row-requires
+add_row-requires c =
+    row_adds c.args.rules.now c.args.lowers.now c.args.uppers.now _ _
+    c.requires c.sum_by_target.ensures c.sum_by_target-2.ensures
+
+pub returns-clause-entries : goal.returns-clause-entries
+returns-clause-entries c =
+    let r = c.args.rules.now in
+    let l = c.args.lowers.now in
+    let u = c.args.uppers.now in
+    let lower = c.sum_by_target.ensures in
+    let upper = c.sum_by_target-2.ensures in
+    row_added r l u _ _ c.requires lower upper c.add_row.ensures
+
+pub returns-clause-slack : goal.returns-clause-slack
+returns-clause-slack c =
+    let r = c.args.rules.now in
+    let l = c.args.lowers.now in
+    let u = c.args.uppers.now in
+    let lower = c.sum_by_target.ensures in
+    let upper = c.sum_by_target-2.ensures in
+    row_slack r l u _ _ c.requires lower upper c.slack.ensures

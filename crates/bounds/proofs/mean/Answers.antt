@@ -1,0 +1,19 @@
+-- `mean` answers by the definition, which keeps its promise.
+-- Assumes nothing.
+use native.Mathlib.Omega.{arith}
+use Rattle.bounds.proofs.StartBoundsLaws.{mean_ready, mean_answer_lem}
+use borrow.Author.Rules.{rules}
+use Rattle.bounds.proofs.mean.Goals as goal
+
+pub start_bounds-tenths-requires : goal.start_bounds-tenths-requires
+start_bounds-tenths-requires c = mean_ready c.args.scheme c.args.year c.money_cause-cause.ensures c.in_tenths-payoff.ensures (omega arith)
+
+pub returns-clause-answer : goal.returns-clause-answer
+returns-clause-answer c =
+    (mean_answer_lem c.args.scheme c.args.year c.money_cause-cause.ensures c.in_tenths-payoff.ensures
+    c.start_bounds-tenths.ensures c.in_cents.ensures).0
+
+pub returns-clause-promise : goal.returns-clause-promise
+returns-clause-promise c =
+    (mean_answer_lem c.args.scheme c.args.year c.money_cause-cause.ensures c.in_tenths-payoff.ensures
+    c.start_bounds-tenths.ensures c.in_cents.ensures).1

@@ -1,0 +1,29 @@
+-- `write_pooled` lists the scheme's entries and writes the slice class by class.
+-- Assumes nothing.
+use Prim.Native.Nat.{◌-◌}
+use native.Mathlib.Omega.{arith}
+use Rattle.order.specs.Laws.Written.{Written, written_none}
+use Rattle.bounds.proofs.ListSchemeLaws.{lists_empty}
+use Rattle.bounds.proofs.PooledBoundsLaws.{pooled_state_ready, pooled_of, pooled_more, pooled_all}
+use Rattle.bounds.proofs.pooled.write_pooled.Goals as goal
+
+pub list_scheme-requires : goal.list_scheme-requires
+list_scheme-requires c = (c.requires.write.accepted, lists_empty)
+
+pub pooled_figure-requires : goal.pooled_figure-requires
+pooled_figure-requires c =
+    let a = c.args in (
+      pooled_state_ready a.scheme c.requires.counts a.year c.requires.write.accepted (omega arith) (omega arith) c.share_payoff-payoff.ensures,
+      c.list_scheme.ensures,
+    )
+
+pub loop-j-preserved : goal.loop-j-preserved
+loop-j-preserved c =
+    let a = c.args in
+    pooled_more a.scheme a.book a.high a.year c.requires.write.accepted (omega arith) c.share_payoff-payoff.ensures
+    c.pooled_figure.ensures c.loop-j.invariant
+
+pub returns : goal.returns
+returns c =
+    let a = c.args in
+    pooled_all a.scheme a.book a.high a.year (omega arith) c.loop-j.invariant

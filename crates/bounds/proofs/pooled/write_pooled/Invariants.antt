@@ -1,0 +1,14 @@
+-- `write_pooled` lists the scheme's entries and writes the slice class by class.
+-- Assumes nothing.
+use Prim.Native.Nat.{◌-◌}
+use native.Mathlib.Omega.{arith}
+use Rattle.order.specs.Laws.Written.{Written, written_none}
+use Rattle.bounds.proofs.ListSchemeLaws.{lists_empty}
+use Rattle.bounds.proofs.PooledBoundsLaws.{pooled_state_ready, pooled_of, pooled_more, pooled_all}
+use Rattle.bounds.proofs.pooled.write_pooled.Given as goal
+
+abbrev pub invariant-loop-j : goal.invariant-loop-j
+invariant-loop-j l = Written l.scheme.classes (pooled_of l.scheme l.book l.high l.year) l.out l.j
+
+abbrev pub decreases-loop-j : goal.decreases-loop-j
+decreases-loop-j l = l.scheme.classes - l.j

@@ -1,0 +1,12 @@
+-- `mean_column` writes the series of the means in tenths, and rounds each.
+-- Assumes nothing.
+use mathlib.Core.Path.{◌∙◌}
+use Rattle.bounds.proofs.TableLaws.{mean_ready, round_ready, means_made}
+use borrow.Author.Rules.{rules}
+use Rattle.bounds.proofs.table.mean_column.Goals as goal
+
+pub series-requires : goal.series-requires
+series-requires c = (mean_ready c.args.scheme c.requires.0.accepted c.requires.0.tenths, c.requires.1)
+
+pub returns : goal.returns
+returns c = means_made c.args.scheme c.requires.0.accepted c.requires.0.tenths c.series.ensures.series c.round_means.ensures

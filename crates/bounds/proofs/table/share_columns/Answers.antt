@@ -1,0 +1,17 @@
+-- `share_columns` writes the shares class by class.
+-- Assumes nothing.
+use Prim.Native.Nat.{◌-◌}
+use mathlib.Core.Path.{sym, ◌∙◌}
+use native.Mathlib.Omega.{arith}
+use Rattle.bounds.specs.Sheets.{ShareColumnsPost}
+use Rattle.bounds.proofs.TableLaws.{column_stored, columns_none, share_ready, columns_more, columns_all}
+use borrow.Author.Rules.{rules}
+use Rattle.bounds.proofs.table.share_columns.Goals as goal
+
+pub series-requires : goal.series-requires
+series-requires c = (share_ready c.args.scheme c.requires.0.accepted c.loop-j.invariant (omega arith) c.share_payoff-payoff.ensures, c.requires.1)
+
+pub loop-j-preserved : goal.loop-j-preserved
+loop-j-preserved c =
+    columns_more c.args.scheme c.requires.0.accepted c.loop-j.invariant (omega arith) c.share_payoff-payoff.ensures
+    (column_stored c.args.scheme c.loop-j.j c.loop-j.out _ (omega arith) c.loop-j.invariant.size c.series.ensures.series)

@@ -1,0 +1,18 @@
+-- `fill_state` takes the entries in turn: what each row has left and its sum tell of those taken.
+-- Assumes nothing.
+use Prim.Native.Nat.{min, ◌+◌, ◌-◌, ◌*◌, ◌≤◌, ◌<◌}
+use mathlib.Core.Path.{◌≡◌, refl}
+use native.Mathlib.Omega.{arith}
+use lib.ListN.{length}
+use Rattle.setchain.specs.Rows.{ONE}
+use Rattle.setchain.specs.Sums.{at}
+use Rattle.step_spec.specs.StepAnswer.{MOST_PAYOFF}
+use Rattle.bounds.specs.Entries.{lower_ends, capacities}
+use Rattle.bounds.proofs.FillStateLaws.{EntriesTaken, entries_none, row_inside, entry_fits, entries_more, entries_all}
+use Rattle.bounds.proofs.year.fill_state.Given as goal
+
+abbrev pub invariant-loop-e : goal.invariant-loop-e
+invariant-loop-e l = EntriesTaken l.entries l.first l.end l.payoff l.initial.left l.initial.sums l.left l.sums l.e
+
+abbrev pub decreases-loop-e : goal.decreases-loop-e
+decreases-loop-e l = l.end - l.e

@@ -1,0 +1,16 @@
+-- `edges` meets its contract: the first i rows are those of the scheme's edges.
+use Prim.Native.Nat.{ℕ, ◌+◌, ◌-◌, ◌≤◌}
+use mathlib.Core.Path.{◌≡◌, ap, ◌∙◌}
+use native.Mathlib.Omega.{arith}
+use borrow.Author.Rules.{rules}
+use Rattle.scheme.specs.Laws.Filled.{Filled, fill_none, fill_more}
+use Rattle.mixing_spec.specs.MixingAnswer.{scheme_edges}
+use Rattle.mixing.specs.Bits.{bits_of}
+use Rattle.mixing.specs.Laws.Edges.{classes_few}
+use Rattle.mixing.proofs.edges.edges.Given as goal
+
+abbrev pub invariant-loop-i : goal.invariant-loop-i
+invariant-loop-i l = (l.i ≤ l.n) × Filled 32 (λ k. bits_of l.scheme.classes (scheme_edges l.scheme k)) l.i l.out
+
+abbrev pub decreases-loop-i : goal.decreases-loop-i
+decreases-loop-i l = l.n - l.i

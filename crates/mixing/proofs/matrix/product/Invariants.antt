@@ -1,0 +1,17 @@
+-- `product` meets its contract: the first i rows are the product's.
+use Prim.Native.Nat.{◌-◌, ◌≤◌}
+use mathlib.Core.Path.{sym, ◌∙◌}
+use borrow.Author.Rules.{rules}
+use native.Mathlib.Omega.{arith}
+use lib.Seq.{length-take-le}
+use Rattle.setchain.specs.Sums.{at}
+use Rattle.scheme.specs.Laws.Filled.{Filled, fill_none, fill_more}
+use Rattle.mixing.specs.Bits.{union_of}
+use Rattle.mixing.specs.Laws.Bits.{union_front}
+use Rattle.mixing.proofs.matrix.product.Given as goal
+
+abbrev pub invariant-loop-i : goal.invariant-loop-i
+invariant-loop-i l = (l.i ≤ l.n) × Filled 32 (λ k. union_of l.n (at l.first k) (at l.second)) l.i l.out
+
+abbrev pub decreases-loop-i : goal.decreases-loop-i
+decreases-loop-i l = l.n - l.i

@@ -1,0 +1,14 @@
+-- `first_count` meets its contract: 1, none, or one more than the last count that does not mix.
+use native.Mathlib.Omega.{arith}
+use Rattle.mixing.specs.Laws.Powers.{first_at_once, first_never, search_asks, first_after_last}
+use borrow.Author.Rules.{rules}
+use Rattle.mixing.proofs.powers.first_count.Goals as goal
+
+pub returns-then-levels-eq0 : goal.returns-then-levels-eq0
+returns-then-levels-eq0 c = first_at_once c.store_squares-levels.ensures (omega arith)
+
+pub returns-then-levels-gt-LAST : goal.returns-then-levels-gt-LAST
+returns-then-levels-gt-LAST c = first_never c.store_squares-levels.ensures (omega arith)
+
+pub returns : goal.returns
+returns c = omega (arith, first_after_last c.store_squares-levels.ensures c.last_not_mixing.ensures)

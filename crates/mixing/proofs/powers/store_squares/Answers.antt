@@ -1,0 +1,23 @@
+-- `store_squares` meets its contract: k counts do not mix, and the matrices of k + 1 are stored.
+use Prim.Native.Nat.{◌-◌}
+use mathlib.Core.List.{[]}
+use native.Mathlib.Omega.{arith}
+use lib.ListN.{get_or}
+use Rattle.mixing.specs.Powers.{Squaring}
+use Rattle.mixing.specs.Laws.Powers.{squaring_none, squaring_stops, squaring_more, squaring_ends}
+use Rattle.mixing.proofs.powers.store_squares.Goals as goal
+
+pub loop-k-init : goal.loop-k-init
+loop-k-init c = squaring_none c.requires
+
+pub returns-then-all_rows : goal.returns-then-all_rows
+returns-then-all_rows c = squaring_stops c.loop-k.invariant c.requires.bits c.all_rows.ensures c.if-all_rows.true
+
+pub loop-k-preserved : goal.loop-k-preserved
+loop-k-preserved c = squaring_more c.loop-k.invariant c.requires.bits c.all_rows.ensures c.if-all_rows.false (omega arith) c.product-squared.ensures
+
+pub returns-then-all_rows-2 : goal.returns-then-all_rows-2
+returns-then-all_rows-2 c = squaring_stops c.loop-k.invariant c.requires.bits c.all_rows-2.ensures c.if-all_rows-2.true
+
+pub returns : goal.returns
+returns c = squaring_ends c.loop-k.invariant c.requires.bits c.all_rows-2.ensures c.if-all_rows-2.false (omega arith)

@@ -1,2 +1,0 @@
--- The rules by which a reader in a local is lent.
-pub mod Lending

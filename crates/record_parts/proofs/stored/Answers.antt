@@ -1,0 +1,13 @@
+-- `stored` meets its contract: false where the bytes are declined, else the column's test.
+use mathlib.Core.Path.{sym, ◌∙◌}
+use native.Mathlib.Omega.{arith}
+use Rattle.record_spec.specs.Frame.{Framed}
+use Rattle.record_spec.specs.Laws.Read.{read_framed}
+use Rattle.record_parts.specs.Laws.Reader.{stored_declined, stored_accepted}
+use borrow.Author.Rules.{rules}
+use Rattle.record_parts.proofs.stored.Goals as goal
+
+pub bounds-bytes-4 : goal.bounds-bytes-4
+bounds-bytes-4 c =
+    let framed : Framed c.args.bytes.now = read_framed _ (sym c.cause.ensures ∙ c.if-cause-ne0.false) in
+    omega (arith, framed.header)
