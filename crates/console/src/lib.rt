@@ -6,23 +6,23 @@ ghost use Rattle.console.specs.Input.{ReadInto};
 ghost use Rattle.console.specs.Records.{record_at};
 ghost use Rattle.console.specs.Checksum.{added, checksum_from};
 
-use libc::{STDERR_FILENO, STDIN_FILENO, STDOUT_FILENO};
+use std::io::{Print, Read, Stderr, Stdin, Stdout};
 
 // Bytes as they are, to standard output. False where a write failed or took nothing: some of them may be written then.
-pub fn bytes(text: &[u8]) -> bool {
-    io::write_all(STDOUT_FILENO, text)
+pub fn bytes(out: Stdout, text: &[u8]) -> bool {
+    out.write_all(text).is_ok()
 }
 
 // A space and a number in decimal.
-pub fn number(x: u64) {
-    bytes(b" ");
-    io::print_decimal(STDOUT_FILENO, x);
+pub fn number(out: Stdout, x: u64) {
+    bytes(out, b" ");
+    out.print(x).is_ok();
 }
 
 // A word and a number.
-pub fn word(text: &[u8], x: u64) {
-    bytes(text);
-    number(x);
+pub fn word(out: Stdout, text: &[u8], x: u64) {
+    bytes(out, text);
+    number(out, x);
 }
 
 // A byte in 64 bits, as `number` takes it.
@@ -33,13 +33,13 @@ pub fn wide(x: u8) -> u64
 }
 
 // The end of a line.
-pub fn end() {
-    bytes(b"\n");
+pub fn end(out: Stdout) {
+    bytes(out, b"\n");
 }
 
 // A line to standard error.
-pub fn complain(text: &[u8]) {
-    io::write_all(STDERR_FILENO, text);
+pub fn complain(err: Stderr, text: &[u8]) {
+    err.write_all(text).is_ok();
 }
 
 // What came of reading: how many bytes the buffer has of the input, from its front on, and whether a read failed.
@@ -57,21 +57,26 @@ fn smaller(a: usize, b: usize) -> usize
 }
 
 // One read: what came, from the front of the chunk on.
-fn fetch(chunk: &mut [u8]) -> Input {
-    let got = libc::read(STDIN_FILENO, chunk);
-    Input {
-        length: io::count(got, chunk),
-        failed: got < 0,
+fn fetch(mut input: Stdin, chunk: &mut [u8]) -> Input {
+    match input.read(chunk) {
+        Ok(length) => Input {
+            length,
+            failed: false,
+        },
+        Err(_) => Input {
+            length: 0,
+            failed: true,
+        },
     }
 }
 
 // One read more, put into the buffer behind the first `done` bytes. The end of the input brings none.
-fn more(buffer: &mut [u8], done: usize) -> Input
+fn more(input: Stdin, buffer: &mut [u8], done: usize) -> Input
     requires { done ≤ length buffer.old }
     ensures { ReadInto done buffer.old buffer.new result.length }
 {
-    let mut chunk = io::buffer();
-    let read = fetch(&mut chunk);
+    let mut chunk = [0u8; 4096];
+    let read = fetch(input, &mut chunk);
     let length = smaller(read.length, buffer.len() - done);
     big_endian::copy(&chunk, 0, buffer, done, length);
     Input {
@@ -81,12 +86,12 @@ fn more(buffer: &mut [u8], done: usize) -> Input
 }
 
 // Reads until the input ends or the buffer is full; bytes past what was read stay as they were.
-fn fill(buffer: &mut [u8]) -> Input
+fn fill(input: Stdin, buffer: &mut [u8]) -> Input
     ensures { ReadInto 0 buffer.old buffer.new result.length }
 {
     let mut done: usize = 0;
     while done < buffer.len() {
-        let read = more(buffer, done);
+        let read = more(input, buffer, done);
         if read.length == 0 {
             return Input {
                 length: done,
@@ -103,13 +108,13 @@ fn fill(buffer: &mut [u8]) -> Input
 
 // All of standard input, or as much of it as the buffer holds; bytes past it stay as they were. Where a read failed the program says so on
 // standard error.
-pub fn read_all(program: &[u8], buffer: &mut [u8]) -> Input
+pub fn read_all(input: Stdin, err: Stderr, program: &[u8], buffer: &mut [u8]) -> Input
     ensures { ReadInto 0 buffer.old buffer.new result.length }
 {
-    let read = fill(buffer);
+    let read = fill(input, buffer);
     if read.failed {
-        complain(program);
-        complain(b": standard input could not be read\n");
+        complain(err, program);
+        complain(err, b": standard input could not be read\n");
     }
     read
 }

@@ -1,6 +1,7 @@
 // What is asked of books: pooled figures, and two books joined.
 use crate::{SHARES, show_bounds, show_cause};
 use scheme::Scheme;
+use std::io::Stdout;
 
 // The count of a class, by the kinds of the format.
 fn count(kind: u8, class: u8, classes: u8, start: u8, number: u64, beyond: u32) -> u32 {
@@ -35,17 +36,21 @@ fn counts(kind: u8, classes: u8, start: u8, number: u64, beyond: u32) -> [u32; 3
 }
 
 // The pooled share of class s, the pooled mean and the pooled total of a year.
-fn pooled(scheme: Scheme, kind: u8, book: [u32; 32], year: u64) {
-    console::word(b"POOLED", kind as u64);
-    console::number(year);
-    show_bounds(bounds::pooled_share(scheme, book, scheme.classes as u64, year));
-    show_bounds(bounds::pooled_mean(scheme, book, year));
-    show_bounds(bounds::pooled_total(scheme, book, year));
-    console::end();
+fn pooled(stdout: Stdout, scheme: Scheme, kind: u8, book: [u32; 32], year: u64) {
+    console::word(stdout, b"POOLED", kind as u64);
+    console::number(stdout, year);
+    show_bounds(
+        stdout,
+        bounds::pooled_share(scheme, book, scheme.classes as u64, year),
+    );
+    show_bounds(stdout, bounds::pooled_mean(scheme, book, year));
+    show_bounds(stdout, bounds::pooled_total(scheme, book, year));
+    console::end(stdout);
 }
 
 // A pooled share sheet into two slices.
 fn pooled_sheet(
+    stdout: Stdout,
     scheme: Scheme,
     kind: u8,
     book: [u32; 32],
@@ -53,51 +58,70 @@ fn pooled_sheet(
     low: &mut [u64],
     high: &mut [u64],
 ) {
-    console::word(b"POOLSHARES", kind as u64);
-    console::number(year);
-    show_cause(bounds::pooled_share_sheet(scheme, book, year, low, high));
-    console::number(crate::checksum_of(low));
-    console::number(crate::checksum_of(high));
-    console::end();
+    console::word(stdout, b"POOLSHARES", kind as u64);
+    console::number(stdout, year);
+    show_cause(
+        stdout,
+        bounds::pooled_share_sheet(scheme, book, year, low, high),
+    );
+    console::number(stdout, crate::checksum_of(low));
+    console::number(stdout, crate::checksum_of(high));
+    console::end(stdout);
 }
 
 // A pooled share sheet into slices of a and b numbers.
-fn pooled_into(scheme: Scheme, kind: u8, book: [u32; 32], year: u64, a: usize, b: usize) {
+fn pooled_into(
+    stdout: Stdout,
+    scheme: Scheme,
+    kind: u8,
+    book: [u32; 32],
+    year: u64,
+    a: usize,
+    b: usize,
+) {
     let mut low = [7u64; 33];
     let mut high = [7u64; 33];
     if a <= SHARES && b <= SHARES {
-        pooled_sheet(scheme, kind, book, year, &mut low[..a], &mut high[..b]);
+        pooled_sheet(
+            stdout,
+            scheme,
+            kind,
+            book,
+            year,
+            &mut low[..a],
+            &mut high[..b],
+        );
     }
 }
 
 // What is asked of a book in a year.
-fn of_year(scheme: Scheme, kind: u8, book: [u32; 32], year: u64) {
-    pooled(scheme, kind, book, year);
+fn of_year(stdout: Stdout, scheme: Scheme, kind: u8, book: [u32; 32], year: u64) {
+    pooled(stdout, scheme, kind, book, year);
     let s = scheme.classes as usize;
-    pooled_into(scheme, kind, book, year, s, s);
-    pooled_into(scheme, kind, book, year, s, s + 1);
+    pooled_into(stdout, scheme, kind, book, year, s, s);
+    pooled_into(stdout, scheme, kind, book, year, s, s + 1);
 }
 
 // What is asked of a kind of book, with a count beyond s that no class may have.
-fn of_kind(scheme: Scheme, number: u64, kind: u8) {
+fn of_kind(stdout: Stdout, scheme: Scheme, number: u64, kind: u8) {
     let book = counts(kind, scheme.classes, scheme.start, number, 4_294_967_295);
     let horizon = scheme.horizon as u64;
-    of_year(scheme, kind, book, 1);
-    of_year(scheme, kind, book, horizon);
-    of_year(scheme, kind, book, horizon + 1);
+    of_year(stdout, scheme, kind, book, 1);
+    of_year(stdout, scheme, kind, book, horizon);
+    of_year(stdout, scheme, kind, book, horizon + 1);
 }
 
 // Two kinds of book joined, with a count beyond s.
-fn joined(scheme: Scheme, number: u64, first: u8, second: u8, beyond: u32) {
-    console::word(b"JOIN", first as u64);
-    console::number(second as u64);
+fn joined(stdout: Stdout, scheme: Scheme, number: u64, first: u8, second: u8, beyond: u32) {
+    console::word(stdout, b"JOIN", first as u64);
+    console::number(stdout, second as u64);
     let one = counts(first, scheme.classes, scheme.start, number, beyond);
     let other = counts(second, scheme.classes, scheme.start, number, beyond);
     let answer = book::join(one, other);
-    show_cause(answer.number);
+    show_cause(stdout, answer.number);
     let sums = answer.book;
-    console::number(checksum_of_counts(sums));
-    console::end();
+    console::number(stdout, checksum_of_counts(sums));
+    console::end(stdout);
 }
 
 // The checksum of a book.
@@ -112,15 +136,15 @@ fn checksum_of_counts(book: [u32; 32]) -> u64 {
 }
 
 // All kinds of book, and some of them joined.
-pub fn books(scheme: Scheme, number: u64) {
-    of_kind(scheme, number, 0);
-    of_kind(scheme, number, 1);
-    of_kind(scheme, number, 2);
-    of_kind(scheme, number, 3);
-    of_kind(scheme, number, 4);
-    joined(scheme, number, 0, 1, 0);
-    joined(scheme, number, 1, 1, 0);
-    joined(scheme, number, 2, 4, 0);
-    joined(scheme, number, 2, 0, 0);
-    joined(scheme, number, 4, 4, 4_294_967_295);
+pub fn books(stdout: Stdout, scheme: Scheme, number: u64) {
+    of_kind(stdout, scheme, number, 0);
+    of_kind(stdout, scheme, number, 1);
+    of_kind(stdout, scheme, number, 2);
+    of_kind(stdout, scheme, number, 3);
+    of_kind(stdout, scheme, number, 4);
+    joined(stdout, scheme, number, 0, 1, 0);
+    joined(stdout, scheme, number, 1, 1, 0);
+    joined(stdout, scheme, number, 2, 4, 0);
+    joined(stdout, scheme, number, 2, 0, 0);
+    joined(stdout, scheme, number, 4, 4, 4_294_967_295);
 }

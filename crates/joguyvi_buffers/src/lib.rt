@@ -1,5 +1,6 @@
 // Numbers of 32 bits copied into a lent buffer: band ends and the counts of books.
 #![tactic(auto)]
+
 ghost use Rattle.std.specs.Prelude.{◌≡◌};
 ghost use Rattle.joguyvi_spec.specs.Buffers.{copied_front};
 

@@ -1,5 +1,6 @@
 // Records checked, written again and made ready, for C and for Rust: each function answers 0 or the cause's number, and fills the lent buffers only where it answers 0.
 #![tactic(auto)]
+
 ghost use Rattle.joguyvi_spec.specs.Records.{CheckCall, ReadyCall, RewriteCall};
 
 mod records;

@@ -1,8 +1,10 @@
 // Tight rows, rule rows and bands of a record, and its mixing check, for C and for Rust: each function answers 0 or the cause's number, and fills the lent buffers only where it answers 0.
 #![tactic(auto)]
+
 ghost use Rattle.joguyvi_spec.specs.Rows.{BandsCall, RowCall, RuleRowCall};
 ghost use Rattle.joguyvi_spec.specs.Mixing.{MixingCall};
 
+mod copies;
 mod row_buffers;
 
 // The tight row of a class, in parts, into two buffers of 32 numbers, with 0 beyond the classes.

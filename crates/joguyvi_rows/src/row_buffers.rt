@@ -3,6 +3,7 @@ ghost use Rattle.std.specs.Prelude.{◌≤◌};
 ghost use Rattle.joguyvi_spec.specs.Rows.{BandsPost, PartPost, RowPost};
 ghost use Rattle.joguyvi_spec.specs.Mixing.{PutCountPost};
 
+use crate::copies;
 use mixing::MixingAnswer;
 use scheme::{RowAnswer, Scheme, or_else};
 
@@ -46,8 +47,8 @@ pub fn put_bands(scheme: Scheme, lower: &mut [u32], upper: &mut [u32]) -> u8
     if number != 0 {
         return number;
     }
-    joguyvi_buffers::copy_front(&scheme.lowers, lower);
-    joguyvi_buffers::copy_front(&scheme.uppers, upper);
+    copies::copy_ends(&scheme.lowers, lower);
+    copies::copy_ends(&scheme.uppers, upper);
     0
 }
 

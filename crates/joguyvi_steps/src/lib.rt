@@ -1,5 +1,6 @@
 // The one-year step of a class of a record, for C and for Rust: each function answers 0 or the cause's number, and fills the lent buffers only where it answers 0.
 #![tactic(auto)]
+
 ghost use Rattle.std.specs.Prelude.{false, true};
 ghost use Rattle.joguyvi_spec.specs.Steps.{StepCall};
 

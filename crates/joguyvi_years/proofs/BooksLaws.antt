@@ -1,15 +1,19 @@
 -- Lent books: a joined book in a buffer, an answer over a lent book, and pooled share sheets of a record.
 -- Assumes nothing.
 use Prim.Native.Nat.{ℕ, ◌≤◌}
-use mathlib.Core.Path.{◌≡◌, ap, ap₂, sym, ◌∙◌, subst, subst₂}
+use mathlib.Core.Path.{◌≡◌, refl, ap, ap₂, sym, ◌∙◌, subst, subst₂}
 use mathlib.Core.Bool.{true, false}
 use mathlib.Core.List.{List, []}
 use lib.ListN.{length}
+use borrow.Author.Count.{below_none}
+use Rattle.setchain.specs.Sums.{at}
 use Rattle.scheme.specs.declared.Scheme.{Scheme}
 use Rattle.scheme.specs.FirstCause.{or_else}
 use Rattle.scheme.specs.Cause.{slices_cause}
 use Rattle.scheme.specs.Laws.FirstCause.{second_none, first_more}
 use Rattle.scheme.specs.Laws.Judged.{accepted_cause}
+use Rattle.scheme.specs.Laws.Tab.{as_tab}
+use Rattle.scheme.specs.Laws.Filled.{Filled, fill_all}
 use Rattle.record_spec.specs.declared.ReadAnswer.{ReadAnswer}
 use Rattle.record_spec.specs.Layout.{scheme_in}
 use Rattle.record_spec.specs.Read.{read_answer}
@@ -21,12 +25,19 @@ use Rattle.bounds_spec.specs.declared.Bounds.TheVariants.{Answered, Refused}
 use Rattle.bounds_spec.specs.Answers.{answer_by, sheet_slice}
 use Rattle.bounds_spec.specs.Pooled.{Figure, pooled_answer, pooled_sheet_cause, pooled_shares, PooledKept, PooledPromise, PooledSheetPromise}
 use Rattle.bounds_spec.specs.Laws.Pooled.{pooled_kept}
-use Rattle.joguyvi_spec.specs.Buffers.{first32, buffer_cause, copied_front, BufferPost}
+use Rattle.joguyvi_spec.specs.Buffers.{first32, buffer_cause, BufferPost}
 use Rattle.joguyvi_spec.specs.Books.{lent_answer, put_book_number, JoinCall, PooledSheetCall}
-use Rattle.joguyvi_spec.specs.Laws.Buffers.{buffer_out, buffer_fits, buffer_size, thirteen, unfilled, all_copied}
+use Rattle.joguyvi_spec.specs.Laws.Buffers.{buffer_out, buffer_fits, buffer_size, thirteen, unfilled}
 use Rattle.joguyvi_spec.specs.Laws.Causes.{stopped_number, passed_number, passed_scheme}
 use Rattle.joguyvi_spec.specs.Laws.Figures.{BoundsPromise}
 use Rattle.joguyvi_spec.specs.Laws.Books.{lent_kept, lent_sheet}
+
+-- A buffer before any count is copied, and after all are.
+pub copied_none : (counts : List ℕ) {out : List ℕ} → length out ≡ 32 → Filled 32 (at counts) 0 out
+copied_none counts e = record { long = e; done = below_none _ }
+
+pub copied_all : {counts out : List ℕ} {k : ℕ} → length counts ≡ 32 → 32 ≤ k → Filled 32 (at counts) k out → out ≡ counts
+copied_all {counts} {out} {k} e h w = fill_all 32 (at counts) k out h w ∙ sym (as_tab 0 counts 32 (at counts) e (λ j l. refl))
 
 -- Low and high over a book of another length, and of 32 counts.
 module _ (book : List ℕ) (low high : ℕ) where
@@ -58,15 +69,14 @@ module _ (answer : JoinAnswer) (first second : ℕ) (out : List ℕ) {buffer len
   pub book_declined : (n ≡ 0 → ⊥) → BufferPost (put_book_number answer first second out) answer.book out n out
   book_declined some = record { answer = number_is; filled = unfilled answer.book out some }
 
-  book_fits : n ≡ 0 → length out ≡ 32
+  pub book_fits : n ≡ 0 → length out ≡ 32
   book_fits none =
       buffer_size 32 out
       (second_none (slices_cause 32 first second) (buffer_cause 32 out)
       (second_none answer.number (or_else (slices_cause 32 first second) (buffer_cause 32 out)) (sym number_is ∙ none)))
 
-  pub book_put : {out' : List ℕ} → n ≡ 0 → length answer.book ≡ 32 → out' ≡ copied_front answer.book out
-      → BufferPost (put_book_number answer first second out) answer.book out 0 out'
-  book_put none size copied = record { answer = sym none ∙ number_is; filled = copied ∙ all_copied answer.book out (book_fits none ∙ sym size) }
+  pub book_put : {out' : List ℕ} → n ≡ 0 → out' ≡ answer.book → BufferPost (put_book_number answer first second out) answer.book out 0 out'
+  book_put none p = record { answer = sym none ∙ number_is; filled = p }
 
 -- Two lent books joined.
 pub join_call : (first second out : List ℕ) {one other : List ℕ} {joined : JoinAnswer} {n : ℕ} {out' : List ℕ} → one ≡ first32 first → other ≡ first32 second → joined ≡ join_answer one other

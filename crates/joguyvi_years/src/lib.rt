@@ -1,6 +1,7 @@
 // Shares, means, totals, share sheets, the same pooled over a book, chances of having reached a class, and whole sheets of a record,
 // for C and for Rust, and two books joined: each function answers 0 or the cause's number, and fills the lent buffers only where it answers 0.
 #![tactic(auto)]
+
 ghost use Rattle.joguyvi_spec.specs.Figures.{MeanCall, ReachedCall, ShareCall, TotalCall};
 ghost use Rattle.bounds_spec.specs.Pooled.{Figure};
 ghost use Rattle.joguyvi_spec.specs.Books.{JoinCall, PooledCall, PooledSheetCall};

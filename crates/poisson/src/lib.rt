@@ -1,5 +1,6 @@
 // The bands of two claim frequencies (document 02, item 10).
 #![tactic(auto)]
+
 mod table;
 mod values;
 

@@ -1,5 +1,6 @@
 // The chance of having reached a class (document 02, item 9): the share of the class in the scheme in which nobody leaves it.
 #![tactic(auto)]
+
 ghost use Rattle.std.specs.Prelude.{◌≡◌};
 ghost use Rattle.bounds_spec.specs.Reached.{ReachedPromise, reached_answer};
 ghost use Rattle.reached.specs.Staying.{StayingRules, staying_rule};

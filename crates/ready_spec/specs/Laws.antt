@@ -2,7 +2,6 @@
 use Rattle.std.specs.Prelude.{ℕ, zero, suc, ◌+◌, ◌*◌, ◌/◌, ◌%◌, ◌≤◌, ◌<◌, ◌≡◌, Bool, true, false, cond, ◌&&◌, List, [], ◌∷◌, T, eqb, leb, get_or}
 use Rattle.std.proofs.Common.{leb→le, arith, mul-le-mul, eq-eqb, ne_eqb, lt-ltb, le-ltb}
 use Rattle.std.proofs.Math.Decide.{ℕ_discrete, dec_lt}
-use Rattle.setchain.specs.Laws.Tests.{both_pass}
 use Rattle.scheme.specs.Access.{CELL_STRIDE}
 use Rattle.ready_spec.specs.Scales.{chosen, classes_of, factor_of, tenths_of, scale1, scale2, scale3}
 use Rattle.ready_spec.specs.Moves.{Movable}
@@ -48,10 +47,14 @@ abbrev all_up_to : ℕ → List ℕ → Bool
 all_up_to bound [] = true
 all_up_to bound (x ∷ xs) = leb x bound && all_up_to bound xs
 
+&&-T : (a b : Bool) → T (a && b) → T a × T b
+&&-T true b t = (tt, t)
+&&-T false b t = absurd t
+
 all_up_to_lem : (bound : ℕ) (xs : List ℕ) → T (all_up_to bound xs) → (i : ℕ) → get_or xs i 0 ≤ bound
 all_up_to_lem bound [] t i = omega arith
-all_up_to_lem bound (x ∷ xs) t zero = leb→le x bound (both_pass (leb x bound) (all_up_to bound xs) t).0
-all_up_to_lem bound (x ∷ xs) t (suc i) = all_up_to_lem bound xs (both_pass (leb x bound) (all_up_to bound xs) t).1 i
+all_up_to_lem bound (x ∷ xs) t zero = leb→le x bound (&&-T (leb x bound) (all_up_to bound xs) t).0
+all_up_to_lem bound (x ∷ xs) t (suc i) = all_up_to_lem bound xs (&&-T (leb x bound) (all_up_to bound xs) t).1 i
 
 -- The largest of the tenths.
 pub tenths_most : (number i : ℕ) → tenths_of number i ≤ 3953

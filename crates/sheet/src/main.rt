@@ -1,5 +1,6 @@
 // Reads one record from standard input and prints its sheet (document 01, "Sheet program and examples").
 #![tactic(auto)]
+
 ghost use Rattle.sheet.specs.Program.{ComposePre, ComposePost};
 
 // One byte more than a record's length field can say: input that has more is refused by its first bytes, as it would be by all of them.
@@ -17,15 +18,18 @@ fn compose(input: &[u8], n: usize, out: &mut [u8]) -> usize
     record_write::written_length(answer) as usize
 }
 
-fn main() {
+fn main(rt: HostRuntime) {
     let mut input = [0u8; INPUT];
-    let read = console::read_all(b"sheet", &mut input);
+    let read = console::read_all(rt.stdin(), rt.stderr(), b"sheet", &mut input);
     if read.failed {
         return;
     }
     let mut out = [0u8; SPACE];
     let length = compose(&input, read.length, &mut out);
-    if !console::bytes(&out[..length]) {
-        console::complain(b"sheet: standard output could not be written\n");
+    if !console::bytes(rt.stdout(), &out[..length]) {
+        console::complain(
+            rt.stderr(),
+            b"sheet: standard output could not be written\n",
+        );
     }
 }

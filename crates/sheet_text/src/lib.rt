@@ -1,5 +1,6 @@
 // The sheet of a record as text (document 01, "Sheet program and examples").
 #![tactic(auto)]
+
 ghost use Rattle.std.specs.Prelude.{◌≡◌, ◌≤◌};
 ghost use Rattle.scheme.specs.Accepted.{Accepted};
 ghost use Rattle.sheet_spec.specs.Sheet.{refused_line, sheet_of};

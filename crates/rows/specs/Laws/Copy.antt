@@ -1,10 +1,14 @@
 -- A slice filled from another list, place by place.
 -- Assumes nothing.
 use Rattle.std.specs.Prelude.{ℕ, ◌≤◌, ◌≡◌, refl, cond, List, length, get_or}
-use Rattle.std.proofs.Common.{ap, sym, ◌∙◌, eq-eqb, ne_eqb}
+use Rattle.std.proofs.Common.{ap, sym, ◌∙◌, below_none, eq-eqb, ne_eqb}
 use Rattle.scheme.specs.Laws.Tab.{as_tab}
 use Rattle.scheme.specs.Laws.Filled.{Filled, fill_all}
 use Rattle.rows.specs.Rows.{copied_into}
+
+-- Nothing of it is copied yet.
+pub copy_none : (n : ℕ) (f : ℕ → ℕ) (a : List ℕ) → length a ≡ n → Filled n f 0 a
+copy_none n f a e = record { long = e; done = below_none _ }
 
 -- All of it is.
 pub copy_all : (n : ℕ) (from : List ℕ) (i : ℕ) (a : List ℕ) → length from ≡ n → n ≤ i → Filled n (λ k. get_or from k 0) i a → a ≡ from

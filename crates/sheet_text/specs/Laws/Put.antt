@@ -53,10 +53,12 @@ word_all {l} {at} {word} {m} {k} e end =
 -- The digits of a number, by cases.
 digits_one : (most x : ℕ) → 0 < most → x < 10 → digits_within most x ≡ (48 + x) ∷ []
 unfolding digits_within
+digits_one zero x h l = elim h [ ]
 digits_one (suc most) x h l = simp (lt-ltb x 10 l)
 
 digits_more : (most x : ℕ) → 0 < most → 10 ≤ x → digits_within most x ≡ digits_within (most - 1) (x / 10) ++ ((48 + x % 10) ∷ [])
 unfolding digits_within
+digits_more zero x h l = elim h [ ]
 digits_more (suc most) x h l = let e : suc most - 1 ≡ most = omega arith in rw e (simp (le-ltb x 10 l))
 
 -- Two digits, and two after the others.

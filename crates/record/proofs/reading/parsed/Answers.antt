@@ -22,7 +22,6 @@ use Rattle.record.proofs.reading.parsed.Goals as goal
 -- An upper end stands behind the lower end.
 upper-places : (bytes : List ℕ) (p n : ℕ)
     → tab BAND_PLACES (up_to n (λ k. be_at END_WIDTH bytes (p + END_WIDTH + k * BAND_WIDTH))) ≡ tab BAND_PLACES (up_to n (λ k. be_at END_WIDTH bytes (p + k * BAND_WIDTH + END_WIDTH)))
-
 upper-places bytes p n =
     tab_eq 0 BAND_PLACES _ _ (λ k lt. up_to_eq n _ _ k (λ less. let e : p + END_WIDTH + k * BAND_WIDTH ≡ p + k * BAND_WIDTH + END_WIDTH = omega arith in ap (be_at END_WIDTH bytes) e))
 
@@ -36,7 +35,6 @@ made : (bytes : List ℕ) {header width : ℕ} {rules lowers uppers premiums : L
     record { classes = classes_in bytes; columns = columns_in bytes; start = get_or bytes 5 0; horizon = get_or bytes 6 0; rules = rules; lowers = lowers; uppers = uppers; premiums = premiums }
     (scheme_in bytes)
 unfolding scheme_of
-
 made bytes {header} h w r l u p = rw (r, l, u, upper-places bytes (header + classes_in bytes * columns_in bytes) (columns_in bytes), p, h, w)
 
 pub read_numbers-requires-3 : goal.read_numbers-requires-3

@@ -1,0 +1,14 @@
+-- `payoff_of` meets its contract: the places passed hold the payoff's numbers.
+-- Assumes nothing.
+use Prim.Native.Nat.{◌-◌}
+use native.Mathlib.Omega.{arith}
+use lib.ListN.{get_or}
+use Rattle.scheme.specs.Laws.Filled.{Filled, fill_none, fill_more, fill_all}
+use Rattle.joguyvi_spec.specs.Buffers.{first32}
+use Rattle.joguyvi_steps.proofs.steps.payoff_of.Given as goal
+
+abbrev pub invariant-loop-k : goal.invariant-loop-k
+invariant-loop-k l = Filled 32 (λ j. get_or l.numbers j 0) l.k l.out
+
+abbrev pub decreases-loop-k : goal.decreases-loop-k
+decreases-loop-k l = 32 - l.k

@@ -1,0 +1,17 @@
+-- `copy_counts` copies: the places passed hold the book's counts.
+-- Assumes nothing.
+use Prim.Native.Nat.{◌-◌}
+use mathlib.Core.Path.{◌≡◌, refl}
+use native.Mathlib.Omega.{arith}
+use lib.ListN.{length}
+use Rattle.setchain.specs.Sums.{at}
+use Rattle.scheme.specs.Laws.Filled.{Filled, fill_more}
+use Rattle.joguyvi_years.proofs.BooksLaws.{copied_none, copied_all}
+use borrow.Author.Rules.{rules}
+use Rattle.joguyvi_years.proofs.books.copy_counts.Given as goal
+
+abbrev pub invariant-loop-k : goal.invariant-loop-k
+invariant-loop-k l = Filled 32 (at l.counts) l.k l.out
+
+abbrev pub decreases-loop-k : goal.decreases-loop-k
+decreases-loop-k l = 32 - l.k
