@@ -1,5 +1,6 @@
 // The bands of two claim frequencies, for C and for Rust: 0 or the cause's number, and the lent buffers filled only where it is 0.
 #![tactic(auto)]
+
 ghost use Rattle.joguyvi_spec.specs.Poisson.{PoissonCall};
 
 use scheme::or_else;
