@@ -16,7 +16,8 @@ def rooms():
             names.append(head.group(1))
             crates[names[-1]] = []
         elif line and not line.startswith("#"):
-            crate, needs = line.split(":")
+            head, needs = line.split(":")
+            crate = head.split()[0]
             crates[names[-1]].append(crate)
             rests[crate] = needs.split()
     home = {crate: room for room in names for crate in crates[room]}

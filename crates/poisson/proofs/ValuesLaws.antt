@@ -1,23 +1,22 @@
 -- The ends of one side, filled column by column: what stands in the locals after k columns with claims.
 -- Assumes nothing.
-use Prim.Native.Nat.{ℕ, zero, suc, ◌+◌, ◌-◌, ◌*◌, ◌≤◌, ◌<◌}
+use Prim.Native.Nat.{ℕ, suc, ◌+◌, ◌-◌, ◌≤◌, ◌<◌}
 use mathlib.Core.Path.{◌≡◌, ap, sym, ◌∙◌}
 use mathlib.Core.Bool.{Bool, true, false, not, cond}
 use mathlib.Core.List.{List}
 use native.Mathlib.Omega.{arith}
 use native.Mathlib.Numerals.{add-one}
-use lib.Dec.{ltb}
 use lib.ListN.{replicate, set}
 use borrow.Author.Tests.{ne_eqb}
 use Rattle.setchain.specs.Sums.{sum_to}
 use Rattle.setchain.specs.Rows.{ONE}
-use Rattle.setchain.specs.Laws.Sums.{sum_to_most, total_more}
+use Rattle.setchain.specs.Laws.Sums.{sum_to_most}
 use Rattle.scheme.specs.Tables.{tab}
 use Rattle.scheme.specs.Stored.{up_to}
 use Rattle.scheme.specs.Laws.Stored.{stored_none, stored_more}
 use Rattle.poisson_spec.specs.Exponentials.{entry_at}
 use Rattle.poisson_spec.specs.Values.{value_from, value}
-use Rattle.poisson_spec.specs.Bands.{frequency_of, end_of, ends_of}
+use Rattle.poisson_spec.specs.Bands.{end_of, ends_of}
 use Rattle.poisson_spec.specs.Laws.Table.{entry_most}
 use Rattle.poisson_spec.specs.Laws.Values.{value_most}
 use Rattle.poisson_spec.specs.Laws.Answer.{end_value, end_last}

@@ -1,19 +1,16 @@
 -- What the table, the values and the bands are held to (document 02, item 10).
-use Rattle.std.specs.Prelude.{ℕ, zero, suc, min, ◌+◌, ◌-◌, ◌*◌, ◌^◌, ◌≤◌, ◌<◌, ◌≡◌, refl, Bool, true, false, not, cond, List, eqb, ltb}
-use Rattle.std.proofs.Common.{ap, sym, ◌∙◌, subst, arith, le_of_lt, mul-one, eq-eqb, ne_eqb}
+use Rattle.std.specs.Prelude.{ℕ, suc, ◌+◌, ◌≤◌, ◌<◌, ◌≡◌, Bool, true, false}
+use Rattle.std.proofs.Common.{ap, sym, ◌∙◌, subst, arith, le_of_lt, mul-one}
 use Rattle.std.proofs.Math.Nat.{pow-zero}
-use Rattle.setchain.specs.Sums.{at, sum_to}
-use Rattle.setchain.specs.Rows.{ONE}
-use Rattle.scheme.specs.Laws.Stored.{stored_at}
+use Rattle.setchain.specs.Sums.{at}
 use Rattle.poisson_spec.specs.Series.{added_parts, taken_parts, Bounds, Exceeds}
 use Rattle.poisson_spec.specs.Exponentials.{entry_at}
-use Rattle.poisson_spec.specs.Values.{value_from, value}
-use Rattle.poisson_spec.specs.Bands.{frequency_of, last_end, end_of, ends_of}
+use Rattle.poisson_spec.specs.Values.{value}
 use Rattle.poisson_spec.specs.Answer.{bands_cause, bands_answer, BandsPromise}
-use Rattle.poisson_spec.specs.Laws.Series.{over, over_zero, numerator}
+use Rattle.poisson_spec.specs.Laws.Series.{over_zero}
 use Rattle.poisson_spec.specs.Laws.Table.{entry_cut}
 use Rattle.poisson_spec.specs.Laws.Values.{claimed_by, free_by, used_by, end_bound}
-use Rattle.poisson_spec.specs.Laws.Answer.{Asked, no_cause, answered_ends, ends_answered, end_at, end_value, end_last}
+use Rattle.poisson_spec.specs.Laws.Answer.{no_cause, answered_ends, ends_answered, end_at, end_value}
 use Rattle.poisson_spec.specs.Laws.Exact.{exact_bound, exact_exceeds, between}
 
 -- "A table of 1,001 entries holds ONE times e to minus f/1000, rounded down", by the series cut after any power from 19 on.

@@ -1,12 +1,8 @@
 -- `cause` meets its contract: the stages of `Laws.Cause`, in their order.
-use mathlib.Core.Path.{◌≡◌, ap₂, sym, ◌∙◌}
-use native.Mathlib.Omega.{arith}
-use lib.ListN.{length, length-map}
-use Rattle.scheme.specs.Access.{CELL_PLACES, BAND_PLACES}
+use mathlib.Core.Path.{ap₂, ◌∙◌}
 use Rattle.scheme.specs.FirstCause.{or_else}
 use Rattle.scheme.specs.Cause.{rule_out, premium_out}
-use Rattle.scheme.specs.Accepted.{SizeFits}
-use Rattle.scheme.specs.Laws.Cause.{size_fits, cause_form, cause_later}
+use Rattle.scheme.specs.Laws.Cause.{cause_form, cause_later}
 use Rattle.acceptance.proofs.cause.Goals as goal
 
 pub returns-then-form-ne0 : goal.returns-then-form-ne0

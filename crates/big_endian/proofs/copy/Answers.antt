@@ -1,12 +1,7 @@
 -- `copy` meets its contract: nothing, or k bytes are copied at the head of the loop.
-use Prim.Native.Nat.{◌≤◌, ◌+◌, ◌-◌}
-use mathlib.Core.Path.{◌≡◌, refl, sym, ◌∙◌}
+use mathlib.Core.Path.{◌≡◌, sym, ◌∙◌}
 use native.Mathlib.Omega.{arith}
-use lib.ListN.{length, take, drop}
-use lib.Seq.{sets, length-sets}
-use borrow.Author.Tests.{leb-true, not-true, not-false}
 use Rattle.big_endian_spec.specs.Laws.{copy_more, part_held, part_none, part_no_room}
-use borrow.Author.Rules.{rules}
 use Rattle.big_endian.proofs.copy.Goals as goal
 
 pub returns-then-not-holds : goal.returns-then-not-holds

@@ -1,12 +1,8 @@
 -- `copy` meets its contract: nothing, or k bytes are copied at the head of the loop.
 use Prim.Native.Nat.{◌≤◌, ◌+◌, ◌-◌}
-use mathlib.Core.Path.{◌≡◌, refl, sym, ◌∙◌}
-use native.Mathlib.Omega.{arith}
+use mathlib.Core.Path.{◌≡◌}
 use lib.ListN.{length, take, drop}
-use lib.Seq.{sets, length-sets}
-use borrow.Author.Tests.{leb-true, not-true, not-false}
-use Rattle.big_endian_spec.specs.Laws.{copy_more, part_held, part_none, part_no_room}
-use borrow.Author.Rules.{rules}
+use lib.Seq.{sets}
 use Rattle.big_endian.proofs.copy.Given as goal
 
 abbrev pub invariant-loop-k : goal.invariant-loop-k

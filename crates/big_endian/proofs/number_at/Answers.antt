@@ -1,12 +1,10 @@
 -- `number_at` meets its contract: 0, or the number of the first k bytes stands at the head of the loop.
-use Prim.Native.Nat.{◌≤◌, ◌<◌, ◌+◌, ◌-◌, ◌^◌}
+use Prim.Native.Nat.{◌<◌}
 use mathlib.Core.Path.{◌≡◌, refl, sym, ◌∙◌}
 use native.Mathlib.Omega.{arith}
-use lib.ListN.{length}
-use borrow.Author.Tests.{leb-true, not-true, not-false}
+use borrow.Author.Tests.{leb-true}
 use Rattle.big_endian_spec.specs.Numbers.{be_at}
 use Rattle.big_endian_spec.specs.Laws.{read_held, read_wide, read_none, read_more, read_room, fits_more}
-use borrow.Author.Rules.{rules}
 use Rattle.big_endian.proofs.number_at.Goals as goal
 
 pub returns-then-width-gt-MOST_BYTES : goal.returns-then-width-gt-MOST_BYTES

@@ -1,13 +1,9 @@
 -- `put_number` meets its contract: nothing, or what is left to be put at the head of the loop makes what was to be put.
-use Prim.Native.Nat.{◌≤◌, ◌+◌}
-use mathlib.Core.Path.{◌≡◌, refl, sym, ◌∙◌}
+use mathlib.Core.Path.{◌≡◌, sym, ◌∙◌}
 use native.Mathlib.Omega.{arith}
-use lib.ListN.{length, length-set}
-use lib.Seq.{sets}
-use borrow.Author.Tests.{leb-true, not-true, not-false}
+use lib.ListN.{length-set}
 use Rattle.big_endian_spec.specs.Numbers.{be_bytes}
 use Rattle.big_endian_spec.specs.Laws.{put_held, put_none, put_last}
-use borrow.Author.Rules.{rules}
 use Rattle.big_endian.proofs.put_number.Goals as goal
 
 pub returns-then-not-holds : goal.returns-then-not-holds

@@ -1,10 +1,8 @@
 -- `cause` meets its contract: the counts before i are within the limit, and summed.
 -- Assumes nothing.
-use Prim.Native.Nat.{◌-◌}
 use mathlib.Core.Path.{◌∙◌}
 use native.Mathlib.Omega.{arith}
-use Rattle.book.proofs.BookLaws.{Counted, counted_none, counted_most, counted_more, counted_out, counted_empty, counted_all}
-use borrow.Author.Rules.{rules}
+use Rattle.book.proofs.BookLaws.{counted_none, counted_most, counted_more, counted_out, counted_empty, counted_all}
 use Rattle.book.proofs.cause.Goals as goal
 
 pub loop-i-init : goal.loop-i-init

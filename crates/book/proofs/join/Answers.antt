@@ -1,9 +1,9 @@
 -- `join` meets its contract: the joined counts before i are written, and within the limit.
 -- Assumes nothing.
-use Prim.Native.Nat.{◌+◌, ◌-◌}
+use Prim.Native.Nat.{◌+◌}
 use mathlib.Core.Path.{ap₂}
 use native.Mathlib.Omega.{arith}
-use Rattle.book.proofs.BookLaws.{Joined, joined_none, joined_more, joined_declined, joined_answered}
+use Rattle.book.proofs.BookLaws.{joined_declined, joined_answered}
 use Rattle.book.proofs.join.Goals as goal
 
 pub returns-then-chambers-gt-MOST_COUNT : goal.returns-then-chambers-gt-MOST_COUNT

@@ -1,9 +1,7 @@
 -- `join` meets its contract: the joined counts before i are written, and within the limit.
 -- Assumes nothing.
-use Prim.Native.Nat.{◌+◌, ◌-◌}
-use mathlib.Core.Path.{ap₂}
-use native.Mathlib.Omega.{arith}
-use Rattle.book.proofs.BookLaws.{Joined, joined_none, joined_more, joined_declined, joined_answered}
+use Prim.Native.Nat.{◌-◌}
+use Rattle.book.proofs.BookLaws.{Joined}
 use Rattle.book.proofs.join.Given as goal
 
 abbrev pub invariant-loop-i : goal.invariant-loop-i

@@ -1,7 +1,6 @@
 -- `figures` answers by the definition, and leaves the slices alone where it declines.
 -- Assumes nothing.
 use Rattle.bounds.proofs.FiguresLaws.{figures_ready, figures_declined, figures_written}
-use borrow.Author.Rules.{rules}
 use Rattle.bounds.proofs.figures.Goals as goal
 
 pub write_table-requires : goal.write_table-requires

@@ -2,7 +2,6 @@
 -- Assumes nothing.
 use native.Mathlib.Omega.{arith}
 use Rattle.bounds.proofs.StartBoundsLaws.{mean_ready, mean_answer_lem}
-use borrow.Author.Rules.{rules}
 use Rattle.bounds.proofs.mean.Goals as goal
 
 pub start_bounds-tenths-requires : goal.start_bounds-tenths-requires

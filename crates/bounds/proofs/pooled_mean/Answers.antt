@@ -2,7 +2,6 @@
 -- Assumes nothing.
 use native.Mathlib.Omega.{arith}
 use Rattle.bounds.proofs.PooledBoundsLaws.{pooled_mean_ready, pooled_mean_answer}
-use borrow.Author.Rules.{rules}
 use Rattle.bounds.proofs.pooled_mean.Goals as goal
 
 pub pooled_bounds-requires : goal.pooled_bounds-requires

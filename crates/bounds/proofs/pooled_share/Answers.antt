@@ -2,7 +2,6 @@
 -- Assumes nothing.
 use native.Mathlib.Omega.{arith}
 use Rattle.bounds.proofs.PooledBoundsLaws.{pooled_share_ready, pooled_share_answer}
-use borrow.Author.Rules.{rules}
 use Rattle.bounds.proofs.pooled_share.Goals as goal
 
 pub pooled_bounds-requires : goal.pooled_bounds-requires

@@ -1,7 +1,6 @@
 -- `pooled_share_sheet` answers by the definition, and leaves the slices alone where it declines.
 -- Assumes nothing.
 use Rattle.bounds.proofs.PooledBoundsLaws.{pooled_sheet_ready, pooled_sheet_declined, pooled_sheet_written}
-use borrow.Author.Rules.{rules}
 use Rattle.bounds.proofs.pooled_share_sheet.Goals as goal
 
 pub write_pooled-requires : goal.write_pooled-requires

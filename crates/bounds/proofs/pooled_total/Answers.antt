@@ -2,7 +2,6 @@
 -- Assumes nothing.
 use native.Mathlib.Omega.{arith}
 use Rattle.bounds.proofs.PooledBoundsLaws.{pooled_total_ready, pooled_total_answer}
-use borrow.Author.Rules.{rules}
 use Rattle.bounds.proofs.pooled_total.Goals as goal
 
 pub pooled_bounds-requires : goal.pooled_bounds-requires

@@ -2,7 +2,6 @@
 -- Assumes nothing.
 use native.Mathlib.Omega.{arith}
 use Rattle.bounds.proofs.StartBoundsLaws.{share_ready, share_answer_lem}
-use borrow.Author.Rules.{rules}
 use Rattle.bounds.proofs.share.Goals as goal
 
 pub start_bounds-requires : goal.start_bounds-requires

@@ -1,7 +1,6 @@
 -- `share_sheet` answers by the definition, and leaves the slices alone where it declines.
 -- Assumes nothing.
 use Rattle.bounds.proofs.ShareSheetLaws.{sheet_ready, sheet_declined, sheet_written}
-use borrow.Author.Rules.{rules}
 use Rattle.bounds.proofs.share_sheet.Goals as goal
 
 pub write_shares-requires : goal.write_shares-requires

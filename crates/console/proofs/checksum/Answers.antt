@@ -1,11 +1,8 @@
 -- `checksum` meets its contract: the checksum of the rest, from the sum so far, is that of the whole text.
 -- Assumes nothing.
-use Prim.Native.Nat.{◌≤◌, ◌-◌}
-use mathlib.Core.Path.{◌≡◌, refl, ap, ◌∙◌}
-use native.Mathlib.Omega.{arith}
-use lib.ListN.{length, drop}
+use mathlib.Core.Path.{ap, ◌∙◌}
 use borrow.Author.Rules.{rules}
-use Rattle.console.specs.Checksum.{added, checksum_from}
+use Rattle.console.specs.Checksum.{added}
 use Rattle.console.proofs.RecordLaws.{checksum_more, checksum_all}
 use Rattle.console.proofs.checksum.Goals as goal
 

@@ -1,12 +1,9 @@
 -- `checksum` meets its contract: the checksum of the rest, from the sum so far, is that of the whole text.
 -- Assumes nothing.
 use Prim.Native.Nat.{◌≤◌, ◌-◌}
-use mathlib.Core.Path.{◌≡◌, refl, ap, ◌∙◌}
-use native.Mathlib.Omega.{arith}
+use mathlib.Core.Path.{◌≡◌}
 use lib.ListN.{length, drop}
-use borrow.Author.Rules.{rules}
-use Rattle.console.specs.Checksum.{added, checksum_from}
-use Rattle.console.proofs.RecordLaws.{checksum_more, checksum_all}
+use Rattle.console.specs.Checksum.{checksum_from}
 use Rattle.console.proofs.checksum.Given as goal
 
 abbrev pub invariant-loop-i : goal.invariant-loop-i

@@ -1,11 +1,7 @@
 -- `fill` reads until the buffer is full or nothing more comes: each turn leaves less of the buffer free.
 -- Assumes nothing.
-use Prim.Native.Nat.{◌-◌}
-use mathlib.Core.Path.{◌∙◌}
 use native.Mathlib.Omega.{arith}
-use lib.ListN.{length}
-use Rattle.console.specs.Input.{ReadInto}
-use Rattle.console.proofs.ReadLaws.{read_none, read_more}
+use Rattle.console.proofs.ReadLaws.{read_more}
 use Rattle.console.proofs.fill.Goals as goal
 
 pub loop-done-preserved : goal.loop-done-preserved

@@ -1,6 +1,5 @@
 -- `more` puts what one read brought behind the bytes that are there, and changes no other.
 -- Assumes nothing.
-use borrow.Author.Rules.{rules}
 use Rattle.console.proofs.ReadLaws.{read_copied}
 use Rattle.console.proofs.more.Goals as goal
 

@@ -1,11 +1,6 @@
 -- `record_at` meets its contract: an empty part, or the front of what stands behind the length.
 -- Assumes nothing.
-use Prim.Native.Nat.{◌+◌, ◌≤◌}
 use mathlib.Core.Path.{sym, ◌∙◌}
-use native.Mathlib.Omega.{arith}
-use lib.ListN.{length}
-use borrow.Author.Rules.{rules}
-use borrow.Author.Tests.{leb-true, not-true, not-false}
 use Rattle.console.proofs.RecordLaws.{record_none, record_held}
 use Rattle.console.proofs.record_at.Goals as goal
 

@@ -1,7 +1,6 @@
 -- `all` is safe and ends: each record moves the place on.
 use Prim.Native.Nat.{◌≤◌, ◌-◌}
 use lib.ListN.{length}
-use borrow.Author.Rules.{rules}
 use Rattle.family.proofs.all.Given as goal
 
 abbrev pub invariant-loop-at : goal.invariant-loop-at

@@ -1,6 +1,5 @@
 -- `bands` is safe and ends: the column moves on.
 use Prim.Native.Nat.{◌≤◌, ◌-◌}
-use borrow.Author.Rules.{rules}
 use Rattle.family.proofs.bands.Given as goal
 
 abbrev pub invariant-loop-column : goal.invariant-loop-column

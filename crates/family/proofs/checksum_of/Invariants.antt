@@ -1,7 +1,6 @@
 -- `checksum_of` is safe and ends: the place moves on.
 use Prim.Native.Nat.{◌≤◌, ◌-◌}
 use lib.ListN.{length}
-use borrow.Author.Rules.{rules}
 use Rattle.family.proofs.checksum_of.Given as goal
 
 abbrev pub invariant-loop-i : goal.invariant-loop-i

@@ -1,6 +1,5 @@
 -- `payoff` is safe and ends: the class moves on.
 use Prim.Native.Nat.{◌≤◌, ◌-◌}
-use borrow.Author.Rules.{rules}
 use Rattle.family.proofs.payoff.Given as goal
 
 abbrev pub invariant-loop-i : goal.invariant-loop-i

@@ -1,12 +1,9 @@
 -- `copy_front` meets its contract: a buffer that is too long is left, and in any other the places passed hold what the list has there.
 -- Assumes nothing.
 use Prim.Native.Nat.{◌-◌}
-use mathlib.Core.Path.{refl, sym, ◌∙◌}
-use native.Mathlib.Omega.{arith}
 use lib.ListN.{length}
 use Rattle.setchain.specs.Sums.{at}
-use Rattle.scheme.specs.Laws.Filled.{Filled, fill_start, fill_more, fill_all}
-use Rattle.joguyvi_spec.specs.Laws.Buffers.{front_copied, front_left}
+use Rattle.scheme.specs.Laws.Filled.{Filled}
 use Rattle.joguyvi_buffers.proofs.copy_front.Given as goal
 
 abbrev pub invariant-loop-k : goal.invariant-loop-k

@@ -6,8 +6,6 @@ use Rattle.scheme.specs.Cause.{cause_of}
 use Rattle.scheme.specs.Laws.Judged.{cause_accepted}
 use Rattle.record_spec.specs.Layout.{other_version}
 use Rattle.ready_spec.specs.Theorems.{answered_accepted}
-use Rattle.joguyvi_records.proofs.LibLaws.{ready_other, ready_stopped, ready_passed}
-use borrow.Author.Rules.{rules}
 use Rattle.joguyvi_records.proofs.joguyvi_ready.Goals as goal
 
 pub put_record-requires : goal.put_record-requires

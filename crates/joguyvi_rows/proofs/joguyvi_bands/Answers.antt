@@ -3,7 +3,6 @@
 use Rattle.scheme.specs.Laws.Judged.{accepted_cause}
 use Rattle.joguyvi_spec.specs.Laws.Causes.{passed_scheme}
 use Rattle.joguyvi_rows.proofs.LibLaws.{bands_stopped, bands_passed}
-use borrow.Author.Rules.{rules}
 use Rattle.joguyvi_rows.proofs.joguyvi_bands.Goals as goal
 
 pub returns-then-number-ne0 : goal.returns-then-number-ne0

@@ -1,7 +1,6 @@
 -- `joguyvi_mixing` meets its contract: the cause of reading, or the count put into its buffer.
 -- Assumes nothing.
 use Rattle.joguyvi_rows.proofs.LibLaws.{mixing_stopped, mixing_passed}
-use borrow.Author.Rules.{rules}
 use Rattle.joguyvi_rows.proofs.joguyvi_mixing.Goals as goal
 
 pub returns-then-number-ne0 : goal.returns-then-number-ne0

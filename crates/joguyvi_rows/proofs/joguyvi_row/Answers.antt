@@ -1,7 +1,6 @@
 -- `joguyvi_row` meets its contract: the cause of reading, or the row put into its buffers.
 -- Assumes nothing.
 use Rattle.joguyvi_rows.proofs.LibLaws.{row_stopped, row_passed}
-use borrow.Author.Rules.{rules}
 use Rattle.joguyvi_rows.proofs.joguyvi_row.Goals as goal
 
 pub returns-then-number-ne0 : goal.returns-then-number-ne0

@@ -1,8 +1,7 @@
 -- `joguyvi_rule_row` meets its contract: the cause of reading, or the row that the record shows put into the buffer.
 -- Assumes nothing.
 use mathlib.Core.Path.{sym, ◌∙◌}
-use Rattle.joguyvi_rows.proofs.LibLaws.{rule_row_stopped, rule_row_passed}
-use borrow.Author.Rules.{rules}
+use Rattle.joguyvi_rows.proofs.LibLaws.{rule_row_passed}
 use Rattle.joguyvi_rows.proofs.joguyvi_rule_row.Goals as goal
 
 pub returns : goal.returns

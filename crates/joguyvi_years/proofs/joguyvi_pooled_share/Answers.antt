@@ -3,7 +3,6 @@
 use Rattle.bounds_spec.specs.Pooled.{Figure}
 use Rattle.joguyvi_years.proofs.LibLaws.{bounds_stopped, bounds_passed}
 use Rattle.joguyvi_years.proofs.BooksLaws.{pooled_lent}
-use borrow.Author.Rules.{rules}
 use Rattle.joguyvi_years.proofs.joguyvi_pooled_share.Goals as goal
 
 pub returns-then-number-ne0 : goal.returns-then-number-ne0

@@ -1,7 +1,6 @@
 -- `joguyvi_pooled_share_sheet` meets its contract: the cause of reading, the number over a book of another length, or what the pooled share sheet answers and leaves.
 -- Assumes nothing.
 use Rattle.joguyvi_years.proofs.BooksLaws.{pooled_stopped, pooled_out, pooled_passed}
-use borrow.Author.Rules.{rules}
 use Rattle.joguyvi_years.proofs.joguyvi_pooled_share_sheet.Goals as goal
 
 pub returns-then-number-ne0 : goal.returns-then-number-ne0

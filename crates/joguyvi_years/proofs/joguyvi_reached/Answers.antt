@@ -1,7 +1,6 @@
 -- `joguyvi_reached` meets its contract: the cause of reading, or the answer put into the buffer, with its promise.
 -- Assumes nothing.
 use Rattle.joguyvi_years.proofs.LibLaws.{bounds_stopped, bounds_passed}
-use borrow.Author.Rules.{rules}
 use Rattle.joguyvi_years.proofs.joguyvi_reached.Goals as goal
 
 pub returns-then-number-ne0 : goal.returns-then-number-ne0

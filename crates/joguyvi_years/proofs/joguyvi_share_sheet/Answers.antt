@@ -1,7 +1,6 @@
 -- `joguyvi_share_sheet` meets its contract: the cause of reading, or what the share sheet answers and leaves.
 -- Assumes nothing.
 use Rattle.joguyvi_years.proofs.LibLaws.{shares_stopped, shares_passed}
-use borrow.Author.Rules.{rules}
 use Rattle.joguyvi_years.proofs.joguyvi_share_sheet.Goals as goal
 
 pub returns-then-number-ne0 : goal.returns-then-number-ne0

@@ -2,10 +2,9 @@
 use mathlib.Core.Path.{◌≡◌, sym, ◌∙◌}
 use Rattle.scheme.specs.Cause.{cause_of}
 use Rattle.mixing_spec.specs.MixingAnswer.{first_count}
-use Rattle.mixing_spec.specs.Laws.{scheme_declined, answer_not_mixing, answer_count}
+use Rattle.mixing_spec.specs.Laws.{answer_not_mixing, answer_count}
 use Rattle.mixing.specs.Laws.Edges.{classes_few}
 use Rattle.mixing.specs.Laws.Powers.{bits_held, scheme_first}
-use borrow.Author.Rules.{rules}
 use Rattle.mixing.proofs.mixing.Goals as goal
 
 pub first_count-count-requires : goal.first_count-count-requires
@@ -13,7 +12,6 @@ first_count-count-requires c =
     let accepted : cause_of c.args.scheme ≡ 0 = sym c.cause-number.ensures ∙ c.if-number-ne0.false in
     (classes_few c.args.scheme accepted, bits_held c.edges.ensures)
 
--- What is counted is the scheme's first count.
 pub returns-then-count-eq0 : goal.returns-then-count-eq0
 returns-then-count-eq0 c =
     let accepted : cause_of c.args.scheme ≡ 0 = sym c.cause-number.ensures ∙ c.if-number-ne0.false in

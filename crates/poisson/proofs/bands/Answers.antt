@@ -1,11 +1,8 @@
 -- `bands` meets its contract: the first cause, or the ends of both sides.
 -- Assumes nothing.
 use mathlib.Core.Path.{◌≡◌, ap₂, sym, ◌∙◌}
-use native.Mathlib.Omega.{arith}
-use borrow.Author.Rules.{rules}
 use Rattle.scheme.specs.FirstCause.{or_else}
 use Rattle.poisson_spec.specs.Answer.{bands_cause}
-use Rattle.poisson_spec.specs.Laws.Answer.{Asked, no_cause}
 use Rattle.poisson.proofs.BandsLaws.{bands_declined, bands_answered}
 use Rattle.poisson.proofs.bands.Goals as goal
 

@@ -1,12 +1,11 @@
 -- What the causes tell, and what is answered where there is none.
 -- Assumes nothing.
-use Rattle.std.specs.Prelude.{ℕ, suc, ◌≤◌, ◌<◌, ◌≡◌, Bool, cond, ◌||◌, List, eqb, ltb, replicate}
-use Rattle.std.proofs.Common.{ap, ◌∙◌, arith, eq-eqb, ne_eqb, ltb-false}
+use Rattle.std.specs.Prelude.{ℕ, suc, ◌≤◌, ◌<◌, ◌≡◌, Bool, cond, ◌||◌, List, ltb, replicate}
+use Rattle.std.proofs.Common.{ap, arith, eq-eqb, ne_eqb, ltb-false}
 use Rattle.std.proofs.Math.Bool.{true, false}
 use Rattle.setchain.specs.Sums.{at}
 use Rattle.setchain.specs.Laws.Tests.{or_false_left, or_false_right}
 use Rattle.scheme.specs.Access.{BAND_PLACES}
-use Rattle.scheme.specs.FirstCause.{◌when◌}
 use Rattle.scheme.specs.Laws.FirstCause.{first_none, second_none, test_none, answered}
 use Rattle.scheme.specs.Laws.Stored.{stored_at}
 use Rattle.poisson_spec.specs.Values.{value}

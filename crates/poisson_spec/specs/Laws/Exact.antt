@@ -1,6 +1,6 @@
 -- From whole numbers over one denominator to the exact probability as fractions.
 -- Assumes nothing.
-use Rattle.std.specs.Prelude.{ℕ, suc, ◌+◌, ◌*◌, ◌%◌, ◌^◌, ◌≤◌, ◌<◌, ◌≡◌, refl, Bool, true, false, cond, eqb}
+use Rattle.std.specs.Prelude.{ℕ, suc, ◌+◌, ◌*◌, ◌%◌, ◌^◌, ◌≤◌, ◌<◌, refl, Bool, true, false, cond, eqb}
 use Rattle.std.proofs.Common.{ap, sym, arith, le_refl, mul-pos, mul-le-mul_right, lt_of_mul-lt-mul_right}
 use Rattle.setchain.specs.Rows.{ONE}
 use Rattle.setchain.specs.Fractions.{Fraction, whole, ◌⊕◌, ◌⊗◌, ◌≼◌, ◌≺◌, ◌≈◌, Proper}

@@ -3,16 +3,15 @@
 use Prim.Native.Nat.{ℕ, zero, suc, ◌+◌, ◌*◌, ◌%◌, ◌^◌, ◌≤◌, ◌<◌}
 use Rattle.std.specs.Prelude.{◌≡◌, refl, Bool, true, false, cond, eqb}
 use Rattle.std.proofs.Math.Path.{ap}
-use Rattle.std.proofs.Common.{ap₂, sym, ◌∙◌, subst, ⊎_elim, eq-eqb, ne_eqb, le_refl, eq-or-lt_of_le, le_of_suc-le-suc, not-suc-le-zero, mul-pos, mul-le-mul_left, mul-le-mul_right, le_of_mul-le-mul_right, lt_of_mul-lt-mul_right, pow-suc, zero-lt-suc}
+use Rattle.std.proofs.Common.{◌∙◌, subst, ⊎_elim, eq-eqb, ne_eqb, le_refl, eq-or-lt_of_le, le_of_suc-le-suc, not-suc-le-zero, mul-pos, mul-le-mul_left, mul-le-mul_right, lt_of_mul-lt-mul_right, pow-suc}
 use native.Mathlib.Omega.{arith}
 use Rattle.std.proofs.Math.Decide.{ℕ_discrete}
-use Rattle.std.proofs.Math.Nat.{pow-zero, one-le-pow}
+use Rattle.std.proofs.Math.Nat.{pow-zero}
 use Rattle.setchain.specs.Sums.{only_if}
-use Rattle.setchain.specs.Fractions.{Fraction, whole, ◌⊕◌, ◌⊗◌, ◌≼◌, ◌≺◌, ◌≈◌, Proper, sum_fractions}
+use Rattle.setchain.specs.Fractions.{Fraction, whole, ◌⊕◌, ◌≈◌, sum_fractions}
 use Rattle.setchain.specs.Rows.{ONE}
 use Rattle.setchain.specs.Laws.Sums.{only_if_true, only_if_false, only_if_zero}
-use Rattle.setchain.specs.Laws.Fractions.{add_same, mul_same}
-use Rattle.poisson_spec.specs.Series.{factorial, term, terms_of, added, taken, Bounds, Exceeds}
+use Rattle.poisson_spec.specs.Series.{factorial, term, terms_of}
 
 -- What all terms up to power n are brought over.
 abbrev pub over : ℕ → ℕ

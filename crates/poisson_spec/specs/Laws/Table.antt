@@ -1,7 +1,7 @@
 -- The table's rule, computed once over all entries and carried to each: by its series, and by the entry before it.
 -- Assumes nothing.
-use Rattle.std.specs.Prelude.{ℕ, zero, suc, ◌+◌, ◌-◌, ◌*◌, ◌≤◌, ◌<◌, ◌≡◌, refl, Bool, true, false, ◌&&◌, List, [], ◌∷◌, T, leb, ltb, length}
-use Rattle.std.proofs.Common.{ap, sym, ◌∙◌, subst, ⊎_elim, leb→le, ltb→lt, arith, add-zero, zero-add, add-suc, suc-add, le_refl, le_trans, eq-or-lt_of_le, le_of_suc-le-suc, not-suc-le-zero}
+use Rattle.std.specs.Prelude.{ℕ, zero, suc, ◌+◌, ◌*◌, ◌≤◌, ◌<◌, ◌≡◌, refl, Bool, true, ◌&&◌, List, [], ◌∷◌, T, leb, length}
+use Rattle.std.proofs.Common.{sym, ◌∙◌, subst, ⊎_elim, leb→le, arith, add-zero, zero-add, add-suc, suc-add, le_refl, eq-or-lt_of_le, le_of_suc-le-suc, not-suc-le-zero}
 use Rattle.setchain.specs.Sums.{at, only_if}
 use Rattle.setchain.specs.Rows.{ONE}
 use Rattle.setchain.specs.Laws.Tests.{both_pass}

@@ -2,7 +2,7 @@
 -- Computed once over the table, with a running minimum, and carried to each pair of frequencies.
 -- Assumes nothing.
 use Rattle.std.specs.Prelude.{ℕ, zero, suc, min, ◌+◌, ◌≤◌, ◌<◌, ◌≡◌, refl, Bool, true, false, ◌&&◌, List, [], ◌∷◌, T, leb, length}
-use Rattle.std.proofs.Common.{sym, ◌∙◌, subst, subst₂, leb→le, arith, add-zero, zero-add, add-suc, suc-add, le_trans, le_of_suc-le-suc, not-suc-le-zero}
+use Rattle.std.proofs.Common.{sym, subst, subst₂, leb→le, arith, add-zero, zero-add, add-suc, suc-add, le_of_suc-le-suc, not-suc-le-zero}
 use Rattle.setchain.specs.Sums.{at, sum_to}
 use Rattle.setchain.specs.Tests.{any_below, all_below}
 use Rattle.setchain.specs.Rows.{ONE}

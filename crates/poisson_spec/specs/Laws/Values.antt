@@ -1,13 +1,12 @@
 -- Laws of the values: none is above ONE, each bounds the exact probability, and they move with the frequency.
 -- Assumes nothing.
-use Prim.Native.Nat.{ℕ, zero, suc, min, ◌+◌, ◌-◌, ◌*◌, ◌^◌, ◌≤◌, ◌<◌}
-use Rattle.std.specs.Prelude.{◌≡◌, refl, Bool, cond}
-use Rattle.std.proofs.Common.{ap, sym, ◌∙◌, ne_eqb, mul-le-mul, mul-le-mul_left, mul-le-mul_right, mul-one, mul_assoc, pow-suc}
+use Prim.Native.Nat.{ℕ, zero, suc, ◌+◌, ◌-◌, ◌*◌, ◌^◌, ◌≤◌, ◌<◌}
+use Rattle.std.specs.Prelude.{◌≡◌, Bool, cond}
+use Rattle.std.proofs.Common.{ne_eqb, mul-le-mul, mul-le-mul_left, mul-le-mul_right, mul-one, mul_assoc, pow-suc}
 use Rattle.std.proofs.Math.Bool.{true, false}
 use native.Mathlib.Omega.{arith}
 use Rattle.std.proofs.Math.Nat.{pow-zero}
 use Rattle.setchain.specs.Rows.{ONE}
-use Rattle.setchain.specs.Sums.{only_if}
 use Rattle.setchain.specs.Rounding.{rounded}
 use Rattle.setchain.specs.Step.{NotAfter}
 use Rattle.setchain.specs.Laws.Rounding.{rounded_outward, rounded_at_most, rounded_inward}

@@ -1,11 +1,8 @@
 -- `staying_rules` leads the rules of one class to itself: the invariant says so of the cells passed.
 -- Assumes nothing.
 use Prim.Native.Nat.{◌-◌}
-use mathlib.Core.Path.{sym, ◌∙◌}
-use native.Mathlib.Omega.{arith}
 use Rattle.scheme.specs.Access.{CELL_STRIDE}
-use Rattle.scheme.specs.Laws.Cause.{outside_false}
-use Rattle.reached.proofs.RulesLaws.{Led, led_nowhere, led_none, led_more, led_all}
+use Rattle.reached.proofs.RulesLaws.{Led}
 use Rattle.reached.proofs.staying_rules.Given as goal
 
 abbrev pub invariant-loop-k : goal.invariant-loop-k

@@ -1,11 +1,8 @@
 -- `ready::made` meets its contract: each field is what its definition says.
 -- Assumes nothing.
-use native.Mathlib.Omega.{arith}
 use Rattle.scheme.specs.Tables.{tab}
 use Rattle.scheme.specs.Stored.{up_to, scheme_of}
 use Rattle.ready_spec.specs.Ready.{ready_scheme}
-use Rattle.ready_spec.specs.Laws.{classes_most}
-use borrow.Author.Rules.{rules}
 use Rattle.ready.proofs.made.Goals as goal
 
 pub returns : goal.returns

@@ -4,7 +4,6 @@ use mathlib.Core.Path.{sym, ◌∙◌}
 use native.Mathlib.Omega.{arith}
 use Rattle.scheme.specs.Laws.Stored.{up_to_below, up_to_past}
 use Rattle.ready_spec.specs.Laws.{product_most}
-use borrow.Author.Rules.{rules}
 use Rattle.ready.proofs.premium_entry.Goals as goal
 
 pub returns-then-s-i : goal.returns-then-s-i

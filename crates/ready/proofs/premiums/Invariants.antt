@@ -1,10 +1,9 @@
 -- `ready::premiums` meets its contract: the list is filled from the front by the rule.
 -- Assumes nothing.
 use Prim.Native.Nat.{◌-◌, ◌≤◌}
-use native.Mathlib.Omega.{arith}
 use Rattle.scheme.specs.Stored.{up_to}
 use Rattle.ready_spec.specs.Scales.{classes_of, premium_of}
-use Rattle.scheme.specs.Laws.Filled.{Filled, fill_none, fill_more, fill_all}
+use Rattle.scheme.specs.Laws.Filled.{Filled}
 use Rattle.ready.proofs.premiums.Given as goal
 
 abbrev pub invariant-loop-i : goal.invariant-loop-i

@@ -3,8 +3,6 @@
 use mathlib.Core.Path.{sym, ◌∙◌}
 use native.Mathlib.Omega.{arith}
 use Rattle.scheme.specs.Laws.Stored.{up_to_below, up_to_past}
-use Rattle.ready_spec.specs.Laws.{classes_most, movable}
-use borrow.Author.Rules.{rules}
 use Rattle.ready.proofs.rule_entry.Goals as goal
 
 pub returns-then-s-i : goal.returns-then-s-i

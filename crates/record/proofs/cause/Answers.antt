@@ -1,9 +1,6 @@
 -- `cause` meets its contract: the frame's cause, or the scheme's.
-use mathlib.Core.Path.{ap, sym, ◌∙◌}
-use Rattle.scheme.specs.Cause.{cause_of}
+use mathlib.Core.Path.{sym, ◌∙◌}
 use Rattle.record_spec.specs.Laws.Frame.{frame_clear}
-use Rattle.record_spec.specs.Laws.Read.{frame_first, scheme_next}
-use borrow.Author.Rules.{rules}
 use Rattle.record.proofs.cause.Goals as goal
 
 pub parsed-requires : goal.parsed-requires

@@ -3,7 +3,6 @@ use Prim.Native.Nat.{◌*◌, ◌≤◌}
 use native.Mathlib.Omega.{arith}
 use native.Mathlib.Nat.{mul-le-mul}
 use Rattle.record_spec.specs.Laws.Layout.{further_most, width_most}
-use borrow.Author.Rules.{rules}
 use Rattle.record.proofs.length_of.Goals as goal
 
 pub overflow_add-result : goal.overflow_add-result

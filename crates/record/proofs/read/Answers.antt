@@ -4,10 +4,8 @@ use Rattle.scheme.specs.Cause.{cause_of}
 use Rattle.record_spec.specs.Read.{read_cause}
 use Rattle.record_spec.specs.Laws.Frame.{frame_clear}
 use Rattle.record_spec.specs.Laws.Read.{frame_first, scheme_next, answer_declined, answer_scheme}
-use borrow.Author.Rules.{rules}
 use Rattle.record.proofs.read.Goals as goal
 
--- No cause in the frame: the scheme's cause is the answer's number.
 pub returns-then-frame-ne0 : goal.returns-then-frame-ne0
 returns-then-frame-ne0 c =
     let first = frame_first c.args.bytes.now c.frame-frame.ensures c.if-frame-ne0.true in

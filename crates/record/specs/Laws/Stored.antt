@@ -1,4 +1,4 @@
--- Rules filled row by row, with 0 beyond what is filled.
+-- Arrays filled entry by entry or row by row, with 0 beyond what is filled.
 use Rattle.std.specs.Prelude.{ℕ, ◌+◌, ◌*◌, ◌-◌, ◌/◌, ◌%◌, ◌≤◌, ◌<◌, ◌≡◌, List, length, get_or, replicate}
 use Rattle.std.proofs.Common.{ap, sym, ◌∙◌, ⊎_elim, arith}
 use Rattle.std.proofs.lemmas.List.{length-replicate, get_or-replicate}

@@ -1,9 +1,6 @@
 -- `after` meets its contract: the column and what the answer there hands out, which stays within 64 bits.
-use mathlib.Core.Path.{ap}
-use Prim.Native.Nat.{◌+◌}
 use native.Mathlib.Omega.{arith}
 use Rattle.record_parts.specs.Laws.Reader.{after_within}
-use borrow.Author.Rules.{rules}
 use Rattle.record_parts.proofs.after.Goals as goal
 
 pub overflow_add-result : goal.overflow_add-result

@@ -5,17 +5,12 @@ use mathlib.Core.Path.{◌≡◌, ap, sym, ◌∙◌}
 use native.Mathlib.Omega.{arith}
 use lib.ListN.{length}
 use Rattle.big_endian_spec.specs.Numbers.{be_at}
-use borrow.Author.Tests.{not-true, not-false}
-use Rattle.record_spec.specs.Frame.{Framed}
 use Rattle.record_spec.specs.Reader.{stored}
-use Rattle.record_spec.specs.Laws.Read.{read_framed}
 use Rattle.big_endian_spec.specs.Laws.{read_held}
-use Rattle.record_parts.specs.Laws.Reader.{band_answered, stored_read, band_within, answer_none, answer_ends}
+use Rattle.record_parts.specs.Laws.Reader.{band_answered, band_within, answer_none, answer_ends}
 use Rattle.record_spec.specs.Layout.{layout_in, classes_in, columns_in, band_place, BAND_WIDTH}
-use borrow.Author.Rules.{rules}
 use Rattle.record_parts.proofs.band_at.Goals as goal
 
--- A band is stored for the column.
 pub returns-then-not-stored : goal.returns-then-not-stored
 returns-then-not-stored c = band_answered _ _ (answer_none _ _ (sym c.stored.ensures ∙ c.if-not-stored.true))
 

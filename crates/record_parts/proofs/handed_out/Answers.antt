@@ -1,8 +1,6 @@
 -- `handed_out` meets its contract: 0 where no band is stored, else 1.
 use mathlib.Core.Path.{sym, ◌∙◌}
-use borrow.Author.Tests.{not-true, not-false}
 use Rattle.record_parts.specs.Laws.Reader.{one_handed, none_handed}
-use borrow.Author.Rules.{rules}
 use Rattle.record_parts.proofs.handed_out.Goals as goal
 
 pub returns-then-not-stored : goal.returns-then-not-stored

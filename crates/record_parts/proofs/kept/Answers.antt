@@ -1,7 +1,6 @@
 -- `kept` meets its contract: an empty part, or the bytes.
 use mathlib.Core.Path.{refl, ◌∙◌}
 use Rattle.record_parts.specs.Laws.Reader.{part_accepted, part_declined}
-use borrow.Author.Rules.{rules}
 use Rattle.record_parts.proofs.kept.Goals as goal
 
 pub returns-then-cause-ne0 : goal.returns-then-cause-ne0

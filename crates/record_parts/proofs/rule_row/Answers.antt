@@ -6,12 +6,9 @@ use lib.ListN.{length}
 use Rattle.record_spec.specs.Layout.{layout_in, row_place, columns_in}
 use Rattle.record_spec.specs.Frame.{Framed}
 use Rattle.record_spec.specs.RuleRow.{rule_row_cause}
-use Rattle.record_parts.specs.Laws.RuleRow.{row_empty, row_framed, row_class, row_within, row_shown}
-use borrow.Author.Rules.{rules}
+use Rattle.record_parts.specs.Laws.RuleRow.{row_empty, row_framed, row_within, row_shown}
 use Rattle.record_parts.proofs.rule_row.Goals as goal
 
--- The start, from the place where the header's length is known.
--- The row stands behind the header and the rows before it, within the bytes.
 pub returns-then-rule_row_cause-ne0 : goal.returns-then-rule_row_cause-ne0
 returns-then-rule_row_cause-ne0 c = row_empty _ _ c.rule_row_cause.ensures c.if-rule_row_cause-ne0.true
 

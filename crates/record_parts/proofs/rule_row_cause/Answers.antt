@@ -1,11 +1,8 @@
 -- `rule_row_cause` meets its contract: the bytes' cause, or the class's.
-use mathlib.Core.Path.{◌≡◌, ap, sym, ◌∙◌}
-use mathlib.Core.Bool.{cond}
+use mathlib.Core.Path.{◌≡◌, sym, ◌∙◌}
 use native.Mathlib.Omega.{arith}
 use Rattle.record_spec.specs.Read.{read_cause}
 use Rattle.record_spec.specs.Laws.Read.{read_framed}
-use Rattle.record_parts.specs.Laws.RuleRow.{row_read, row_next}
-use borrow.Author.Rules.{rules}
 use Rattle.record_parts.proofs.rule_row_cause.Goals as goal
 
 pub bounds-bytes-3 : goal.bounds-bytes-3

@@ -7,7 +7,6 @@ use Rattle.scheme.specs.Laws.Judged.{accepted_cause}
 use Rattle.record_spec.specs.Layout.{other_version}
 use Rattle.record_write.specs.Agreement.{keeps}
 use Rattle.record_write.specs.Laws.Write.{declined, by_version, by_scheme, by_slice, written}
-use borrow.Author.Rules.{rules}
 use Rattle.record_write.proofs.write.Goals as goal
 
 pub returns-then-other_version-clause-answer : goal.returns-then-other_version-clause-answer

@@ -1,7 +1,6 @@
 -- `add_to_target` meets its contract: the rule leads to no entry, or to one.
 use native.Mathlib.Omega.{arith}
 use Rattle.rows.specs.Laws.AddToTarget.{added_none, added_set}
-use borrow.Author.Rules.{rules}
 use Rattle.rows.proofs.add_to_target.Goals as goal
 
 pub returns-then-class-eq0 : goal.returns-then-class-eq0

@@ -1,8 +1,7 @@
 -- `clear` meets its contract.
 use Prim.Native.Nat.{◌-◌}
-use native.Mathlib.Omega.{arith}
-use lib.ListN.{length, length-set}
-use Rattle.rows.specs.Laws.Clear.{Cleared, cleared_none, cleared_more, cleared_all}
+use lib.ListN.{length}
+use Rattle.rows.specs.Laws.Clear.{Cleared}
 use Rattle.rows.proofs.clear.Given as goal
 
 abbrev pub invariant-loop-i : goal.invariant-loop-i

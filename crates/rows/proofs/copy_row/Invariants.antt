@@ -1,11 +1,8 @@
 -- `copy_row` meets its contract: a slice of another length is left, and in one of the row's length the places passed hold what the row has there.
 -- Assumes nothing.
 use Prim.Native.Nat.{◌-◌}
-use mathlib.Core.Path.{refl, sym, ◌∙◌}
-use native.Mathlib.Omega.{arith}
 use lib.ListN.{length, get_or}
-use Rattle.scheme.specs.Laws.Filled.{Filled, fill_start, fill_more}
-use Rattle.rows.specs.Laws.Copy.{copy_all, row_copied, row_left}
+use Rattle.scheme.specs.Laws.Filled.{Filled}
 use Rattle.rows.proofs.copy_row.Given as goal
 
 abbrev pub invariant-loop-j : goal.invariant-loop-j

@@ -1,15 +1,12 @@
 -- `interval_row` meets its contract, by the cases of `Laws.Entries`.
 use mathlib.Core.Path.{◌≡◌, sym, ◌∙◌}
-use lib.ListN.{length, length-map}
+use lib.ListN.{length}
 use Rattle.scheme.specs.Access.{CELL_PLACES}
 use Rattle.scheme.specs.Laws.Cause.{outside_false}
 use Rattle.scheme.specs.Laws.Judged.{accepted_cause}
-use Rattle.rows.specs.Laws.Entries.{row_declined, row_no_class, row_answered_lem}
-use borrow.Author.Rules.{rules}
+use Rattle.rows.specs.Laws.Entries.{row_answered_lem}
 use Rattle.rows.proofs.interval_row.Goals as goal
 
--- Owning the scheme tells how long the array in its fifth field is.
--- The place of the second test, from the call that follows it.
 pub answered-requires : goal.answered-requires
 answered-requires c =
     let rules-stored : length c.args.scheme.rules ≡ CELL_PLACES = c.well_formed.0.1.1.1.1.1.1.0.1.0.1 in

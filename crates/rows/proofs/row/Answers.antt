@@ -1,7 +1,6 @@
 -- `row` meets its contract, by the cases of `Laws.Tight`.
 use mathlib.Core.Path.{◌∙◌}
 use Rattle.rows.specs.Laws.Tight.{row_refused_lem, row_tightens, row_tight}
-use borrow.Author.Rules.{rules}
 use Rattle.rows.proofs.row.Goals as goal
 
 pub returns-then-interval-ne0 : goal.returns-then-interval-ne0

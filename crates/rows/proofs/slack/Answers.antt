@@ -1,11 +1,7 @@
 -- `slack` takes each lower entry from what is left.
 -- Assumes nothing.
-use Prim.Native.Nat.{◌-◌, ◌≤◌}
-use mathlib.Core.Path.{◌≡◌}
 use native.Mathlib.Omega.{arith}
-use lib.ListN.{length, get_or}
-use Rattle.setchain.specs.Sums.{sum_to}
-use Rattle.setchain.specs.Rows.{ONE}
+use lib.ListN.{get_or}
 use Rattle.setchain.specs.Laws.Sums.{total_start, sum_to_more}
 use Rattle.rows.proofs.slack.Goals as goal
 

@@ -2,11 +2,9 @@
 -- Assumes nothing.
 use Prim.Native.Nat.{◌-◌, ◌≤◌}
 use mathlib.Core.Path.{◌≡◌}
-use native.Mathlib.Omega.{arith}
 use lib.ListN.{length, get_or}
 use Rattle.setchain.specs.Sums.{sum_to}
 use Rattle.setchain.specs.Rows.{ONE}
-use Rattle.setchain.specs.Laws.Sums.{total_start, sum_to_more}
 use Rattle.rows.proofs.slack.Given as goal
 
 abbrev pub invariant-loop-i : goal.invariant-loop-i

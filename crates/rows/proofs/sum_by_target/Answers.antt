@@ -1,9 +1,7 @@
 -- `sum_by_target` meets its contract: after k cells each entry is what those cells come to.
-use Prim.Native.Nat.{◌≤◌, ◌-◌}
-use mathlib.Core.Path.{◌≡◌}
 use native.Mathlib.Omega.{arith}
 use lib.ListN.{length}
-use Rattle.rows.specs.Laws.AddToTarget.{summed_to, loop_begins, loop_turn, loop_capped, loop_ends}
+use Rattle.rows.specs.Laws.AddToTarget.{loop_begins, loop_turn, loop_capped, loop_ends}
 use Rattle.rows.proofs.sum_by_target.Goals as goal
 
 pub loop-k-init : goal.loop-k-init

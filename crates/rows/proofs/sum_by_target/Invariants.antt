@@ -1,9 +1,8 @@
 -- `sum_by_target` meets its contract: after k cells each entry is what those cells come to.
 use Prim.Native.Nat.{◌≤◌, ◌-◌}
 use mathlib.Core.Path.{◌≡◌}
-use native.Mathlib.Omega.{arith}
 use lib.ListN.{length}
-use Rattle.rows.specs.Laws.AddToTarget.{summed_to, loop_begins, loop_turn, loop_capped, loop_ends}
+use Rattle.rows.specs.Laws.AddToTarget.{summed_to}
 use Rattle.rows.proofs.sum_by_target.Given as goal
 
 abbrev pub invariant-loop-k : goal.invariant-loop-k

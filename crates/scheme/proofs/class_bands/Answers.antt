@@ -1,7 +1,7 @@
 -- `class_bands` meets its contract: the front of the list, or all of it where it is shorter.
 use mathlib.Core.Path.{refl, sym}
 use native.Mathlib.Omega.{arith}
-use lib.Seq.{length-take-le, take_all}
+use lib.Seq.{take_all}
 use Rattle.scheme.specs.Access.{class_bands}
 use Rattle.scheme.proofs.class_bands.Goals as goal
 

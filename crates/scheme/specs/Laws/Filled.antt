@@ -15,7 +15,7 @@ pub fill_start : (n : ℕ) (f : ℕ → ℕ) (a : List ℕ) → length a ≡ n �
 fill_start n f a e = record { long = e; done = below_none _ }
 
 pub fill_none : (n : ℕ) (f : ℕ → ℕ) → Filled n f 0 (replicate n 0)
-fill_none n f = fill_start n f (replicate n 0) (length-replicate n 0)
+fill_none n f = record { long = length-replicate n 0; done = below_none _ }
 
 pub fill_more : (n : ℕ) (f : ℕ → ℕ) (i : ℕ) (a : List ℕ) (v : ℕ) → i < n → v ≡ f i → Filled n f i a → Filled n f (i + 1) (set a i v)
 fill_more n f i a v h e r =

@@ -1,8 +1,5 @@
 -- `compose` leaves the sheet of the whole input: a buffer with space for any sheet is never declined.
 -- Assumes nothing.
-use mathlib.Core.Path.{sym}
-use lib.Seq.{length-take-le}
-use borrow.Author.Rules.{rules}
 use Rattle.sheet.proofs.ComposeLaws.{composed}
 use Rattle.sheet.proofs.compose.Goals as goal
 

@@ -1,8 +1,7 @@
 -- `accepted` meets its contract: declined for want of space, or the sheet.
 use native.Mathlib.Omega.{arith}
-use Rattle.sheet_spec.specs.Laws.Space.{sheet_within, space_at_most, space_coded}
+use Rattle.sheet_spec.specs.Laws.Space.{sheet_within, space_coded}
 use Rattle.sheet_text.specs.Laws.Answer.{answered_declined, answered_written, answered_space}
-use borrow.Author.Rules.{rules}
 use Rattle.sheet_text.proofs.accepted.Goals as goal
 
 pub returns-then-out-space : goal.returns-then-out-space

@@ -1,8 +1,7 @@
 -- `refused` meets its contract: declined for want of space, or the line.
 use native.Mathlib.Omega.{arith}
 use Rattle.sheet_spec.specs.Laws.Widths.{refused_line_within}
-use Rattle.sheet_text.specs.Laws.Answer.{answered_declined, answered_written, answered_space}
-use borrow.Author.Rules.{rules}
+use Rattle.sheet_text.specs.Laws.Answer.{answered_written, answered_space}
 use Rattle.sheet_text.proofs.refused.Goals as goal
 
 pub refused_line-requires : goal.refused_line-requires

@@ -6,7 +6,6 @@ use Rattle.record_spec.specs.Layout.{scheme_in}
 use Rattle.record_spec.specs.Laws.Read.{read_number, read_scheme}
 use Rattle.sheet_spec.specs.Laws.Space.{read_cause_most, read_accepted}
 use Rattle.sheet_text.specs.Laws.Answer.{sheet_refused, sheet_accepted}
-use borrow.Author.Rules.{rules}
 use Rattle.sheet_text.proofs.sheet.Goals as goal
 
 pub refused-requires : goal.refused-requires

@@ -1,12 +1,7 @@
 -- `band_out` meets its contract: no column before k has a bad band.
-use Prim.Native.Nat.{◌≤◌, ◌-◌}
-use mathlib.Core.Path.{◌≡◌, sym, ◌∙◌}
-use mathlib.Core.Bool.{false}
+use mathlib.Core.Path.{sym, ◌∙◌}
 use native.Mathlib.Omega.{arith}
-use lib.ListN.{get_or}
-use Rattle.setchain.specs.Tests.{any_below}
-use Rattle.setchain.specs.Laws.Tests.{any_none, any_more, any_hit, any_end}
-use Rattle.scheme.specs.Cause.{band_test}
+use Rattle.setchain.specs.Laws.Tests.{any_none, any_more, any_hit}
 use Rattle.acceptance.proofs.tests.band_out.Goals as goal
 
 pub loop-k-init : goal.loop-k-init

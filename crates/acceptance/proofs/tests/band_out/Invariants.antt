@@ -1,11 +1,9 @@
 -- `band_out` meets its contract: no column before k has a bad band.
 use Prim.Native.Nat.{◌≤◌, ◌-◌}
-use mathlib.Core.Path.{◌≡◌, sym, ◌∙◌}
+use mathlib.Core.Path.{◌≡◌}
 use mathlib.Core.Bool.{false}
-use native.Mathlib.Omega.{arith}
 use lib.ListN.{get_or}
 use Rattle.setchain.specs.Tests.{any_below}
-use Rattle.setchain.specs.Laws.Tests.{any_none, any_more, any_hit, any_end}
 use Rattle.scheme.specs.Cause.{band_test}
 use Rattle.acceptance.proofs.tests.band_out.Given as goal
 

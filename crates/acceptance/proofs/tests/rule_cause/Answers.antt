@@ -1,14 +1,8 @@
 -- `rule_cause` meets its contract: no class before i has a rule outside 1 to s.
-use Prim.Native.Nat.{◌≤◌, ◌+◌, ◌*◌, ◌-◌}
-use mathlib.Core.Path.{◌≡◌, sym, ◌∙◌}
-use mathlib.Core.Bool.{false}
+use mathlib.Core.Path.{sym, ◌∙◌}
 use native.Mathlib.Omega.{arith}
-use lib.ListN.{get_or}
-use Rattle.setchain.specs.Tests.{any_below}
-use Rattle.setchain.specs.Laws.Tests.{any_none, any_more, any_hit, any_end}
-use Rattle.scheme.specs.Access.{CELL_STRIDE}
-use Rattle.scheme.specs.Cause.{outside}
-use Rattle.scheme.specs.Laws.FirstCause.{cond_true, cond_false}
+use Rattle.setchain.specs.Laws.Tests.{any_none, any_more, any_hit}
+use Rattle.scheme.specs.Laws.FirstCause.{cond_true}
 use Rattle.acceptance.proofs.tests.rule_cause.Goals as goal
 
 pub loop-i-init : goal.loop-i-init

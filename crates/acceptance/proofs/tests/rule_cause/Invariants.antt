@@ -1,14 +1,11 @@
 -- `rule_cause` meets its contract: no class before i has a rule outside 1 to s.
 use Prim.Native.Nat.{◌≤◌, ◌+◌, ◌*◌, ◌-◌}
-use mathlib.Core.Path.{◌≡◌, sym, ◌∙◌}
+use mathlib.Core.Path.{◌≡◌}
 use mathlib.Core.Bool.{false}
-use native.Mathlib.Omega.{arith}
 use lib.ListN.{get_or}
 use Rattle.setchain.specs.Tests.{any_below}
-use Rattle.setchain.specs.Laws.Tests.{any_none, any_more, any_hit, any_end}
 use Rattle.scheme.specs.Access.{CELL_STRIDE}
 use Rattle.scheme.specs.Cause.{outside}
-use Rattle.scheme.specs.Laws.FirstCause.{cond_true, cond_false}
 use Rattle.acceptance.proofs.tests.rule_cause.Given as goal
 
 abbrev pub invariant-loop-i : goal.invariant-loop-i

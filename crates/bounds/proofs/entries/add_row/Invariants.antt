@@ -1,13 +1,9 @@
 -- `add_row` stores one entry in the list of each state that it leads to.
 -- Assumes nothing.
-use Prim.Native.Nat.{◌+◌, ◌-◌, ◌≤◌, ◌<◌}
-use mathlib.Core.Logic.{⊎_elim}
-use native.Mathlib.Omega.{arith}
+use Prim.Native.Nat.{◌-◌}
 use lib.ListN.{length}
-use Rattle.setchain.specs.Rows.{ONE, lists_row}
-use Rattle.bounds.specs.Entries.{counts}
-use Rattle.bounds.proofs.AddRowLaws.{Adding, adding_none, adding_here, adding_skip, adding_more, adding_as, adding_all}
-use Rattle.setchain.specs.Sums.{at}
+use Rattle.setchain.specs.Rows.{lists_row}
+use Rattle.bounds.proofs.AddRowLaws.{Adding}
 use Rattle.bounds.proofs.entries.add_row.Given as goal
 
 abbrev pub invariant-loop-j : goal.invariant-loop-j

@@ -1,11 +1,6 @@
 -- `list_row` sums the row's ends by target at the fronts of two arrays, and adds its entries.
 -- Assumes nothing.
-use mathlib.Core.Path.{◌≡◌, sym, ◌∙◌}
-use native.Mathlib.Omega.{arith}
-use lib.ListN.{length}
-use Rattle.rows.specs.Laws.Front.{front_fits, front_size, front_lent}
 use Rattle.bounds.proofs.ListRowLaws.{row_adds, row_added, row_slack}
-use borrow.Author.Rules.{rules}
 use Rattle.bounds.proofs.entries.list_row.Goals as goal
 
 pub add_row-requires : goal.add_row-requires

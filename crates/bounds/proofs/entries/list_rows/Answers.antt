@@ -1,16 +1,12 @@
 -- `list_rows` lists each row in turn: the invariant says so of the rows passed.
 -- Assumes nothing.
-use Prim.Native.Nat.{◌-◌}
 use native.Mathlib.Omega.{arith}
-use borrow.Author.Rules.{rules}
-use Rattle.bounds.specs.Entries.{rules_chain}
-use Rattle.bounds.proofs.ListRowsLaws.{Listing, listing_none, listing_adds, own_added, own_left, listing_more, listing_all}
+use Rattle.bounds.proofs.ListRowsLaws.{listing_none, listing_adds, own_added, own_left, listing_more, listing_all}
 use Rattle.bounds.proofs.entries.list_rows.Goals as goal
 
 pub loop-i-init : goal.loop-i-init
 loop-i-init c = listing_none c.requires
 
--- The places passed, each from a later one.
 pub list_row-requires : goal.list_row-requires
 list_row-requires c = listing_adds c.requires c.loop-i.i c.loop-i.invariant c.class_bands-lower.ensures c.class_bands-upper.ensures (omega arith)
 

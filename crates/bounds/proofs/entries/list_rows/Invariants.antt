@@ -1,10 +1,8 @@
 -- `list_rows` lists each row in turn: the invariant says so of the rows passed.
 -- Assumes nothing.
 use Prim.Native.Nat.{◌-◌}
-use native.Mathlib.Omega.{arith}
-use borrow.Author.Rules.{rules}
 use Rattle.bounds.specs.Entries.{rules_chain}
-use Rattle.bounds.proofs.ListRowsLaws.{Listing, listing_none, listing_adds, own_added, own_left, listing_more, listing_all}
+use Rattle.bounds.proofs.ListRowsLaws.{Listing}
 use Rattle.bounds.proofs.entries.list_rows.Given as goal
 
 abbrev pub invariant-loop-i : goal.invariant-loop-i

@@ -1,12 +1,9 @@
 -- `in_tenths` writes each premium in tenths: the invariant says so of the places passed.
 -- Assumes nothing.
-use Prim.Native.Nat.{◌-◌, ◌*◌}
-use mathlib.Core.Path.{ap}
-use native.Mathlib.Omega.{arith}
+use Prim.Native.Nat.{◌-◌}
 use Rattle.setchain.specs.Sums.{at}
-use Rattle.setchain.specs.Years.{CENT, tenths}
-use Rattle.order.specs.Laws.Written.{Written, written_none, written_more}
-use Rattle.bounds.proofs.MoneyLaws.{tenths_all}
+use Rattle.setchain.specs.Years.{tenths}
+use Rattle.order.specs.Laws.Written.{Written}
 use Rattle.bounds.proofs.money.in_tenths.Given as goal
 
 abbrev pub invariant-loop-i : goal.invariant-loop-i

@@ -1,9 +1,7 @@
 -- `round_means` rounds place after place: the invariant says so of the years passed.
 -- Assumes nothing.
-use Prim.Native.Nat.{◌-◌}
 use native.Mathlib.Omega.{arith}
-use lib.ListN.{length, length-set}
-use Rattle.bounds.proofs.MoneyLaws.{Rounded, rounded_none, rounded_more, rounded_all}
+use Rattle.bounds.proofs.MoneyLaws.{rounded_more, rounded_all}
 use Rattle.bounds.proofs.money.round_means.Goals as goal
 
 pub loop-place-preserved : goal.loop-place-preserved

@@ -1,9 +1,8 @@
 -- `round_means` rounds place after place: the invariant says so of the years passed.
 -- Assumes nothing.
 use Prim.Native.Nat.{◌-◌}
-use native.Mathlib.Omega.{arith}
-use lib.ListN.{length, length-set}
-use Rattle.bounds.proofs.MoneyLaws.{Rounded, rounded_none, rounded_more, rounded_all}
+use lib.ListN.{length}
+use Rattle.bounds.proofs.MoneyLaws.{Rounded}
 use Rattle.bounds.proofs.money.round_means.Given as goal
 
 abbrev pub invariant-loop-place : goal.invariant-loop-place

@@ -1,8 +1,5 @@
 -- `pooled_bounds` lists the scheme's entries and takes the low and the high pooled figure, where there is no cause.
 -- Assumes nothing.
-use mathlib.Core.Path.{ap₂, sym, ◌∙◌}
-use Rattle.scheme.specs.Laws.FirstCause.{answered, declined}
-use Rattle.bounds_spec.specs.declared.Bounds.TheVariants.{Answered}
 use Rattle.bounds.proofs.ListSchemeLaws.{lists_empty}
 use Rattle.bounds.proofs.pooled.pooled_bounds.Goals as goal
 

@@ -2,7 +2,6 @@
 -- Assumes nothing.
 use mathlib.Core.Path.{◌∙◌}
 use Rattle.bounds.proofs.PooledBoundsLaws.{pool_ready, pooled_years_lem}
-use borrow.Author.Rules.{rules}
 use Rattle.bounds.proofs.pooled.pooled_figure.Goals as goal
 
 pub pool-requires : goal.pool-requires

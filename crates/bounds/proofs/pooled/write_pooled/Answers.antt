@@ -1,10 +1,8 @@
 -- `write_pooled` lists the scheme's entries and writes the slice class by class.
 -- Assumes nothing.
-use Prim.Native.Nat.{◌-◌}
 use native.Mathlib.Omega.{arith}
-use Rattle.order.specs.Laws.Written.{Written, written_none}
 use Rattle.bounds.proofs.ListSchemeLaws.{lists_empty}
-use Rattle.bounds.proofs.PooledBoundsLaws.{pooled_state_ready, pooled_of, pooled_more, pooled_all}
+use Rattle.bounds.proofs.PooledBoundsLaws.{pooled_state_ready, pooled_more, pooled_all}
 use Rattle.bounds.proofs.pooled.write_pooled.Goals as goal
 
 pub list_scheme-requires : goal.list_scheme-requires

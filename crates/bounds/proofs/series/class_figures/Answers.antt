@@ -1,11 +1,8 @@
 -- `class_figures` ranks the classes by the payoff and runs the years on the parts in use.
 -- Assumes nothing.
 use Prim.Native.Nat.{◌≤◌}
-use mathlib.Core.Path.{sym}
-use lib.ListN.{length, drop}
-use lib.Seq.{length-take-le}
-use Rattle.bounds.proofs.FrontLaws.{zeros}
-use Rattle.bounds.proofs.SeriesLaws.{start_state, order_fits, order_size, series_years, class_figures_done}
+use lib.ListN.{length}
+use Rattle.bounds.proofs.SeriesLaws.{start_state, class_figures_done}
 use borrow.Author.Rules.{rules}
 use Rattle.bounds.proofs.series.class_figures.Goals as goal
 

@@ -1,10 +1,6 @@
 -- `start_bounds` lists the scheme's entries and takes the low and the high figure, where there is no cause.
 -- Assumes nothing.
-use mathlib.Core.Path.{ap₂, sym, ◌∙◌}
-use Rattle.scheme.specs.Laws.FirstCause.{answered, declined}
-use Rattle.bounds_spec.specs.declared.Bounds.TheVariants.{Answered}
 use Rattle.bounds.proofs.ListSchemeLaws.{lists_empty}
-use borrow.Author.Rules.{rules}
 use Rattle.bounds.proofs.series.start_bounds.Goals as goal
 
 pub list_scheme-requires : goal.list_scheme-requires

@@ -1,23 +1,18 @@
 -- `write_shares` lists the scheme's entries and writes the slice class by class.
 -- Assumes nothing.
-use Prim.Native.Nat.{◌-◌}
 use native.Mathlib.Omega.{arith}
-use Rattle.order.specs.Laws.Written.{Written, written_none}
-use Rattle.bounds.specs.Sheets.{share_of}
 use Rattle.bounds.proofs.ListSchemeLaws.{lists_empty}
 use Rattle.bounds.proofs.SheetLaws.{share_ready, shares_more, shares_all}
-use borrow.Author.Rules.{rules}
 use Rattle.bounds.proofs.sheet.write_shares.Goals as goal
 
 pub list_scheme-requires : goal.list_scheme-requires
 list_scheme-requires c = (c.requires.accepted, lists_empty)
 
 pub series-requires : goal.series-requires
-series-requires c =
-    (
-      share_ready c.args.scheme c.args.year c.requires.accepted (omega arith) (omega arith) c.share_payoff-payoff.ensures,
-      c.list_scheme.ensures,
-    )
+series-requires c = (
+  share_ready c.args.scheme c.args.year c.requires.accepted (omega arith) (omega arith) c.share_payoff-payoff.ensures,
+  c.list_scheme.ensures,
+)
 
 pub loop-j-preserved : goal.loop-j-preserved
 loop-j-preserved c =

@@ -1,12 +1,8 @@
 -- `write_shares` lists the scheme's entries and writes the slice class by class.
 -- Assumes nothing.
 use Prim.Native.Nat.{◌-◌}
-use native.Mathlib.Omega.{arith}
-use Rattle.order.specs.Laws.Written.{Written, written_none}
+use Rattle.order.specs.Laws.Written.{Written}
 use Rattle.bounds.specs.Sheets.{share_of}
-use Rattle.bounds.proofs.ListSchemeLaws.{lists_empty}
-use Rattle.bounds.proofs.SheetLaws.{share_ready, shares_more, shares_all}
-use borrow.Author.Rules.{rules}
 use Rattle.bounds.proofs.sheet.write_shares.Given as goal
 
 abbrev pub invariant-loop-j : goal.invariant-loop-j

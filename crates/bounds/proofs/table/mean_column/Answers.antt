@@ -1,8 +1,6 @@
 -- `mean_column` writes the series of the means in tenths, and rounds each.
 -- Assumes nothing.
-use mathlib.Core.Path.{◌∙◌}
-use Rattle.bounds.proofs.TableLaws.{mean_ready, round_ready, means_made}
-use borrow.Author.Rules.{rules}
+use Rattle.bounds.proofs.TableLaws.{mean_ready, means_made}
 use Rattle.bounds.proofs.table.mean_column.Goals as goal
 
 pub series-requires : goal.series-requires

@@ -1,11 +1,7 @@
 -- `share_columns` writes the shares class by class.
 -- Assumes nothing.
-use Prim.Native.Nat.{◌-◌}
-use mathlib.Core.Path.{sym, ◌∙◌}
 use native.Mathlib.Omega.{arith}
-use Rattle.bounds.specs.Sheets.{ShareColumnsPost}
-use Rattle.bounds.proofs.TableLaws.{column_stored, columns_none, share_ready, columns_more, columns_all}
-use borrow.Author.Rules.{rules}
+use Rattle.bounds.proofs.TableLaws.{column_stored, share_ready, columns_more}
 use Rattle.bounds.proofs.table.share_columns.Goals as goal
 
 pub series-requires : goal.series-requires

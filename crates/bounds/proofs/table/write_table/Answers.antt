@@ -1,7 +1,6 @@
 -- `write_table` lists the scheme's entries and writes the shares, then the mean's column, then the total at the last place.
 -- Assumes nothing.
 use Prim.Native.Nat.{ℕ, ◌-◌}
-use mathlib.Core.Path.{◌≡◌, sym, ◌∙◌}
 use mathlib.Core.List.{List, ◌++◌}
 use native.Mathlib.Omega.{arith}
 use lib.ListN.{length, take, drop}
@@ -9,10 +8,8 @@ use Rattle.setchain.specs.Years.{mean_figure}
 use Rattle.scheme.specs.Access.{premium_at}
 use Rattle.scheme.specs.Rows.{chain_of}
 use Rattle.bounds_spec.specs.Answers.{start_of}
-use Rattle.bounds_spec.specs.Causes.{table_size}
 use Rattle.bounds.proofs.ListSchemeLaws.{lists_empty}
-use Rattle.bounds.proofs.TableLaws.{ColumnStored, column_stored, total_ready, last_fits, last_length, table_made}
-use borrow.Author.Rules.{rules}
+use Rattle.bounds.proofs.TableLaws.{ColumnStored, column_stored, total_ready, table_made}
 use Rattle.bounds.proofs.table.write_table.Goals as goal
 
 pub list_scheme-requires : goal.list_scheme-requires

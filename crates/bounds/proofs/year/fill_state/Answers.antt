@@ -1,21 +1,15 @@
 -- `fill_state` takes the entries in turn: what each row has left and its sum tell of those taken.
 -- Assumes nothing.
-use Prim.Native.Nat.{min, ◌+◌, ◌-◌, ◌*◌, ◌≤◌, ◌<◌}
+use Prim.Native.Nat.{min, ◌+◌, ◌*◌, ◌≤◌}
 use mathlib.Core.Path.{◌≡◌, refl}
 use native.Mathlib.Omega.{arith}
-use lib.ListN.{length}
 use Rattle.setchain.specs.Rows.{ONE}
 use Rattle.setchain.specs.Sums.{at}
 use Rattle.step_spec.specs.StepAnswer.{MOST_PAYOFF}
 use Rattle.bounds.specs.Entries.{lower_ends, capacities}
-use Rattle.bounds.proofs.FillStateLaws.{EntriesTaken, entries_none, row_inside, entry_fits, entries_more, entries_all}
+use Rattle.bounds.proofs.FillStateLaws.{entries_none, entry_fits, entries_more}
 use Rattle.bounds.proofs.year.fill_state.Goals as goal
 
--- The entry's place, and its row's.
--- The same where the row's slack is read, and where it is known what the row is given.
--- What its row is given.
--- And that the row's sum fits.
--- As the entry does.
 pub loop-e-init : goal.loop-e-init
 loop-e-init c = entries_none c.requires
 

@@ -1,14 +1,7 @@
 -- `fill_state` takes the entries in turn: what each row has left and its sum tell of those taken.
 -- Assumes nothing.
-use Prim.Native.Nat.{min, ◌+◌, ◌-◌, ◌*◌, ◌≤◌, ◌<◌}
-use mathlib.Core.Path.{◌≡◌, refl}
-use native.Mathlib.Omega.{arith}
-use lib.ListN.{length}
-use Rattle.setchain.specs.Rows.{ONE}
-use Rattle.setchain.specs.Sums.{at}
-use Rattle.step_spec.specs.StepAnswer.{MOST_PAYOFF}
-use Rattle.bounds.specs.Entries.{lower_ends, capacities}
-use Rattle.bounds.proofs.FillStateLaws.{EntriesTaken, entries_none, row_inside, entry_fits, entries_more, entries_all}
+use Prim.Native.Nat.{◌-◌}
+use Rattle.bounds.proofs.FillStateLaws.{EntriesTaken}
 use Rattle.bounds.proofs.year.fill_state.Given as goal
 
 abbrev pub invariant-loop-e : goal.invariant-loop-e

@@ -1,21 +1,17 @@
 -- `fill_states` fills the states in turn, along the order.
 -- Assumes nothing.
-use Prim.Native.Nat.{◌+◌, ◌-◌, ◌≤◌, ◌<◌}
+use Prim.Native.Nat.{◌-◌}
 use mathlib.Core.Path.{◌≡◌, ap, sym, ◌∙◌}
 use native.Mathlib.Omega.{arith}
 use lib.ListN.{length}
 use Rattle.setchain.specs.Sums.{at}
-use Rattle.bounds.specs.Entries.{counts}
-use Rattle.bounds.proofs.YearLaws.{StatesFilled, states_none, state_inside, list_short, state_fills, states_more, states_all}
+use Rattle.bounds.proofs.YearLaws.{states_none, state_fills, states_more, states_all}
 use Rattle.order.specs.Order.{along}
 use Rattle.order.specs.States.{state_of}
 use Rattle.order.specs.Laws.Along.{along_length}
 use Rattle.order.specs.Laws.Numbers.{state_of_lem}
 use Rattle.bounds.proofs.year.fill_states.Goals as goal
 
--- The order has a place for each state.
--- The class at place k has a state.
--- And how long its list is.
 pub loop-k-init : goal.loop-k-init
 loop-k-init c = states_none c.requires
 

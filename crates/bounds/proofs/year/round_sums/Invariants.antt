@@ -1,12 +1,9 @@
 -- `round_sums` makes figures from the front on.
 -- Assumes nothing.
-use Prim.Native.Nat.{◌+◌, ◌-◌}
-use mathlib.Core.Path.{ap}
-use native.Mathlib.Omega.{arith}
+use Prim.Native.Nat.{◌-◌}
 use lib.ListN.{length}
-use Rattle.order.specs.Laws.Written.{Rewritten, rewritten_none, rewritten_more}
-use Rattle.setchain.specs.Sums.{at}
-use Rattle.bounds.proofs.YearLaws.{figure_of, figure_fits, figures_all}
+use Rattle.order.specs.Laws.Written.{Rewritten}
+use Rattle.bounds.proofs.YearLaws.{figure_of}
 use Rattle.bounds.proofs.year.round_sums.Given as goal
 
 abbrev pub invariant-loop-i : goal.invariant-loop-i

@@ -1,11 +1,9 @@
 -- `year` ranks the order by the figures before, fills the states along it, and rounds the sums.
 -- Assumes nothing.
 use Prim.Native.Nat.{◌≤◌}
-use mathlib.Core.Path.{sym}
 use lib.ListN.{length, drop}
-use lib.Seq.{length-take-le}
 use Rattle.bounds.proofs.FrontLaws.{zeros}
-use Rattle.bounds.proofs.YearLaws.{slack_count, year_permutation, year_fills, sums_fit, sums_size, year_rounds, year_figures}
+use Rattle.bounds.proofs.YearLaws.{year_fills, year_figures}
 use borrow.Author.Rules.{rules}
 use Rattle.bounds.proofs.year.year.Goals as goal
 
@@ -18,4 +16,4 @@ pub returns-clause-figures : goal.returns-clause-figures
 returns-clause-figures c =
     let fits : length c.args.gain.now ≤ length c.args.before = search rules in
     year_figures c.requires fits c.args.high c.rank_again.ensures.ranks c.fill_states.ensures
-          (drop (length c.args.gain.now) zeros) _ c.round_sums.ensures
+    (drop (length c.args.gain.now) zeros) _ c.round_sums.ensures

@@ -1,8 +1,8 @@
 -- The figures of t years: those of the year before, and one year more, by the high step or the low one; of no years the payoff.
 -- Assumes nothing.
-use Rattle.std.proofs.Common.{ℕ, arith}
+use Rattle.std.proofs.Common.{arith}
 use Rattle.bounds.specs.Years.{YearsPost}
-use Rattle.bounds.proofs.YearsLaws.{years_none, years_more, years_stored, years_less, years_step}
+use Rattle.bounds.proofs.YearsLaws.{years_none, years_more, years_stored, years_step}
 use Rattle.bounds.proofs.years.+years.Goals as goal
 use Rattle.bounds.proofs.years.+years.Goals.{then-t-ne0+then-high, then-t-ne0+else-high, else-t-ne0}
 
@@ -18,11 +18,11 @@ returns t c =
     let a = c.args in
     let pre = c.requires in
     let met : YearsPost a.entries.now a.gain.now a.figures.now a.high a.t a.state a.stride a.t c.if-t-ne0.order c.if-t-ne0.figures a.out.now c.if-t-ne0.out =
-      elim c.if-t-ne0.branch [
-        then-t-ne0+then-high w ↦
+    elim c.if-t-ne0.branch [
+      | then-t-ne0+then-high w ↦
           rw (w.order-is, w.figures-is, w.out-is) (years_more pre _ (omega arith) w.years.ensures (omega arith) w.if-high.true w.advance.ensures.figures w.advance.ensures.order)
-        | then-t-ne0+else-high w ↦
+      | then-t-ne0+else-high w ↦
           rw (w.order-is, w.figures-is, w.out-is) (years_more pre _ (omega arith) w.years.ensures (omega arith) w.if-high.false w.advance-else-high.ensures.figures w.advance-else-high.ensures.order)
-        | else-t-ne0 w ↦ rw (w.order-is, w.figures-is, w.out-is) (years_none pre w.if-t-ne0.false)
-      ] in
+      | else-t-ne0 w ↦ rw (w.order-is, w.figures-is, w.out-is) (years_none pre w.if-t-ne0.false)
+    ] in
     rw c.store_figure.ensures (years_stored pre met)

@@ -1,6 +1,5 @@
 -- `checksum_of_counts` is safe and ends: the place moves on.
 use Prim.Native.Nat.{◌≤◌, ◌-◌}
-use borrow.Author.Rules.{rules}
 use Rattle.family.proofs.books.checksum_of_counts.Given as goal
 
 abbrev pub invariant-loop-i : goal.invariant-loop-i

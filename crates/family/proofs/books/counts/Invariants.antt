@@ -1,6 +1,5 @@
 -- `counts` is safe and ends: the class moves on.
 use Prim.Native.Nat.{◌≤◌, ◌-◌}
-use borrow.Author.Rules.{rules}
 use Rattle.family.proofs.books.counts.Given as goal
 
 abbrev pub invariant-loop-i : goal.invariant-loop-i

@@ -1,7 +1,6 @@
 -- `put_part` meets its contract: 11 for an empty part, 13 for the buffer, or the part in the buffer.
 -- Assumes nothing.
-use Rattle.joguyvi_rows.proofs.RowBuffersLaws.{part_empty, part_out, part_copied}
-use borrow.Author.Rules.{rules}
+use Rattle.joguyvi_rows.proofs.RowBuffersLaws.{part_copied}
 use Rattle.joguyvi_rows.proofs.row_buffers.put_part.Goals as goal
 
 pub returns : goal.returns

@@ -1,7 +1,6 @@
 -- `step` meets its contract: the cause of reading, or the step put into its buffers.
 -- Assumes nothing.
 use Rattle.joguyvi_steps.proofs.StepsLaws.{step_stopped, step_passed}
-use borrow.Author.Rules.{rules}
 use Rattle.joguyvi_steps.proofs.steps.step.Goals as goal
 
 pub returns-then-number-ne0 : goal.returns-then-number-ne0

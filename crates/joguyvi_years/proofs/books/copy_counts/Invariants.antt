@@ -1,13 +1,8 @@
 -- `copy_counts` copies: the places passed hold the book's counts.
 -- Assumes nothing.
 use Prim.Native.Nat.{◌-◌}
-use mathlib.Core.Path.{◌≡◌, refl}
-use native.Mathlib.Omega.{arith}
-use lib.ListN.{length}
 use Rattle.setchain.specs.Sums.{at}
-use Rattle.scheme.specs.Laws.Filled.{Filled, fill_more}
-use Rattle.joguyvi_years.proofs.BooksLaws.{copied_none, copied_all}
-use borrow.Author.Rules.{rules}
+use Rattle.scheme.specs.Laws.Filled.{Filled}
 use Rattle.joguyvi_years.proofs.books.copy_counts.Given as goal
 
 abbrev pub invariant-loop-k : goal.invariant-loop-k

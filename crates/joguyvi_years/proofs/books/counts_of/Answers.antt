@@ -1,9 +1,7 @@
 -- `counts_of` meets its contract: the places passed hold the book's counts.
 -- Assumes nothing.
-use Prim.Native.Nat.{◌-◌}
 use native.Mathlib.Omega.{arith}
-use lib.ListN.{get_or}
-use Rattle.scheme.specs.Laws.Filled.{Filled, fill_none, fill_more, fill_all}
+use Rattle.scheme.specs.Laws.Filled.{fill_all}
 use Rattle.joguyvi_spec.specs.Buffers.{first32}
 use Rattle.joguyvi_years.proofs.books.counts_of.Goals as goal
 

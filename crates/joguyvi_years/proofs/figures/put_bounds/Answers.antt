@@ -1,9 +1,6 @@
 -- `put_bounds` meets its contract: the answer's cause, the buffer's, or low and high.
 -- Assumes nothing.
-use native.Mathlib.Omega.{arith}
-use lib.ListN.{length-set}
 use Rattle.joguyvi_years.proofs.FiguresLaws.{bounds_refused, bounds_out, bounds_put}
-use borrow.Author.Rules.{rules}
 use Rattle.joguyvi_years.proofs.figures.put_bounds.Goals as goal
 
 pub returns-then-number-ne0 : goal.returns-then-number-ne0

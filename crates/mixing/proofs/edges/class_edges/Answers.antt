@@ -3,7 +3,6 @@ use mathlib.Core.Path.{◌≡◌, sym}
 use native.Mathlib.Omega.{arith}
 use lib.ListN.{length, take}
 use Rattle.mixing.specs.Laws.Edges.{classes_few, row_size, row_front, row_edges}
-use borrow.Author.Rules.{rules}
 use Rattle.mixing.proofs.edges.class_edges.Goals as goal
 
 pub slice_bounds-lower-end : goal.slice_bounds-lower-end

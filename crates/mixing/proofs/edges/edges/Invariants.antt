@@ -1,12 +1,8 @@
 -- `edges` meets its contract: the first i rows are those of the scheme's edges.
-use Prim.Native.Nat.{ℕ, ◌+◌, ◌-◌, ◌≤◌}
-use mathlib.Core.Path.{◌≡◌, ap, ◌∙◌}
-use native.Mathlib.Omega.{arith}
-use borrow.Author.Rules.{rules}
-use Rattle.scheme.specs.Laws.Filled.{Filled, fill_none, fill_more}
+use Prim.Native.Nat.{◌-◌, ◌≤◌}
+use Rattle.scheme.specs.Laws.Filled.{Filled}
 use Rattle.mixing_spec.specs.MixingAnswer.{scheme_edges}
 use Rattle.mixing.specs.Bits.{bits_of}
-use Rattle.mixing.specs.Laws.Edges.{classes_few}
 use Rattle.mixing.proofs.edges.edges.Given as goal
 
 abbrev pub invariant-loop-i : goal.invariant-loop-i

@@ -1,12 +1,10 @@
 -- `entries_above_zero` meets its contract: the bits of the entries from j on.
-use Prim.Native.Nat.{◌+◌, ◌-◌, ◌≤◌, ◌<◌}
-use mathlib.Core.Path.{◌≡◌}
+use Prim.Native.Nat.{◌-◌, ◌<◌}
 use native.Mathlib.Omega.{arith}
 use lib.Dec.{ltb}
 use lib.ListN.{length}
 use Rattle.setchain.specs.Sums.{at}
-use Rattle.mixing.specs.Bits.{bits_of}
-use Rattle.mixing.specs.Laws.Bits.{digit_small, bits_start, bits_more, bits_fit, bits_end}
+use Rattle.mixing.specs.Laws.Bits.{digit_small, bits_start, bits_more, bits_fit}
 use Rattle.mixing.proofs.edges.entries_above_zero.Goals as goal
 
 pub loop-j-init : goal.loop-j-init

@@ -1,12 +1,10 @@
 -- `entries_above_zero` meets its contract: the bits of the entries from j on.
-use Prim.Native.Nat.{◌+◌, ◌-◌, ◌≤◌, ◌<◌}
+use Prim.Native.Nat.{◌+◌, ◌-◌, ◌≤◌}
 use mathlib.Core.Path.{◌≡◌}
-use native.Mathlib.Omega.{arith}
 use lib.Dec.{ltb}
 use lib.ListN.{length}
 use Rattle.setchain.specs.Sums.{at}
 use Rattle.mixing.specs.Bits.{bits_of}
-use Rattle.mixing.specs.Laws.Bits.{digit_small, bits_start, bits_more, bits_fit, bits_end}
 use Rattle.mixing.proofs.edges.entries_above_zero.Given as goal
 
 abbrev pub invariant-loop-j : goal.invariant-loop-j

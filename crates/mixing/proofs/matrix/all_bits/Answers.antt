@@ -2,8 +2,7 @@
 use Prim.Native.Nat.{◌*◌, ◌%◌, ◌^◌}
 use mathlib.Core.Path.{◌≡◌}
 use native.Mathlib.Omega.{arith}
-use lib.Pow.{pow_pos}
-use Rattle.mixing.specs.Laws.Bits.{pow_most, one_shifted, bits_all}
+use Rattle.mixing.specs.Laws.Bits.{one_shifted, bits_all}
 use Rattle.mixing.proofs.matrix.all_bits.Goals as goal
 
 pub returns : goal.returns

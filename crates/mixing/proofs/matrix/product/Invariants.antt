@@ -1,13 +1,8 @@
 -- `product` meets its contract: the first i rows are the product's.
 use Prim.Native.Nat.{◌-◌, ◌≤◌}
-use mathlib.Core.Path.{sym, ◌∙◌}
-use borrow.Author.Rules.{rules}
-use native.Mathlib.Omega.{arith}
-use lib.Seq.{length-take-le}
 use Rattle.setchain.specs.Sums.{at}
-use Rattle.scheme.specs.Laws.Filled.{Filled, fill_none, fill_more}
+use Rattle.scheme.specs.Laws.Filled.{Filled}
 use Rattle.mixing.specs.Bits.{union_of}
-use Rattle.mixing.specs.Laws.Bits.{union_front}
 use Rattle.mixing.proofs.matrix.product.Given as goal
 
 abbrev pub invariant-loop-i : goal.invariant-loop-i

@@ -2,7 +2,6 @@
 use mathlib.Core.Path.{sym}
 use borrow.Author.Tests.{eq-eqb, ne_eqb}
 use Rattle.setchain.specs.Laws.Sums.{only_if_true, only_if_false}
-use borrow.Author.Rules.{rules}
 use Rattle.mixing.proofs.matrix.row_if.Goals as goal
 
 pub returns-then-set-k-eq1 : goal.returns-then-set-k-eq1

@@ -1,10 +1,5 @@
 -- `union` meets its contract: the first k rows.
-use Prim.Native.Nat.{◌-◌, ◌≤◌}
-use mathlib.Core.Path.{◌≡◌}
 use native.Mathlib.Omega.{arith}
-use lib.ListN.{length}
-use Rattle.setchain.specs.Sums.{at}
-use Rattle.mixing.specs.Bits.{union_of}
 use Rattle.mixing.specs.Laws.Bits.{union_none, union_more}
 use Rattle.mixing.proofs.matrix.union.Goals as goal
 

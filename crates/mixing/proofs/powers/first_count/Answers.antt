@@ -1,7 +1,6 @@
 -- `first_count` meets its contract: 1, none, or one more than the last count that does not mix.
 use native.Mathlib.Omega.{arith}
-use Rattle.mixing.specs.Laws.Powers.{first_at_once, first_never, search_asks, first_after_last}
-use borrow.Author.Rules.{rules}
+use Rattle.mixing.specs.Laws.Powers.{first_at_once, first_never, first_after_last}
 use Rattle.mixing.proofs.powers.first_count.Goals as goal
 
 pub returns-then-levels-eq0 : goal.returns-then-levels-eq0

@@ -1,13 +1,7 @@
 -- `last_not_mixing` meets its contract: the count does not mix, and 2 to the power of k years more do.
-use Prim.Native.Nat.{◌-◌, ◌*◌, ◌%◌, ◌^◌, ◌≤◌}
-use mathlib.Core.Path.{◌≡◌}
 use mathlib.Core.List.{[]}
-use native.Mathlib.Omega.{arith}
 use lib.ListN.{get_or}
 use Rattle.mixing.specs.Powers.{Halving}
-use Rattle.mixing.specs.Laws.Bits.{one_shifted, pow_most}
-use Rattle.mixing.specs.Laws.Powers.{halving_start, halving_on, halving_stays, halving_ends}
-use borrow.Author.Tests.{not-true, not-false}
 use Rattle.mixing.proofs.powers.last_not_mixing.Given as goal
 
 abbrev pub invariant-loop-k : goal.invariant-loop-k

@@ -1,10 +1,8 @@
 -- `store_squares` meets its contract: k counts do not mix, and the matrices of k + 1 are stored.
 use Prim.Native.Nat.{◌-◌}
 use mathlib.Core.List.{[]}
-use native.Mathlib.Omega.{arith}
 use lib.ListN.{get_or}
 use Rattle.mixing.specs.Powers.{Squaring}
-use Rattle.mixing.specs.Laws.Powers.{squaring_none, squaring_stops, squaring_more, squaring_ends}
 use Rattle.mixing.proofs.powers.store_squares.Given as goal
 
 abbrev pub invariant-loop-k : goal.invariant-loop-k

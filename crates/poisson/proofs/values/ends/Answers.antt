@@ -1,11 +1,11 @@
 -- `ends` meets its contract: column by column its value, and in the last what the other kind's values leave.
 -- Assumes nothing.
-use Prim.Native.Nat.{◌-◌, ◌≤◌}
+use Prim.Native.Nat.{◌≤◌}
 use mathlib.Core.Bool.{not}
 use native.Mathlib.Omega.{arith}
 use Rattle.setchain.specs.Rows.{ONE}
 use Rattle.poisson_spec.specs.Laws.Values.{value_most}
-use Rattle.poisson.proofs.ValuesLaws.{Run, run_start, sum_most, run_more, run_end}
+use Rattle.poisson.proofs.ValuesLaws.{run_start, sum_most, run_more, run_end}
 use Rattle.poisson.proofs.values.ends.Goals as goal
 
 pub overflow_cast-out : goal.overflow_cast-out

@@ -1,13 +1,12 @@
 -- `next` meets its contract: rounded outward, no value is above ONE.
 -- Assumes nothing.
-use mathlib.Core.Path.{◌≡◌, ap, sym, ◌∙◌}
+use mathlib.Core.Path.{ap, sym, ◌∙◌}
 use Prim.Native.Nat.{◌+◌, ◌*◌, ◌≤◌}
 use native.Mathlib.Omega.{arith}
 use native.Mathlib.Numerals.{add-one}
 use native.Mathlib.Nat.{mul-le-mul}
 use Rattle.setchain.specs.Rows.{ONE}
 use Rattle.setchain.specs.Rounding.{rounded}
-use borrow.Author.Rules.{rules}
 use Rattle.poisson_spec.specs.Laws.Values.{value_most, value_next}
 use Rattle.poisson.proofs.values.next.Goals as goal
 

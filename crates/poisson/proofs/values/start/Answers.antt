@@ -2,8 +2,6 @@
 -- Assumes nothing.
 use mathlib.Core.Path.{ap, sym, ◌∙◌}
 use native.Mathlib.Omega.{arith}
-use borrow.Author.Rules.{rules}
-use borrow.Author.Tests.{not-true, not-false}
 use Rattle.poisson_spec.specs.Values.{value}
 use Rattle.poisson.proofs.ValuesLaws.{start_low, start_high, start_most}
 use Rattle.poisson.proofs.values.start.Goals as goal

@@ -2,13 +2,11 @@
 use mathlib.Core.Path.{◌≡◌, ap₂, sym, ◌∙◌}
 use mathlib.Core.List.{List}
 use Prim.Native.Nat.{ℕ}
-use native.Mathlib.Omega.{arith}
 use Rattle.scheme.specs.FirstCause.{◌when◌, or_else}
 use Rattle.record_spec.specs.Layout.{classes_in, columns_in}
 use Rattle.scheme.specs.Cause.{sizes_cause}
 use Rattle.record_spec.specs.Read.{version_out, field_out, length_out}
-use Rattle.record_spec.specs.Laws.Frame.{head_long, frame_head, frame_shape, frame_last, shape_fits}
-use borrow.Author.Rules.{rules}
+use Rattle.record_spec.specs.Laws.Frame.{frame_head, frame_shape, frame_last}
 use Rattle.record.proofs.reading.frame.Goals as goal
 
 pub returns-then-head-ne0 : goal.returns-then-head-ne0
@@ -17,7 +15,6 @@ returns-then-head-ne0 c =
     let head : c.or_else-head.result ≡ or_else (1 when version_out given) (2 when field_out given) = c.or_else-head.ensures ∙ ap₂ (λ a b. or_else a b) c.version_cause-version.ensures c.field_cause-field.ensures in
     frame_head _ head c.if-head-ne0.true
 
--- The place behind the header's causes, the bytes at the shape's causes, and what these come to.
 pub returns-then-shape-ne0 : goal.returns-then-shape-ne0
 returns-then-shape-ne0 c =
     let given : List ℕ = c.args.bytes.now in

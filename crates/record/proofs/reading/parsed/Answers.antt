@@ -14,11 +14,8 @@ use Rattle.record_spec.specs.Layout.{version_in, layout_in, header_length, class
 use Rattle.record_spec.specs.Laws.Layout.{further_most, width_most}
 use Rattle.scheme.specs.Laws.Tab.{tab_eq}
 use Rattle.scheme.specs.Laws.Stored.{up_to_eq}
-use borrow.Author.Rules.{rules}
 use Rattle.record.proofs.reading.parsed.Goals as goal
 
--- The start, from the place where the layout is known.
--- The bytes are as long as the layout's formula says, s × m is within the rules' places, and a header and a premium have few bytes.
 -- An upper end stands behind the lower end.
 upper-places : (bytes : List ℕ) (p n : ℕ)
     → tab BAND_PLACES (up_to n (λ k. be_at END_WIDTH bytes (p + END_WIDTH + k * BAND_WIDTH))) ≡ tab BAND_PLACES (up_to n (λ k. be_at END_WIDTH bytes (p + k * BAND_WIDTH + END_WIDTH)))

@@ -1,16 +1,11 @@
 -- `reading::read_numbers` meets its contract: k numbers are read at the head of the loop.
-use Prim.Native.Nat.{suc, ◌≤◌, ◌+◌, ◌*◌, ◌-◌}
-use mathlib.Core.Path.{◌≡◌, ◌∙◌}
+use Prim.Native.Nat.{suc, ◌≤◌, ◌+◌}
+use mathlib.Core.Path.{◌∙◌}
 use native.Mathlib.Omega.{arith}
 use native.Mathlib.Nat.{mul-le-mul_right}
 use lib.ListN.{length}
-use Rattle.scheme.specs.Tables.{tab}
-use Rattle.scheme.specs.Laws.Tab.{length_tab}
-use Rattle.big_endian_spec.specs.Numbers.{be_at}
-use Rattle.scheme.specs.Stored.{up_to}
 use Rattle.big_endian_spec.specs.Laws.{read_held}
 use Rattle.scheme.specs.Laws.Stored.{stored_none, stored_more}
-use borrow.Author.Rules.{rules}
 use Rattle.record.proofs.reading.read_numbers.Goals as goal
 
 pub loop-k-init : goal.loop-k-init

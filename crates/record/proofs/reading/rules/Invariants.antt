@@ -1,17 +1,10 @@
 -- `reading::rules` meets its contract: the rows of i classes are read at the head of the loop.
-use Prim.Native.Nat.{suc, ◌≤◌, ◌+◌, ◌*◌, ◌-◌}
-use mathlib.Core.Path.{◌≡◌, ap, sym, ◌∙◌}
-use native.Mathlib.Omega.{arith}
-use native.Mathlib.Nat.{mul-le-mul_right}
-use lib.ListN.{length, get_or, take, drop}
+use Prim.Native.Nat.{◌≤◌, ◌+◌, ◌*◌, ◌-◌}
+use mathlib.Core.Path.{◌≡◌}
+use lib.ListN.{get_or}
 use Rattle.scheme.specs.Access.{CELL_PLACES, CELL_STRIDE}
 use Rattle.scheme.specs.Tables.{tab}
 use Rattle.scheme.specs.Stored.{rules_up_to}
-use Rattle.scheme.specs.Laws.Tab.{length_tab}
-use Rattle.big_endian_spec.specs.Laws.{part_held}
-use Rattle.record.specs.Laws.Lists.{part_length, part_at}
-use Rattle.record.specs.Laws.Stored.{rows_none, rows_more}
-use borrow.Author.Rules.{rules}
 use Rattle.record.proofs.reading.rules.Given as goal
 
 abbrev pub invariant-loop-i : goal.invariant-loop-i

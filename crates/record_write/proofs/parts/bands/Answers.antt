@@ -1,18 +1,11 @@
 -- `parts::bands` meets its contract: k bands stand at the head of the loop.
-use Prim.Native.Nat.{◌≤◌, ◌+◌, ◌*◌, ◌-◌}
-use mathlib.Core.Path.{◌≡◌, ◌∙◌}
+use mathlib.Core.Path.{◌∙◌}
 use native.Mathlib.Omega.{arith}
-use lib.ListN.{length, get_or}
-use lib.Seq.{sets, length-sets}
 use Rattle.record_spec.specs.Layout.{BAND_WIDTH}
-use Rattle.record_spec.specs.Joined.{joined}
-use Rattle.record_spec.specs.Bytes.{band_bytes}
 use Rattle.record_write.specs.Laws.Lists.{join_none, join_more}
 use Rattle.record_write.specs.Laws.Numbers.{length_band}
 use Rattle.record_write.proofs.parts.bands.Goals as goal
 
--- The start, from the place before the loop.
--- The slice keeps its length.
 pub loop-k-init : goal.loop-k-init
 loop-k-init c = (omega arith, omega arith, join_none _ _ _)
 

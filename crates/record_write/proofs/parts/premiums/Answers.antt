@@ -1,20 +1,14 @@
 -- `parts::premiums` meets its contract: j premiums stand at the head of the loop.
-use Prim.Native.Nat.{suc, ◌≤◌, ◌+◌, ◌*◌, ◌-◌}
+use Prim.Native.Nat.{suc, ◌≤◌, ◌+◌}
 use mathlib.Core.Path.{◌≡◌, ◌∙◌}
 use native.Mathlib.Omega.{arith}
 use native.Mathlib.Nat.{mul-le-mul_right}
-use lib.ListN.{length, get_or}
-use lib.Seq.{sets, length-sets}
-use Rattle.big_endian_spec.specs.Numbers.{be_bytes}
-use Rattle.record_spec.specs.Joined.{joined}
+use lib.ListN.{length}
+use lib.Seq.{length-sets}
 use Rattle.record_write.specs.Laws.Lists.{join_none, join_more}
 use Rattle.big_endian_spec.specs.Laws.{length_be_bytes, put_held}
-use borrow.Author.Rules.{rules}
 use Rattle.record_write.proofs.parts.premiums.Goals as goal
 
--- The start, from the place before the loop.
--- The slice keeps its length.
--- The slice holds the next premium.
 pub loop-j-init : goal.loop-j-init
 loop-j-init c = (omega arith, omega arith, join_none _ _ _)
 

@@ -1,15 +1,10 @@
 -- `parts::premiums` meets its contract: j premiums stand at the head of the loop.
-use Prim.Native.Nat.{suc, ◌≤◌, ◌+◌, ◌*◌, ◌-◌}
-use mathlib.Core.Path.{◌≡◌, ◌∙◌}
-use native.Mathlib.Omega.{arith}
-use native.Mathlib.Nat.{mul-le-mul_right}
-use lib.ListN.{length, get_or}
-use lib.Seq.{sets, length-sets}
+use Prim.Native.Nat.{◌≤◌, ◌+◌, ◌*◌, ◌-◌}
+use mathlib.Core.Path.{◌≡◌}
+use lib.ListN.{get_or}
+use lib.Seq.{sets}
 use Rattle.big_endian_spec.specs.Numbers.{be_bytes}
 use Rattle.record_spec.specs.Joined.{joined}
-use Rattle.record_write.specs.Laws.Lists.{join_none, join_more}
-use Rattle.big_endian_spec.specs.Laws.{length_be_bytes, put_held}
-use borrow.Author.Rules.{rules}
 use Rattle.record_write.proofs.parts.premiums.Given as goal
 
 abbrev pub invariant-loop-j : goal.invariant-loop-j

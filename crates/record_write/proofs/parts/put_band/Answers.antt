@@ -2,7 +2,6 @@
 use mathlib.Core.Path.{◌∙◌}
 use native.Mathlib.Omega.{arith}
 use Rattle.record_write.specs.Laws.Numbers.{put_band}
-use borrow.Author.Rules.{rules}
 use Rattle.record_write.proofs.parts.put_band.Goals as goal
 
 pub returns : goal.returns

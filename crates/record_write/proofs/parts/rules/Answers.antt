@@ -1,22 +1,16 @@
 -- `parts::rules` meets its contract: the rows of i classes stand at the head of the loop.
-use Prim.Native.Nat.{suc, ◌≤◌, ◌+◌, ◌*◌, ◌-◌}
+use Prim.Native.Nat.{suc, ◌≤◌, ◌+◌, ◌*◌}
 use mathlib.Core.Path.{◌≡◌, ◌∙◌}
 use native.Mathlib.Omega.{arith}
 use native.Mathlib.Nat.{mul-le-mul_right}
-use lib.ListN.{length, get_or}
-use lib.Seq.{sets, length-sets}
+use lib.ListN.{length}
+use lib.Seq.{length-sets}
 use Rattle.scheme.specs.Access.{CELL_STRIDE}
-use Rattle.scheme.specs.Tables.{tab}
-use Rattle.record_spec.specs.Joined.{joined}
 use Rattle.scheme.specs.Laws.Tab.{length_tab}
 use Rattle.big_endian_spec.specs.Laws.{part_held}
 use Rattle.record_write.specs.Laws.Lists.{tab_part, join_none, join_more}
-use borrow.Author.Rules.{rules}
 use Rattle.record_write.proofs.parts.rules.Goals as goal
 
--- The start, from the place before the loop.
--- The slice keeps its length.
--- The next row is within the slice.
 pub loop-i-init : goal.loop-i-init
 loop-i-init c = (omega arith, omega arith, omega arith, join_none _ _ _)
 

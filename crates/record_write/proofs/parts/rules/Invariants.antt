@@ -1,17 +1,11 @@
 -- `parts::rules` meets its contract: the rows of i classes stand at the head of the loop.
-use Prim.Native.Nat.{suc, ◌≤◌, ◌+◌, ◌*◌, ◌-◌}
-use mathlib.Core.Path.{◌≡◌, ◌∙◌}
-use native.Mathlib.Omega.{arith}
-use native.Mathlib.Nat.{mul-le-mul_right}
-use lib.ListN.{length, get_or}
-use lib.Seq.{sets, length-sets}
+use Prim.Native.Nat.{◌≤◌, ◌+◌, ◌*◌, ◌-◌}
+use mathlib.Core.Path.{◌≡◌}
+use lib.ListN.{get_or}
+use lib.Seq.{sets}
 use Rattle.scheme.specs.Access.{CELL_STRIDE}
 use Rattle.scheme.specs.Tables.{tab}
 use Rattle.record_spec.specs.Joined.{joined}
-use Rattle.scheme.specs.Laws.Tab.{length_tab}
-use Rattle.big_endian_spec.specs.Laws.{part_held}
-use Rattle.record_write.specs.Laws.Lists.{tab_part, join_none, join_more}
-use borrow.Author.Rules.{rules}
 use Rattle.record_write.proofs.parts.rules.Given as goal
 
 abbrev pub invariant-loop-i : goal.invariant-loop-i

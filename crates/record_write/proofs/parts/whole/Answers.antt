@@ -1,14 +1,11 @@
 -- `parts::whole` meets its contract: each part is laid where the last one ends.
 use Prim.Native.Nat.{ℕ, ◌+◌, ◌*◌, ◌≤◌}
-use mathlib.Core.Path.{◌≡◌, sym, ◌∙◌, subst}
+use mathlib.Core.Path.{◌≡◌, sym, subst}
 use native.Mathlib.Omega.{arith}
 use native.Mathlib.Nat.{mul-le-mul}
-use lib.ListN.{length, length-map}
-use Rattle.scheme.specs.Access.{CELL_PLACES, BAND_PLACES}
 use Rattle.record_spec.specs.Layout.{BAND_WIDTH, layout_of, header_length, length_of}
 use Rattle.record_spec.specs.Laws.Layout.{length_most}
 use Rattle.record_write.specs.Laws.Bytes.{wrote}
-use borrow.Author.Rules.{rules}
 use Rattle.record_write.proofs.parts.whole.Goals as goal
 
 -- Where the parts stand, by the record's length.
@@ -22,10 +19,8 @@ pub record Places (s m version size : ℕ) : Type 0 where
 -- The premiums end where the record does.
 room : (version s m : ℕ) {n header width : ℕ} → header ≡ header_length (layout_of version) → width ≡ (layout_of version).width → length_of (layout_of version) s m ≤ n
     → header + s * m + m * BAND_WIDTH + s * width ≤ n
-
 room version s m at-rules wide fits = rw (at-rules, wide) (omega arith)
 
--- The places passed, each from a later one.
 pub header-requires : goal.header-requires
 header-requires c =
     let places : Places c.args.scheme.classes c.args.scheme.columns c.args.version c.args.size = let fits = c.requires in

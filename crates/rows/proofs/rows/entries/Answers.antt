@@ -1,9 +1,6 @@
 -- `entries` meets its contract.
-use mathlib.Core.Path.{sym}
 use native.Mathlib.Omega.{arith}
-use Rattle.rows.specs.Laws.Front.{front_lent}
 use Rattle.rows.specs.Laws.Entries.{entries_joined}
-use borrow.Author.Rules.{rules}
 use Rattle.rows.proofs.rows.entries.Goals as goal
 
 pub returns : goal.returns

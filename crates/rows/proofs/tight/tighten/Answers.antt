@@ -1,9 +1,8 @@
 -- `tighten` meets its contract: after j turns the first j entries are tight, and the others as they were.
-use Prim.Native.Nat.{min, max, ◌-◌, ◌<◌}
+use Prim.Native.Nat.{min, max}
 use mathlib.Core.Path.{ap, ◌∙◌}
 use native.Mathlib.Omega.{arith}
-use lib.ListN.{length, length-set}
-use Rattle.rows.specs.Laws.Tight.{Tightened, tight_none, tight_more, tight_all}
+use Rattle.rows.specs.Laws.Tight.{tight_more, tight_all}
 use Rattle.rows.proofs.tight.tighten.Goals as goal
 
 pub loop-j-preserved : goal.loop-j-preserved

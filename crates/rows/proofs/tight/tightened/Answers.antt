@@ -1,7 +1,5 @@
 -- `tightened` meets its contract: it lends the fronts of both lists, and the rest is 0 as it was.
-use mathlib.Core.Path.{sym}
-use Rattle.rows.specs.Laws.Tight.{front, fronts_tighten, fronts_tight}
-use borrow.Author.Rules.{rules}
+use Rattle.rows.specs.Laws.Tight.{fronts_tight}
 use Rattle.rows.proofs.tight.tightened.Goals as goal
 
 pub returns : goal.returns

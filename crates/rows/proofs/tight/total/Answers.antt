@@ -1,10 +1,6 @@
 -- `total` meets its contract: j entries, of at most ONE each, come to at most j times ONE.
-use Prim.Native.Nat.{◌-◌, ◌*◌, ◌≤◌}
-use mathlib.Core.Path.{◌≡◌}
 use native.Mathlib.Omega.{arith}
-use lib.ListN.{length}
-use Rattle.setchain.specs.Sums.{at, sum_to}
-use Rattle.setchain.specs.Rows.{ONE}
+use Rattle.setchain.specs.Sums.{at}
 use Rattle.setchain.specs.Laws.Sums.{total_start, sum_to_more}
 use Rattle.rows.proofs.tight.total.Goals as goal
 

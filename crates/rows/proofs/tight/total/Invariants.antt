@@ -1,11 +1,9 @@
 -- `total` meets its contract: j entries, of at most ONE each, come to at most j times ONE.
 use Prim.Native.Nat.{◌-◌, ◌*◌, ◌≤◌}
 use mathlib.Core.Path.{◌≡◌}
-use native.Mathlib.Omega.{arith}
 use lib.ListN.{length}
 use Rattle.setchain.specs.Sums.{at, sum_to}
 use Rattle.setchain.specs.Rows.{ONE}
-use Rattle.setchain.specs.Laws.Sums.{total_start, sum_to_more}
 use Rattle.rows.proofs.tight.total.Given as goal
 
 abbrev pub invariant-loop-j : goal.invariant-loop-j

@@ -4,7 +4,6 @@ use Prim.Native.Nat.{suc}
 use Rattle.sheet_spec.specs.Sheet.{class_line}
 use Rattle.sheet_text.specs.Laws.Put.{put_then, space_first, space_next}
 use Rattle.sheet_text.specs.Laws.Lines.{ends_text, class_head, ends_space, ends_put, class_field_space, class_field_put}
-use borrow.Author.Rules.{rules}
 use Rattle.sheet_text.proofs.lines.class_line.Goals as goal
 
 pub put_word-a-requires : goal.put_word-a-requires

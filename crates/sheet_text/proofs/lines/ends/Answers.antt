@@ -1,7 +1,5 @@
 -- `lines::ends` meets its contract: each part stands after the last.
-use Rattle.sheet_spec.specs.Text.{field, newline}
-use Rattle.sheet_text.specs.Laws.Put.{put_then, space_first, space_next}
-use borrow.Author.Rules.{rules}
+use Rattle.sheet_text.specs.Laws.Put.{put_then}
 use Rattle.sheet_text.proofs.lines.ends.Goals as goal
 
 pub returns : goal.returns

@@ -3,7 +3,6 @@ use Rattle.sheet_spec.specs.Text.{field, premium_word}
 use Rattle.sheet_spec.specs.Sheet.{premium_line}
 use Rattle.sheet_text.specs.Laws.Put.{put_then, space_first, space_next}
 use Rattle.sheet_text.specs.Laws.Lines.{ends_text, premium_head, ends_space, ends_put}
-use borrow.Author.Rules.{rules}
 use Rattle.sheet_text.proofs.lines.premium_line.Goals as goal
 
 pub put_word-a-requires : goal.put_word-a-requires

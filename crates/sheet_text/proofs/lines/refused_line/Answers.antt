@@ -2,7 +2,6 @@
 use Rattle.sheet_spec.specs.Text.{field, newline}
 use Rattle.sheet_spec.specs.Sheet.{refused_line}
 use Rattle.sheet_text.specs.Laws.Put.{put_then, space_first, space_next}
-use borrow.Author.Rules.{rules}
 use Rattle.sheet_text.proofs.lines.refused_line.Goals as goal
 
 pub put_word-a-requires : goal.put_word-a-requires

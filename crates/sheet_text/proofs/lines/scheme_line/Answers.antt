@@ -1,8 +1,7 @@
 -- `lines::scheme_line` meets its contract: each part stands after the last.
 use Rattle.sheet_spec.specs.Text.{field, newline}
 use Rattle.sheet_spec.specs.Sheet.{scheme_line}
-use Rattle.sheet_text.specs.Laws.Put.{put_then, put_kept, space_first, space_next}
-use borrow.Author.Rules.{rules}
+use Rattle.sheet_text.specs.Laws.Put.{put_then, space_first, space_next}
 use Rattle.sheet_text.proofs.lines.scheme_line.Goals as goal
 
 pub put_word-a-requires : goal.put_word-a-requires

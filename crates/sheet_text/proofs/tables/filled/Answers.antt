@@ -1,7 +1,6 @@
 -- `tables::filled` meets its contract: no cause stands against the tables, so both are there.
 use mathlib.Core.Path.{◌≡◌, ◌∙◌}
 use Rattle.sheet_text.specs.Laws.Answer.{table_clear, slice_written}
-use borrow.Author.Rules.{rules}
 use Rattle.sheet_text.proofs.tables.filled.Goals as goal
 
 pub whole-requires : goal.whole-requires

@@ -1,15 +1,10 @@
 -- `text::put_word` meets its contract: k bytes stand at the head of the loop.
-use Prim.Native.Nat.{◌≤◌, ◌-◌}
-use mathlib.Core.Path.{◌≡◌, refl}
 use native.Mathlib.Omega.{arith}
-use lib.ListN.{length, take}
-use lib.Seq.{sets, length-sets}
-use Rattle.sheet_text.specs.Laws.Put.{word_more, word_all}
+use Rattle.sheet_text.specs.Laws.Put.{word_more}
 use Rattle.sheet_text.proofs.text.put_word.Goals as goal
 
 pub loop-k-preserved : goal.loop-k-preserved
-loop-k-preserved c =
-    (
+loop-k-preserved c = (
   omega arith,
   rw c.loop-k.invariant.1
       (word_more c.args.word.now c.args.out.now c.args.at

@@ -1,10 +1,8 @@
 -- `text::put_word` meets its contract: k bytes stand at the head of the loop.
 use Prim.Native.Nat.{◌≤◌, ◌-◌}
-use mathlib.Core.Path.{◌≡◌, refl}
-use native.Mathlib.Omega.{arith}
+use mathlib.Core.Path.{◌≡◌}
 use lib.ListN.{length, take}
-use lib.Seq.{sets, length-sets}
-use Rattle.sheet_text.specs.Laws.Put.{word_more, word_all}
+use lib.Seq.{sets}
 use Rattle.sheet_text.proofs.text.put_word.Given as goal
 
 abbrev pub invariant-loop-k : goal.invariant-loop-k

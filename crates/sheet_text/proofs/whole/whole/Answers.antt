@@ -6,7 +6,6 @@ use Rattle.record_spec.specs.Joined.{joined}
 use Rattle.sheet_text.specs.Tabled.{year_text}
 use Rattle.sheet_text.specs.Laws.Put.{put_then, space_first, space_next}
 use Rattle.sheet_text.specs.Laws.Tabled.{total_text, table_size_lem, sheet_space, sheet_put}
-use borrow.Author.Rules.{rules}
 use Rattle.sheet_text.proofs.whole.whole.Goals as goal
 
 pub scheme_line-a-requires : goal.scheme_line-a-requires
@@ -16,15 +15,14 @@ scheme_line-a-requires c =
     (sheet_space _ c.requires.2 c.requires.3 c.requires.0))
 
 pub all_years-b-requires : goal.all_years-b-requires
-all_years-b-requires c =
-    (
-      space_next c.scheme_line-a.ensures
-          (space_first (total_text c.args.low.now c.args.high.now (c.args.scheme.horizon + 1) c.args.scheme.classes)
-          (sheet_space _ c.requires.2 c.requires.3 c.requires.0)),
-      omega (arith, c.requires.1.classes),
-      omega (arith, table_size_lem false c.args.scheme c.requires.2),
-      omega (arith, table_size_lem true c.args.scheme c.requires.3),
-    )
+all_years-b-requires c = (
+  space_next c.scheme_line-a.ensures
+      (space_first (total_text c.args.low.now c.args.high.now (c.args.scheme.horizon + 1) c.args.scheme.classes)
+      (sheet_space _ c.requires.2 c.requires.3 c.requires.0)),
+  omega (arith, c.requires.1.classes),
+  omega (arith, table_size_lem false c.args.scheme c.requires.2),
+  omega (arith, table_size_lem true c.args.scheme c.requires.3),
+)
 
 pub bounds-low-last : goal.bounds-low-last
 bounds-low-last c = omega (arith, table_size_lem false c.args.scheme c.requires.2, table_size_lem true c.args.scheme c.requires.3)

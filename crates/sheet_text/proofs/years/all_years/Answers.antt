@@ -1,10 +1,7 @@
 -- `years::all_years` meets its contract: the lines of t years stand at the head of the loop.
-use Prim.Native.Nat.{◌≤◌, ◌-◌}
 use native.Mathlib.Omega.{arith}
-use Rattle.record_spec.specs.Joined.{joined}
-use Rattle.sheet_text.specs.Put.{Put}
 use Rattle.sheet_text.specs.Tabled.{year_text}
-use Rattle.sheet_text.specs.Laws.Put.{put_kept, joined_none, joined_more, joined_space, joined_all}
+use Rattle.sheet_text.specs.Laws.Put.{joined_none, joined_more, joined_space}
 use Rattle.sheet_text.specs.Laws.Years.{year_below}
 use Rattle.sheet_text.proofs.years.all_years.Goals as goal
 
@@ -12,13 +9,12 @@ pub loop-t-init : goal.loop-t-init
 loop-t-init c = (omega arith, joined_none _ _ _)
 
 pub year_lines-to-requires : goal.year_lines-to-requires
-year_lines-to-requires c =
-    (
-      joined_space (year_text c.args.low.now c.args.high.now c.args.s) c.loop-t.t c.args.n (omega arith) c.loop-t.invariant.1 c.requires.0,
-      omega arith,
-      omega (arith, year_below c.args.s c.args.n c.loop-t.t (omega arith)),
-      omega (arith, year_below c.args.s c.args.n c.loop-t.t (omega arith)),
-    )
+year_lines-to-requires c = (
+  joined_space (year_text c.args.low.now c.args.high.now c.args.s) c.loop-t.t c.args.n (omega arith) c.loop-t.invariant.1 c.requires.0,
+  omega arith,
+  omega (arith, year_below c.args.s c.args.n c.loop-t.t (omega arith)),
+  omega (arith, year_below c.args.s c.args.n c.loop-t.t (omega arith)),
+)
 
 pub loop-t-preserved : goal.loop-t-preserved
 loop-t-preserved c = (omega arith, joined_more (year_text c.args.low.now c.args.high.now c.args.s) c.loop-t.t c.loop-t.invariant.1 c.year_lines-to.ensures)

@@ -1,11 +1,8 @@
 -- `years::all_years` meets its contract: the lines of t years stand at the head of the loop.
 use Prim.Native.Nat.{◌≤◌, ◌-◌}
-use native.Mathlib.Omega.{arith}
 use Rattle.record_spec.specs.Joined.{joined}
 use Rattle.sheet_text.specs.Put.{Put}
 use Rattle.sheet_text.specs.Tabled.{year_text}
-use Rattle.sheet_text.specs.Laws.Put.{put_kept, joined_none, joined_more, joined_space, joined_all}
-use Rattle.sheet_text.specs.Laws.Years.{year_below}
 use Rattle.sheet_text.proofs.years.all_years.Given as goal
 
 abbrev pub invariant-loop-t : goal.invariant-loop-t

@@ -1,10 +1,8 @@
 -- `years::class_lines` meets its contract: the lines of j classes stand at the head of the loop.
 use Prim.Native.Nat.{◌≤◌, ◌-◌}
-use native.Mathlib.Omega.{arith}
 use Rattle.record_spec.specs.Joined.{joined}
 use Rattle.sheet_text.specs.Put.{Put}
 use Rattle.sheet_text.specs.Tabled.{class_text}
-use Rattle.sheet_text.specs.Laws.Put.{put_kept, joined_none, joined_more, joined_space, joined_all}
 use Rattle.sheet_text.proofs.years.class_lines.Given as goal
 
 abbrev pub invariant-loop-j : goal.invariant-loop-j

@@ -1,7 +1,6 @@
 -- `years::year_lines` meets its contract: the classes, then the premium.
 use native.Mathlib.Omega.{arith}
 use Rattle.sheet_text.specs.Laws.Years.{year_space_classes, year_space_premium, year_put}
-use borrow.Author.Rules.{rules}
 use Rattle.sheet_text.proofs.years.year_lines.Goals as goal
 
 pub class_lines-to-requires : goal.class_lines-to-requires

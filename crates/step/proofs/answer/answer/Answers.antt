@@ -10,7 +10,6 @@ use Rattle.rows.specs.Laws.Front.{front_fits, front_size, front_lent}
 use Rattle.order.specs.Order.{SortedPermutation}
 use Rattle.step_spec.specs.StepAnswer.{step_cause}
 use Rattle.step.proofs.AnswerLaws.{step_declined, cause_scheme, classes_fit, cause_later, entries_fit, answer_steps, answer_made}
-use borrow.Author.Rules.{rules}
 use Rattle.step.proofs.answer.answer.Goals as goal
 
 pub returns-then-own-ne0 : goal.returns-then-own-ne0
@@ -19,8 +18,6 @@ returns-then-own-ne0 c =
     step_declined a.scheme a.payoff.now a.class _ c.refused.ensures
     (cause_scheme a.scheme a.payoff.now a.class c.interval_row-interval.ensures c.scheme_cause-own.ensures c.if-own-ne0.true) c.if-own-ne0.true
 
--- A scheme without a cause of its own has 32 classes at most.
--- Each with a payoff.
 pub payoff_cause-requires : goal.payoff_cause-requires
 payoff_cause-requires c =
     let few : c.args.scheme.classes ≤ 32 = let a = c.args in
@@ -55,8 +52,6 @@ slice_bounds-rank-end c =
     classes_fit a.scheme a.payoff.now a.class c.interval_row-interval.ensures c.scheme_cause-own.ensures c.if-own-ne0.false in
     sym (front_lent _ few)
 
--- The call for the interval row, from the second test.
--- Without a cause the row has entries for each class.
 pub slice_bounds-lower-end : goal.slice_bounds-lower-end
 slice_bounds-lower-end c =
     let cause : c.or_else-number.result ≡ step_cause c.args.scheme c.args.payoff.now c.args.class = let a = c.args in
@@ -101,8 +96,6 @@ slice_bounds-step-end-2 c =
     entries_fit a.scheme a.payoff.now a.class c.interval_row-interval.ensures cause c.if-number-ne0.false in
     sym (length-take-le _ _ entries.1)
 
--- The classes by payoff.
--- The order has a place for each.
 pub slice_bounds-order-end-2 : goal.slice_bounds-order-end-2
 slice_bounds-order-end-2 c =
     let few : c.args.scheme.classes ≤ 32 = let a = c.args in

@@ -1,8 +1,7 @@
 -- `payoff_cause` meets its contract: no class before i has a payoff above the limit.
 -- Assumes nothing.
 use Prim.Native.Nat.{◌-◌}
-use native.Mathlib.Omega.{arith}
-use Rattle.scheme.specs.Laws.Limits.{NoneAbove, above_none, above_more, above_found, above_end}
+use Rattle.scheme.specs.Laws.Limits.{NoneAbove}
 use Rattle.step_spec.specs.StepAnswer.{MOST_PAYOFF}
 use Rattle.step.proofs.answer.payoff_cause.Given as goal
 

@@ -1,9 +1,8 @@
 -- `weigh` sums part times payoff: the invariant says so of the places passed.
 -- Assumes nothing.
-use Prim.Native.Nat.{◌+◌, ◌-◌, ◌*◌, ◌≤◌}
+use Prim.Native.Nat.{◌+◌, ◌*◌, ◌≤◌}
 use mathlib.Core.Path.{◌≡◌}
 use native.Mathlib.Omega.{arith}
-use lib.ListN.{length}
 use Rattle.setchain.specs.Sums.{at, dot}
 use Rattle.setchain.specs.Rows.{ONE}
 use Rattle.setchain.specs.Laws.Sums.{total_start}
@@ -11,7 +10,6 @@ use Rattle.step_spec.specs.StepAnswer.{MOST_PAYOFF}
 use Rattle.step.specs.Laws.Sums.{weighed_more}
 use Rattle.step.proofs.figure.weigh.Goals as goal
 
--- One more term keeps the sum, and fits.
 pub loop-j-init : goal.loop-j-init
 loop-j-init c = omega (arith, total_start (λ j. at c.args.row.now j * at c.args.payoff.now j))
 

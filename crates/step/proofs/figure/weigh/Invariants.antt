@@ -1,14 +1,9 @@
 -- `weigh` sums part times payoff: the invariant says so of the places passed.
 -- Assumes nothing.
-use Prim.Native.Nat.{◌+◌, ◌-◌, ◌*◌, ◌≤◌}
+use Prim.Native.Nat.{◌-◌, ◌≤◌}
 use mathlib.Core.Path.{◌≡◌}
-use native.Mathlib.Omega.{arith}
 use lib.ListN.{length}
 use Rattle.setchain.specs.Sums.{at, dot}
-use Rattle.setchain.specs.Rows.{ONE}
-use Rattle.setchain.specs.Laws.Sums.{total_start}
-use Rattle.step_spec.specs.StepAnswer.{MOST_PAYOFF}
-use Rattle.step.specs.Laws.Sums.{weighed_more}
 use Rattle.step.proofs.figure.weigh.Given as goal
 
 abbrev pub invariant-loop-j : goal.invariant-loop-j

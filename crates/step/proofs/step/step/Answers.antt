@@ -1,7 +1,6 @@
 -- `step` fills the row along the order, which makes it extreme, and takes its figure.
 -- Assumes nothing.
-use borrow.Author.Rules.{rules}
-use Rattle.step.specs.Laws.Extreme.{step_fills, step_weighs, stepped}
+use Rattle.step.specs.Laws.Extreme.{step_fills, stepped}
 use Rattle.step.proofs.step.step.Goals as goal
 
 pub fill-requires : goal.fill-requires
