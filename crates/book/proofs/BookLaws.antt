@@ -10,13 +10,13 @@ use lib.ListN.{replicate, set}
 use borrow.Author.Count.{below_none, below_more}
 use borrow.Author.Tests.{eq-eqb, ne_eqb, lt-ltb, le-ltb}
 use Rattle.setchain.specs.Sums.{at, sum_to}
-use Rattle.setchain.specs.Laws.Sums.{sum_to_most, total_start, total_more, total_end}
-use Rattle.setchain.specs.Laws.Tests.{any_hit, any_clear}
+use Rattle.setchain.proofs.Laws.Sums.{sum_to_most, total_start, total_more, total_end}
+use Rattle.setchain.proofs.Laws.Tests.{any_hit, any_clear}
 use Rattle.scheme.specs.FirstCause.{◌when◌, first_of}
-use Rattle.scheme.specs.Laws.Filled.{Filled, fill_none, fill_more, fill_all}
-use Rattle.scheme.specs.Laws.FirstCause.{declined}
+use Rattle.scheme.proofs.Laws.Filled.{Filled, fill_none, fill_more, fill_all}
+use Rattle.scheme.proofs.Laws.FirstCause.{declined}
 use Rattle.book_spec.specs.Book.{count_out, no_chamber, book_cause, joined_book, join_cause, join_answer}
-use Rattle.book_spec.specs.Laws.{no_chamber_lem, joined_count, join_cause_lem, join_book}
+use Rattle.book_spec.proofs.Laws.{no_chamber_lem, joined_count, join_cause_lem, join_book}
 
 -- Of n counts those before place i are within the limit, and sum to `chambers`.
 pub record Counted (book : List ℕ) (n i chambers : ℕ) : Type 0 where

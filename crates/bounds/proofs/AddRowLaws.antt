@@ -13,7 +13,7 @@ use borrow.Author.Count.{below_none, below_more}
 use Rattle.setchain.specs.Sums.{at, only_if}
 use Rattle.setchain.specs.Rows.{ONE, IntervalRow}
 use Rattle.setchain.specs.Step.{capacity}
-use Rattle.setchain.specs.Laws.Sums.{sum_to_eq, only_if_zero, sum_to_more}
+use Rattle.setchain.proofs.Laws.Sums.{sum_to_eq, only_if_zero, sum_to_more}
 use Rattle.bounds.specs.Entries.{lower_ends, capacities, counts, sum_of, list_sum, AddRowPre, AddRowPost}
 
 -- The lists before and after one entry is stored, of the lower ends or of the capacities.

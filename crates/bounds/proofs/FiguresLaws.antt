@@ -6,12 +6,12 @@ use mathlib.Core.List.{List}
 use lib.ListN.{length}
 use Rattle.scheme.specs.declared.Scheme.{Scheme}
 use Rattle.scheme.specs.Cause.{cause_of, slices_cause}
-use Rattle.scheme.specs.Laws.FirstCause.{first_none, second_none}
-use Rattle.scheme.specs.Laws.Judged.{accepted_cause}
+use Rattle.scheme.proofs.Laws.FirstCause.{first_none, second_none}
+use Rattle.scheme.proofs.Laws.Judged.{accepted_cause}
 use Rattle.bounds_spec.specs.Causes.{table_lengths_cause, table_size}
 use Rattle.bounds_spec.specs.Table.{low_table, high_table, table_cause}
 use Rattle.bounds_spec.specs.Promises.{FiguresPromise}
-use Rattle.bounds_spec.specs.Laws.Kept.{figures_kept}
+use Rattle.bounds_spec.proofs.Laws.Kept.{figures_kept}
 use Rattle.bounds.specs.Sheets.{WritePre}
 use Rattle.bounds.proofs.SlicesLaws.{slices_ready, SlicesLeft, slices_declined, slices_written}
 

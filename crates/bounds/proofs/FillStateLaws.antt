@@ -12,7 +12,7 @@ use lib.Seq.{get_or-set_same, get_or-set_other}
 use borrow.Author.Tests.{eq-eqb, ne_eqb}
 use Rattle.setchain.specs.Sums.{at, sum_to, only_if}
 use Rattle.setchain.specs.Rows.{ONE}
-use Rattle.setchain.specs.Laws.Sums.{only_if_true, only_if_false, sum_to_front, term_le}
+use Rattle.setchain.proofs.Laws.Sums.{only_if_true, only_if_false, sum_to_front, term_le}
 use Rattle.step_spec.specs.StepAnswer.{MOST_PAYOFF}
 use Rattle.bounds.specs.Entries.{lower_ends, capacities, sum_of}
 use Rattle.bounds.specs.Fill.{taken, FillStatePre, FillStatePost}

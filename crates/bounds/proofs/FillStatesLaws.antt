@@ -14,12 +14,12 @@ use Rattle.setchain.specs.Sums.{at, sum_to, dot}
 use Rattle.setchain.specs.Rows.{ONE, IntervalRow, SoundRow, lists_row}
 use Rattle.setchain.specs.Rounding.{rounded}
 use Rattle.setchain.specs.Step.{capacity, step_figure}
-use Rattle.setchain.specs.Laws.Sums.{sum_to_eq, sum_to_front, sum_to_change}
+use Rattle.setchain.proofs.Laws.Sums.{sum_to_eq, sum_to_front, sum_to_change}
 use Rattle.scheme.specs.Tables.{tab}
-use Rattle.scheme.specs.Laws.Tab.{length_tab, get_d_tab}
+use Rattle.scheme.proofs.Laws.Tab.{length_tab, get_d_tab}
 use Rattle.order.specs.Order.{along, Occurs, Permutation, SortedPermutation}
-use Rattle.order.specs.Laws.Along.{along_permutation, sum_along}
-use Rattle.setchain.specs.Laws.Agreeing.{Agree, sound_agrees, step_agrees}
+use Rattle.order.proofs.Laws.Along.{along_permutation, sum_along}
+use Rattle.setchain.proofs.Laws.Agreeing.{Agree, sound_agrees, step_agrees}
 use Rattle.step.specs.Fill.{FillPost, FillSlackPre}
 use Rattle.step.specs.Step.{StepPre}
 use Rattle.step_spec.specs.StepAnswer.{MOST_PAYOFF}

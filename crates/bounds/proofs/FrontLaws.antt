@@ -6,7 +6,7 @@ use mathlib.Core.List.{List, ◌++◌}
 use lib.ListN.{length, take, replicate}
 use lib.Seq.{take_at}
 use Rattle.scheme.specs.Tables.{tab}
-use Rattle.scheme.specs.Laws.Tab.{length_tab}
+use Rattle.scheme.proofs.Laws.Tab.{length_tab}
 use Rattle.rows.specs.Laws.Front.{front_lent}
 
 -- An array of 32 before it is written.

@@ -8,11 +8,11 @@ use lib.Dec.{eqb}
 use lib.ListN.{length, take, drop}
 use Rattle.setchain.specs.Sums.{at, sum_to, only_if}
 use Rattle.setchain.specs.Rows.{ONE, lists_row}
-use Rattle.setchain.specs.Laws.Sums.{sum_to_eq}
-use Rattle.setchain.specs.Laws.Agreeing.{Agree, agree_sym, sound_agrees}
+use Rattle.setchain.proofs.Laws.Sums.{sum_to_eq}
+use Rattle.setchain.proofs.Laws.Agreeing.{Agree, agree_sym, sound_agrees}
 use Rattle.scheme.specs.Tables.{tab}
 use Rattle.scheme.specs.SumByTarget.{sum_by_target, slack_of}
-use Rattle.scheme.specs.Laws.Tab.{length_tab, get_d_tab}
+use Rattle.scheme.proofs.Laws.Tab.{length_tab, get_d_tab}
 use Rattle.bounds.specs.Entries.{rules_row, lower_ends, capacities, list_sum, AddRowPre, AddRowPost}
 use Rattle.bounds.proofs.FrontLaws.{zeros, front_made}
 

@@ -13,8 +13,8 @@ use Rattle.scheme.specs.Access.{CELL_STRIDE, class_bands}
 use Rattle.setchain.specs.Sums.{at, sum_to, only_if}
 use Rattle.setchain.specs.Rows.{ONE, IntervalRow, SetChain}
 use Rattle.setchain.specs.Step.{capacity}
-use Rattle.setchain.specs.Laws.Sums.{sum_to_eq, only_if_true, only_if_false, total_start}
-use Rattle.setchain.specs.Laws.Agreeing.{Agree, agree_sym, sound_agrees}
+use Rattle.setchain.proofs.Laws.Sums.{sum_to_eq, only_if_true, only_if_false, total_start}
+use Rattle.setchain.proofs.Laws.Agreeing.{Agree, agree_sym, sound_agrees}
 use Rattle.bounds.specs.Entries.{rules_row, lower_ends, capacities, sum_of, list_sum, listed_row, rules_chain, ShortLists, AddRowPre, AddRowPost, ListRowsPre, ListRowsPost}
 
 -- What the lists have for each row, of the lower ends or of the capacities: for the rows below i what v says, for the others nothing.

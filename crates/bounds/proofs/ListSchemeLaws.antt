@@ -10,10 +10,10 @@ use Rattle.setchain.specs.Rows.{IntervalRow, SetChain}
 use Rattle.scheme.specs.declared.Scheme.{Scheme}
 use Rattle.scheme.specs.Accepted.{Accepted}
 use Rattle.scheme.specs.Rows.{chain_of}
-use Rattle.scheme.specs.Laws.Sound.{accepted_sound}
+use Rattle.scheme.proofs.Laws.Sound.{accepted_sound}
 use Rattle.bounds.specs.Entries.{counts, rules_chain, EmptyLists, ListRowsPre, ListRowsPost}
 use Rattle.rows.specs.Laws.SumByTarget.{lower_is, upper_is}
-use Rattle.setchain.specs.Laws.Agreeing.{Agree, agree_sym, sound_agrees}
+use Rattle.setchain.proofs.Laws.Agreeing.{Agree, agree_sym, sound_agrees}
 
 -- Arrays of zeros hold lists with no entry.
 pub lists_empty : EmptyLists (replicate 3104 0) (replicate 32 0)

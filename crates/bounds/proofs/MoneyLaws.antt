@@ -14,8 +14,8 @@ use borrow.Author.Count.{below_none}
 use Rattle.setchain.specs.Sums.{at}
 use Rattle.setchain.specs.Rounding.{rounded}
 use Rattle.setchain.specs.Years.{CENT, tenths}
-use Rattle.scheme.specs.Laws.FirstCause.{answered, declined}
-use Rattle.order.specs.Laws.Written.{Written}
+use Rattle.scheme.proofs.Laws.FirstCause.{answered, declined}
+use Rattle.order.proofs.Laws.Written.{Written}
 use Rattle.bounds_spec.specs.declared.Bounds.TheVariants.{Answered, Refused}
 use Rattle.bounds_spec.specs.Answers.{answer_by}
 use Rattle.bounds.specs.Years.{SeriesStored}

@@ -14,9 +14,9 @@ use Rattle.setchain.specs.Rows.{ONE}
 use Rattle.setchain.specs.Rounding.{rounded}
 use Rattle.setchain.specs.Years.{years_figure, nothing, share_payoff, share_figure, CENT, tenths, mean_figure, total_figure}
 use Rattle.setchain.specs.Pooled.{pooled_figure}
-use Rattle.setchain.specs.Laws.Pooled.{pooled_agree}
-use Rattle.setchain.specs.Laws.Sums.{only_if_le, only_if_true, only_if_false}
-use Rattle.setchain.specs.Laws.Agreeing.{agree_refl, years_agree}
+use Rattle.setchain.proofs.Laws.Pooled.{pooled_agree}
+use Rattle.setchain.proofs.Laws.Sums.{only_if_le, only_if_true, only_if_false}
+use Rattle.setchain.proofs.Laws.Agreeing.{agree_refl, years_agree}
 use Rattle.scheme.specs.declared.Scheme.{Scheme}
 use Rattle.scheme.specs.Access.{premium_at}
 use Rattle.scheme.specs.Accepted.{Accepted}

@@ -11,20 +11,20 @@ use lib.ListN.{length, set}
 use Rattle.setchain.specs.Sums.{at}
 use Rattle.setchain.specs.Years.{CENT}
 use Rattle.setchain.specs.Pooled.{pooled_figure}
-use Rattle.setchain.specs.Laws.Pooled.{pooled_agree}
+use Rattle.setchain.proofs.Laws.Pooled.{pooled_agree}
 use Rattle.scheme.specs.declared.Scheme.{Scheme}
 use Rattle.scheme.specs.Accepted.{Accepted}
 use Rattle.scheme.specs.FirstCause.{or_else}
-use Rattle.scheme.specs.Laws.FirstCause.{first_none, second_none}
-use Rattle.scheme.specs.Laws.Tab.{as_tab}
-use Rattle.order.specs.Laws.Written.{Written, written_more}
+use Rattle.scheme.proofs.Laws.FirstCause.{first_none, second_none}
+use Rattle.scheme.proofs.Laws.Tab.{as_tab}
+use Rattle.order.proofs.Laws.Written.{Written, written_more}
 use Rattle.book_spec.specs.Book.{book_cause}
-use Rattle.book_spec.specs.Laws.{Pooled, pooled_book}
+use Rattle.book_spec.proofs.Laws.{Pooled, pooled_book}
 use Rattle.bounds_spec.specs.declared.Bounds.{Bounds}
 use Rattle.bounds_spec.specs.Causes.{share_cause, money_cause}
 use Rattle.bounds_spec.specs.Answers.{answer_by}
 use Rattle.bounds_spec.specs.Pooled.{Figure, pooled, figure_cause, pooled_cause, pooled_answer, pooled_lengths_cause, pooled_sheet_cause, pooled_shares, PooledPromise, PooledSheetPromise}
-use Rattle.bounds_spec.specs.Laws.Pooled.{pooled_kept, pooled_sheet_kept, sheet_money, sheet_counts, sheet_slices_lem}
+use Rattle.bounds_spec.proofs.Laws.Pooled.{pooled_kept, pooled_sheet_kept, sheet_money, sheet_counts, sheet_slices_lem}
 use Rattle.bounds.specs.Series.{SharePayoffPost, SeriesPre, ClassFiguresPost}
 use Rattle.bounds.specs.Money.{TenthsPost}
 use Rattle.bounds.specs.Pooled.{PoolPre, PooledPre, pooled_years, WritePooledPre}

@@ -10,7 +10,7 @@ use Rattle.setchain.specs.Sums.{at, sum_to, dot}
 use Rattle.setchain.specs.Rounding.{rounded}
 use Rattle.setchain.specs.Years.{CENT}
 use Rattle.setchain.specs.Pooled.{pooled_figure}
-use Rattle.setchain.specs.Laws.Sums.{sum_to_most, total_start, total_more, total_end}
+use Rattle.setchain.proofs.Laws.Sums.{sum_to_most, total_start, total_more, total_end}
 use Rattle.step_spec.specs.StepAnswer.{MOST_PAYOFF}
 use Rattle.bounds.specs.Pooled.{PoolPre}
 

@@ -9,13 +9,13 @@ use lib.ListN.{length, take, length-append}
 use lib.Seq.{length-take-le, get_or-take, take_at}
 use Rattle.setchain.specs.Sums.{at}
 use Rattle.setchain.specs.Years.{years_figure}
-use Rattle.setchain.specs.Laws.Agreeing.{years_agree}
+use Rattle.setchain.proofs.Laws.Agreeing.{years_agree}
 use Rattle.scheme.specs.declared.Scheme.{Scheme}
 use Rattle.scheme.specs.Rows.{chain_of}
-use Rattle.scheme.specs.Laws.Sound.{accepted_sound}
+use Rattle.scheme.proofs.Laws.Sound.{accepted_sound}
 use Rattle.order.specs.Order.{Permutation, SortedPermutation}
 use Rattle.order.specs.States.{state_of}
-use Rattle.order.specs.Laws.Numbers.{state_of_lem}
+use Rattle.order.proofs.Laws.Numbers.{state_of_lem}
 use Rattle.step_spec.specs.StepAnswer.{MOST_PAYOFF}
 use Rattle.bounds_spec.specs.Answers.{start_of}
 use Rattle.bounds.specs.Entries.{chain_listed, SoundLists, ListRowsPost}

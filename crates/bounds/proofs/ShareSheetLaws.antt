@@ -6,11 +6,11 @@ use mathlib.Core.List.{List}
 use lib.ListN.{length}
 use Rattle.scheme.specs.declared.Scheme.{Scheme}
 use Rattle.scheme.specs.Cause.{slices_cause}
-use Rattle.scheme.specs.Laws.FirstCause.{first_none, second_none}
+use Rattle.scheme.proofs.Laws.FirstCause.{first_none, second_none}
 use Rattle.bounds_spec.specs.Causes.{sheet_lengths_cause, money_cause}
 use Rattle.bounds_spec.specs.Answers.{sheet_cause, low_shares, high_shares}
 use Rattle.bounds_spec.specs.Promises.{SheetPromise}
-use Rattle.bounds_spec.specs.Laws.Kept.{sheet_kept}
+use Rattle.bounds_spec.proofs.Laws.Kept.{sheet_kept}
 use Rattle.bounds.specs.Sheets.{WritePre}
 use Rattle.bounds.proofs.StartBoundsLaws.{money_accepted}
 use Rattle.bounds.proofs.SlicesLaws.{slices_ready, SlicesLeft, slices_declined, slices_written}

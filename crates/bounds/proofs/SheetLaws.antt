@@ -10,8 +10,8 @@ use mir.Val.{Fits}
 use lib.ListN.{set}
 use Rattle.scheme.specs.declared.Scheme.{Scheme}
 use Rattle.scheme.specs.Accepted.{Accepted}
-use Rattle.scheme.specs.Laws.Tab.{as_tab}
-use Rattle.order.specs.Laws.Written.{Written, written_more}
+use Rattle.scheme.proofs.Laws.Tab.{as_tab}
+use Rattle.order.proofs.Laws.Written.{Written, written_more}
 use Rattle.bounds_spec.specs.Answers.{figure_shares}
 use Rattle.bounds.specs.Series.{start_figure, SharePayoffPost, SeriesPre}
 use Rattle.bounds.specs.Sheets.{share_of}

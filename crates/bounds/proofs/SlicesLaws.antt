@@ -7,8 +7,8 @@ use lib.ListN.{length}
 use Rattle.scheme.specs.declared.Scheme.{Scheme}
 use Rattle.scheme.specs.Cause.{slices_cause}
 use Rattle.scheme.specs.Accepted.{Accepted}
-use Rattle.scheme.specs.Laws.FirstCause.{declined}
-use Rattle.scheme.specs.Laws.Cause.{slices_fit}
+use Rattle.scheme.proofs.Laws.FirstCause.{declined}
+use Rattle.scheme.proofs.Laws.Cause.{slices_fit}
 use Rattle.bounds_spec.specs.Answers.{sheet_slice}
 use Rattle.bounds.specs.Sheets.{WritePre}
 

@@ -15,14 +15,14 @@ use Rattle.scheme.specs.Accepted.{Accepted}
 use Rattle.scheme.specs.FirstCause.{or_else}
 use Rattle.scheme.specs.Cause.{outside, cause_of, class_cause, year_cause}
 use Rattle.scheme.specs.Rows.{chain_of}
-use Rattle.scheme.specs.Laws.FirstCause.{first_none, second_none, test_none, by_cause}
-use Rattle.scheme.specs.Laws.Cause.{outside_false}
-use Rattle.scheme.specs.Laws.Judged.{accepted_cause}
+use Rattle.scheme.proofs.Laws.FirstCause.{first_none, second_none, test_none, by_cause}
+use Rattle.scheme.proofs.Laws.Cause.{outside_false}
+use Rattle.scheme.proofs.Laws.Judged.{accepted_cause}
 use Rattle.bounds_spec.specs.declared.Bounds.{Bounds}
 use Rattle.bounds_spec.specs.declared.Bounds.TheVariants.{Answered, Refused}
 use Rattle.bounds_spec.specs.Answers.{answer_by, start_of, share_answer, mean_answer, total_answer}
 use Rattle.bounds_spec.specs.Promises.{SharePromise, MeanPromise, TotalPromise}
-use Rattle.bounds_spec.specs.Laws.Kept.{share_kept, mean_kept, total_kept}
+use Rattle.bounds_spec.proofs.Laws.Kept.{share_kept, mean_kept, total_kept}
 use Rattle.bounds.specs.Series.{SharePayoffPost, start_figure, SeriesPre}
 use Rattle.bounds.specs.Money.{TenthsPost, in_cents}
 use Rattle.bounds.proofs.FrontLaws.{zeros}

@@ -14,7 +14,7 @@ use lib.Seq.{length-take-le, take_all, drop-length, get_or-set_same, get_or-set_
 use borrow.Author.Count.{below_none, below_more}
 use Rattle.scheme.specs.Tables.{tab}
 use Rattle.scheme.specs.Accepted.{Accepted}
-use Rattle.scheme.specs.Laws.Tab.{as_tab}
+use Rattle.scheme.proofs.Laws.Tab.{as_tab}
 use Rattle.scheme.specs.declared.Scheme.{Scheme}
 use Rattle.setchain.specs.Sums.{at}
 use Rattle.setchain.specs.Rounding.{rounded}
@@ -23,7 +23,7 @@ use Rattle.scheme.specs.Access.{premium_at}
 use Rattle.scheme.specs.Rows.{chain_of}
 use Rattle.bounds_spec.specs.Answers.{start_of}
 use Rattle.bounds_spec.specs.Table.{place_of, table_entry, figure_table}
-use Rattle.bounds_spec.specs.Laws.Table.{table_at_most, place_below, number_of, entry_share, entry_mean, entry_total}
+use Rattle.bounds_spec.proofs.Laws.Table.{table_at_most, place_below, number_of, entry_share, entry_mean, entry_total}
 use Rattle.bounds.specs.Years.{FiguresFit, SeriesStored}
 use Rattle.bounds.specs.Series.{start_figure, SharePayoffPost, SeriesPre}
 use Rattle.bounds.specs.Money.{TenthsPost, RoundMeansPre, RoundMeansPost}

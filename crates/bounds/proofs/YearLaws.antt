@@ -14,15 +14,15 @@ use Rattle.setchain.specs.Rows.{ONE, IntervalRow, SoundRow}
 use Rattle.setchain.specs.Rounding.{rounded}
 use Rattle.setchain.specs.Step.{capacity, step_figure}
 use Rattle.order.specs.Order.{along, Permutation, SortedPermutation}
-use Rattle.order.specs.Laws.Written.{Rewritten}
-use Rattle.order.specs.Laws.Along.{along_permutation}
+use Rattle.order.proofs.Laws.Written.{Rewritten}
+use Rattle.order.proofs.Laws.Along.{along_permutation}
 use Rattle.setchain.specs.Sums.{at}
 use Rattle.step_spec.specs.StepAnswer.{MOST_PAYOFF}
 use Rattle.bounds.specs.Entries.{lower_ends, capacities, counts, sum_of, list_sum, listed_row, chain_listed, SoundLists}
 use Rattle.bounds.specs.Fill.{Small, left_at, sum_at, taken, FillStatePre, FillStatePost, FillStatesPre, FillStatesPost, RoundSumsPre, RoundSumsPost}
 use Rattle.bounds.specs.Years.{YearPre, YearPost}
-use Rattle.setchain.specs.Laws.Agreeing.{agree_refl, step_agrees}
-use Rattle.setchain.specs.Laws.Rounding.{rounded_at_most}
+use Rattle.setchain.proofs.Laws.Agreeing.{agree_refl, step_agrees}
+use Rattle.setchain.proofs.Laws.Rounding.{rounded_at_most}
 use Rattle.bounds.proofs.FillStateLaws.{entry_in}
 use Rattle.bounds.proofs.FillStatesLaws.{sum_fits, filled_figure}
 use Rattle.bounds.proofs.FrontLaws.{zeros}

@@ -11,8 +11,8 @@ use lib.Seq.{get_or-set_same, get_or-set_other}
 use borrow.Author.Count.{below_more}
 use Rattle.setchain.specs.Rows.{SetChain, SoundChain}
 use Rattle.setchain.specs.Years.{years_figure}
-use Rattle.setchain.specs.Laws.Agreeing.{agree_refl, step_agrees}
-use Rattle.setchain.specs.Laws.Step.{years_at_most}
+use Rattle.setchain.proofs.Laws.Agreeing.{agree_refl, step_agrees}
+use Rattle.setchain.proofs.Laws.Step.{years_at_most}
 use Rattle.order.specs.Order.{Permutation}
 use Rattle.setchain.specs.Sums.{at}
 use Rattle.step_spec.specs.StepAnswer.{MOST_PAYOFF}

@@ -6,7 +6,7 @@ use Rattle.scheme.specs.Access.{CELL_STRIDE, class_bands}
 use Rattle.setchain.specs.Sums.{at, sum_to, only_if}
 use Rattle.setchain.specs.Rows.{ONE, IntervalRow, SoundRow, SetChain, SoundChain}
 use Rattle.setchain.specs.Step.{capacity}
-use Rattle.setchain.specs.Laws.Agreeing.{Agree}
+use Rattle.setchain.proofs.Laws.Agreeing.{Agree}
 use Rattle.scheme.specs.SumByTarget.{sum_by_target}
 use Rattle.rows.specs.Rows.{class_rules}
 

@@ -5,7 +5,7 @@ use Rattle.setchain.specs.Years.{years_figure, CENT}
 use Rattle.setchain.specs.Pooled.{pooled_figure}
 use Rattle.scheme.specs.declared.Scheme.{Scheme}
 use Rattle.scheme.specs.Rows.{chain_of}
-use Rattle.book_spec.specs.Laws.{Pooled}
+use Rattle.book_spec.proofs.Laws.{Pooled}
 use Rattle.step_spec.specs.StepAnswer.{MOST_PAYOFF}
 use Rattle.bounds.specs.Series.{SeriesPre}
 use Rattle.bounds.specs.Sheets.{WritePre}

@@ -10,7 +10,7 @@ use borrow.Author.Tests.{lt-leb}
 use lib.ListN.{length, take, drop, length-append}
 use lib.Seq.{sets, length-sets, sets-eq, length-take-le, take_at, drop_at, drop-drop}
 use Rattle.big_endian_spec.specs.Numbers.{part_put}
-use Rattle.big_endian_spec.specs.Laws.{part_held}
+use Rattle.big_endian_spec.proofs.Laws.{part_held}
 use Rattle.console.specs.Input.{ReadInto}
 
 -- Nothing read.

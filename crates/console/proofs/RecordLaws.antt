@@ -9,7 +9,7 @@ use native.Mathlib.Numerals.{add-one}
 use lib.ListN.{length, get_or, take, drop, length-take, length-drop, drop_of_length-le}
 use lib.Seq.{drop-cons, take_all}
 use Rattle.big_endian_spec.specs.Numbers.{holds, number_at}
-use Rattle.big_endian_spec.specs.Laws.{read_none}
+use Rattle.big_endian_spec.proofs.Laws.{read_none}
 use Rattle.console.specs.Records.{record_at}
 use Rattle.console.specs.Checksum.{added, checksum_from}
 

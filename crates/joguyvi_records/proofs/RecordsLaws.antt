@@ -8,12 +8,12 @@ use lib.ListN.{length, drop}
 use Prim.Native.Nat.{ℕ}
 use Rattle.scheme.specs.declared.Scheme.{Scheme}
 use Rattle.scheme.specs.Cause.{cause_of}
-use Rattle.scheme.specs.Laws.FirstCause.{second_cause, declined}
+use Rattle.scheme.proofs.Laws.FirstCause.{second_cause, declined}
 use Rattle.scheme.specs.FirstCause.{◌when◌}
 use Rattle.record_spec.specs.Layout.{other_version}
 use Rattle.record_spec.specs.Write.{write_number, record_of, record_length, write_cause, write_answer, write_leaves}
 use Rattle.record_write.specs.Laws.Write.{past_version, answer_number}
-use Rattle.joguyvi_spec.specs.Laws.Causes.{cause_only}
+use Rattle.joguyvi_spec.proofs.Laws.Causes.{cause_only}
 
 module _ (s : Scheme) (version : ℕ) (out : List ℕ) where
   pub write_only : other_version version ≡ false → cause_of s ≡ 0 → (write_number (write_answer s version out) ≡ 0 → ⊥) → write_number (write_answer s version out) ≡ 13

@@ -8,13 +8,13 @@ use native.Mathlib.Omega.{arith}
 use lib.Dec.{eqb}
 use lib.ListN.{length, take, drop, set}
 use lib.Seq.{sets, take-length, drop-length}
-use Rattle.scheme.specs.Laws.FirstCause.{second_cause, second_none, declined, answered, cause_first}
+use Rattle.scheme.proofs.Laws.FirstCause.{second_cause, second_none, declined, answered, cause_first}
 use Rattle.big_endian_spec.specs.Numbers.{part_put}
-use Rattle.big_endian_spec.specs.Laws.{part_held}
+use Rattle.big_endian_spec.proofs.Laws.{part_held}
 use Rattle.record.specs.Laws.Lists.{sets_front}
 use Rattle.joguyvi_spec.specs.Buffers.{buffer_cause}
 use Rattle.mixing_spec.specs.declared.MixingAnswer.{MixingAnswer}
-use Rattle.joguyvi_spec.specs.Laws.Buffers.{buffer_out, buffer_fits, buffer_size, thirteen, unfilled, one}
+use Rattle.joguyvi_spec.proofs.Laws.Buffers.{buffer_out, buffer_fits, buffer_size, thirteen, unfilled, one}
 use Rattle.joguyvi_spec.specs.Rows.{part_number, PartPost}
 use Rattle.joguyvi_spec.specs.Mixing.{put_count_number, PutCountPost}
 

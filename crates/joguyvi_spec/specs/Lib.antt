@@ -2,8 +2,8 @@
 -- then worked cases: of each definition, of each call, and of the buffers that a call is lent.
 -- Each exported function has one record, `…Call`, over its arguments, the number answered, and the buffers before and after.
 -- Laws shows that the promises hold of what the buffers are left with.
+-- Theorems, lemmas and worked examples stand in proofs/: a wrong definition is refused there, by what it makes false.
 pub mod Buffers
-pub mod BufferExamples
 pub mod Figures
 pub mod Shares
 pub mod Books
@@ -13,8 +13,3 @@ pub mod Records
 pub mod Steps
 pub mod Mixing
 pub mod Poisson
-pub mod Examples
-pub mod Laws
-pub mod CallExamples
-pub mod BookExamples
-pub mod LentExamples

@@ -6,18 +6,18 @@ use mathlib.Core.Bool.{Bool}
 use mathlib.Core.List.{List}
 use lib.ListN.{length}
 use Rattle.scheme.specs.FirstCause.{or_else}
-use Rattle.scheme.specs.Laws.FirstCause.{first_none, second_none}
+use Rattle.scheme.proofs.Laws.FirstCause.{first_none, second_none}
 use Rattle.record_spec.specs.declared.ReadAnswer.{ReadAnswer}
 use Rattle.record_spec.specs.Layout.{scheme_in}
 use Rattle.record_spec.specs.Read.{read_answer}
-use Rattle.record_spec.specs.Laws.Read.{read_in}
+use Rattle.record_spec.proofs.Laws.Read.{read_in}
 use Rattle.step_spec.specs.declared.StepAnswer.{StepAnswer}
 use Rattle.step_spec.specs.StepAnswer.{StepAnswered}
 use Rattle.joguyvi_spec.specs.Buffers.{buffer_cause, first32}
 use Rattle.joguyvi_spec.specs.Steps.{step_buffers, StepBuffersPost, StepCall}
-use Rattle.joguyvi_spec.specs.Laws.Buffers.{buffer_size, unfilled}
-use Rattle.joguyvi_spec.specs.Laws.Causes.{stopped_number, passed_number}
-use Rattle.joguyvi_spec.specs.Laws.Steps.{step_call}
+use Rattle.joguyvi_spec.proofs.Laws.Buffers.{buffer_size, unfilled}
+use Rattle.joguyvi_spec.proofs.Laws.Causes.{stopped_number, passed_number}
+use Rattle.joguyvi_spec.proofs.Laws.Steps.{step_call}
 
 -- The buffers of a step with no cause have their sizes.
 pub step_sizes : (payoff figure row : List ℕ) → step_buffers payoff figure row ≡ 0 → (length figure ≡ 1) × (length row ≡ 32)

@@ -10,27 +10,27 @@ use Rattle.setchain.specs.Sums.{at}
 use Rattle.scheme.specs.declared.Scheme.{Scheme}
 use Rattle.scheme.specs.FirstCause.{or_else}
 use Rattle.scheme.specs.Cause.{slices_cause}
-use Rattle.scheme.specs.Laws.FirstCause.{second_none, first_more}
-use Rattle.scheme.specs.Laws.Judged.{accepted_cause}
-use Rattle.scheme.specs.Laws.Tab.{as_tab}
-use Rattle.scheme.specs.Laws.Filled.{Filled, fill_all}
+use Rattle.scheme.proofs.Laws.FirstCause.{second_none, first_more}
+use Rattle.scheme.proofs.Laws.Judged.{accepted_cause}
+use Rattle.scheme.proofs.Laws.Tab.{as_tab}
+use Rattle.scheme.proofs.Laws.Filled.{Filled, fill_all}
 use Rattle.record_spec.specs.declared.ReadAnswer.{ReadAnswer}
 use Rattle.record_spec.specs.Layout.{scheme_in}
 use Rattle.record_spec.specs.Read.{read_answer}
-use Rattle.record_spec.specs.Laws.Read.{read_in}
+use Rattle.record_spec.proofs.Laws.Read.{read_in}
 use Rattle.book_spec.specs.declared.JoinAnswer.{JoinAnswer}
 use Rattle.book_spec.specs.Book.{join_answer}
 use Rattle.bounds_spec.specs.declared.Bounds.{Bounds}
 use Rattle.bounds_spec.specs.declared.Bounds.TheVariants.{Answered, Refused}
 use Rattle.bounds_spec.specs.Answers.{answer_by, sheet_slice}
 use Rattle.bounds_spec.specs.Pooled.{Figure, pooled_answer, pooled_sheet_cause, pooled_shares, PooledKept, PooledPromise, PooledSheetPromise}
-use Rattle.bounds_spec.specs.Laws.Pooled.{pooled_kept}
+use Rattle.bounds_spec.proofs.Laws.Pooled.{pooled_kept}
 use Rattle.joguyvi_spec.specs.Buffers.{first32, buffer_cause, BufferPost}
 use Rattle.joguyvi_spec.specs.Books.{lent_answer, put_book_number, JoinCall, PooledSheetCall}
-use Rattle.joguyvi_spec.specs.Laws.Buffers.{buffer_out, buffer_fits, buffer_size, thirteen, unfilled}
-use Rattle.joguyvi_spec.specs.Laws.Causes.{stopped_number, passed_number, passed_scheme}
-use Rattle.joguyvi_spec.specs.Laws.Figures.{BoundsPromise}
-use Rattle.joguyvi_spec.specs.Laws.Books.{lent_kept, lent_sheet}
+use Rattle.joguyvi_spec.proofs.Laws.Buffers.{buffer_out, buffer_fits, buffer_size, thirteen, unfilled}
+use Rattle.joguyvi_spec.proofs.Laws.Causes.{stopped_number, passed_number, passed_scheme}
+use Rattle.joguyvi_spec.proofs.Laws.Figures.{BoundsPromise}
+use Rattle.joguyvi_spec.proofs.Laws.Books.{lent_kept, lent_sheet}
 
 -- A buffer before any count is copied, and after all are.
 pub copied_none : (counts : List ℕ) {out : List ℕ} → length out ≡ 32 → Filled 32 (at counts) 0 out

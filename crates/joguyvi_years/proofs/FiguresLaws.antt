@@ -9,8 +9,8 @@ use Rattle.bounds_spec.specs.declared.Bounds.{Bounds}
 use Rattle.bounds_spec.specs.Answers.{number_of, low_of, high_of}
 use Rattle.joguyvi_spec.specs.Buffers.{buffer_cause}
 use Rattle.joguyvi_spec.specs.Figures.{put_number, low_and_high, BoundsPost}
-use Rattle.joguyvi_spec.specs.Laws.Buffers.{buffer_out, buffer_fits, thirteen, unfilled}
-use Rattle.scheme.specs.Laws.FirstCause.{cause_first, cause_second}
+use Rattle.joguyvi_spec.proofs.Laws.Buffers.{buffer_out, buffer_fits, thirteen, unfilled}
+use Rattle.scheme.proofs.Laws.FirstCause.{cause_first, cause_second}
 
 -- Two numbers written into a buffer of 2.
 two : (out : List ℕ) (a b : ℕ) → length out ≡ 2 → set (set out 0 a) 1 b ≡ a ∷ b ∷ []

@@ -12,7 +12,7 @@ use Rattle.record_spec.specs.declared.WriteAnswer.TheVariants.{Written, Declined
 use Rattle.record_spec.specs.Layout.{scheme_in}
 use Rattle.record_spec.specs.Read.{read_answer}
 use Rattle.record_spec.specs.Write.{write_number, written_length}
-use Rattle.record_spec.specs.Laws.Read.{read_in}
+use Rattle.record_spec.proofs.Laws.Read.{read_in}
 use Rattle.bounds_spec.specs.declared.Bounds.{Bounds}
 use Rattle.bounds_spec.specs.Answers.{sheet_cause, sheet_slice, low_shares, high_shares}
 use Rattle.bounds_spec.specs.Promises.{SheetPromise}
@@ -21,10 +21,10 @@ use Rattle.sheet_spec.specs.Answer.{space_for, sheet_answer, sheet_leaves}
 use Rattle.joguyvi_spec.specs.Figures.{BoundsPost, BoundsCall}
 use Rattle.joguyvi_spec.specs.Shares.{ShareSheetCall}
 use Rattle.joguyvi_spec.specs.Texts.{SheetCall}
-use Rattle.joguyvi_spec.specs.Laws.Buffers.{unfilled}
-use Rattle.joguyvi_spec.specs.Laws.Causes.{stopped_number, passed_number}
-use Rattle.joguyvi_spec.specs.Laws.Figures.{BoundsPromise, bounds_call}
-use Rattle.joguyvi_spec.specs.Laws.Texts.{TextPost}
+use Rattle.joguyvi_spec.proofs.Laws.Buffers.{unfilled}
+use Rattle.joguyvi_spec.proofs.Laws.Causes.{stopped_number, passed_number}
+use Rattle.joguyvi_spec.proofs.Laws.Figures.{BoundsPromise, bounds_call}
+use Rattle.joguyvi_spec.proofs.Laws.Texts.{TextPost}
 
 -- Low and high of a record, as a query answers them for its scheme, with what is promised of them.
 module _ {query : Scheme → Bounds} {kept : Scheme → (low high : ℕ) → Type 0} (bytes out : List ℕ) {a : ReadAnswer} (is : a ≡ read_answer bytes) where

@@ -4,3 +4,6 @@ pub mod InsertLaws
 pub mod InOrderLaws
 pub mod RankLaws
 pub mod StateLaws
+pub mod StateExamples
+pub mod Examples
+pub mod Laws

@@ -9,7 +9,7 @@ use lib.Dec.{ltb}
 use lib.ListN.{replicate}
 use borrow.Author.Tests.{lt-ltb, le-ltb}
 use Rattle.scheme.specs.Access.{BAND_PLACES}
-use Rattle.scheme.specs.Laws.FirstCause.{answered, declined}
+use Rattle.scheme.proofs.Laws.FirstCause.{answered, declined}
 use Rattle.poisson_spec.specs.declared.BandsAnswer.{BandsAnswer}
 use Rattle.poisson_spec.specs.Bands.{lower_ends, upper_ends}
 use Rattle.poisson_spec.specs.Answer.{frequency_cause, bands_cause, bands_answer, BandsPromise}

@@ -10,10 +10,10 @@ use lib.ListN.{replicate, set}
 use borrow.Author.Tests.{ne_eqb}
 use Rattle.setchain.specs.Sums.{sum_to}
 use Rattle.setchain.specs.Rows.{ONE}
-use Rattle.setchain.specs.Laws.Sums.{sum_to_most}
+use Rattle.setchain.proofs.Laws.Sums.{sum_to_most}
 use Rattle.scheme.specs.Tables.{tab}
 use Rattle.scheme.specs.Stored.{up_to}
-use Rattle.scheme.specs.Laws.Stored.{stored_none, stored_more}
+use Rattle.scheme.proofs.Laws.Stored.{stored_none, stored_more}
 use Rattle.poisson_spec.specs.Exponentials.{entry_at}
 use Rattle.poisson_spec.specs.Values.{value_from, value}
 use Rattle.poisson_spec.specs.Bands.{end_of, ends_of}

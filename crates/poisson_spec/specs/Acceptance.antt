@@ -3,7 +3,7 @@ use Rattle.std.specs.Prelude.{ℕ, zero, suc, ◌≤◌, ◌<◌, ◌≡◌, Boo
 use Rattle.std.proofs.Common.{ap, sym, ◌∙◌, subst, subst₂, arith}
 use Rattle.setchain.specs.Sums.{at, sum_to}
 use Rattle.setchain.specs.Rows.{ONE}
-use Rattle.setchain.specs.Laws.Sums.{sum_to_eq}
+use Rattle.setchain.proofs.Laws.Sums.{sum_to_eq}
 use Rattle.scheme.specs.declared.Scheme.{Scheme}
 use Rattle.scheme.specs.Access.{cell_count, lower_at, upper_at}
 use Rattle.scheme.specs.Accepted.{BandsFit, SumsFit}

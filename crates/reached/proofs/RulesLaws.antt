@@ -12,8 +12,8 @@ use borrow.Author.Tests.{lt-ltb, le-ltb}
 use Rattle.setchain.specs.Sums.{at}
 use Rattle.scheme.specs.Access.{CELL_STRIDE, CELL_PLACES}
 use Rattle.scheme.specs.Cause.{outside}
-use Rattle.scheme.specs.Laws.Cause.{outside_false, inside_outside}
-use Rattle.order.specs.Laws.Written.{Rewritten, rewritten_more}
+use Rattle.scheme.proofs.Laws.Cause.{outside_false, inside_outside}
+use Rattle.order.proofs.Laws.Written.{Rewritten, rewritten_more}
 use Rattle.reached.specs.Staying.{staying_rule, StayingRules}
 
 -- The place of a class's first cell.

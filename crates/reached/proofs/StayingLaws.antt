@@ -12,26 +12,26 @@ use Rattle.setchain.specs.Sums.{sum_to, only_if}
 use Rattle.setchain.specs.Rows.{ONE}
 use Rattle.setchain.specs.Years.{share_figure}
 use Rattle.setchain.specs.Reached.{reached_figure}
-use Rattle.setchain.specs.ReachedTheorems.{StaysAt, staying_share}
-use Rattle.setchain.specs.Laws.Sums.{sum_to_eq, sum_to_zero, only_if_false}
-use Rattle.setchain.specs.Laws.Tests.{any_eq}
-use Rattle.setchain.specs.Laws.Agreeing.{Agree}
+use Rattle.setchain.proofs.ReachedTheorems.{StaysAt, staying_share}
+use Rattle.setchain.proofs.Laws.Sums.{sum_to_eq, sum_to_zero, only_if_false}
+use Rattle.setchain.proofs.Laws.Tests.{any_eq}
+use Rattle.setchain.proofs.Laws.Agreeing.{Agree}
 use Rattle.scheme.specs.declared.Scheme.{Scheme}
 use Rattle.scheme.specs.Access.{cell_count, rule_at, lower_at, upper_at}
 use Rattle.scheme.specs.Accepted.{SizeFits, Accepted}
 use Rattle.scheme.specs.FirstCause.{or_else}
 use Rattle.scheme.specs.Cause.{outside, size_out, start_out, horizon_out, rule_out, band_out, sum_out, premium_out, cause_of, class_cause, year_cause}
 use Rattle.scheme.specs.Rows.{chain_of}
-use Rattle.scheme.specs.Laws.FirstCause.{first_none, second_none, by_cause}
-use Rattle.scheme.specs.Laws.Cause.{inside_outside, class_fits}
-use Rattle.scheme.specs.Laws.Judged.{size_tells, accepted_cause}
-use Rattle.scheme.specs.Laws.Sound.{accepted_sound}
-use Rattle.scheme.specs.Laws.Values.{size_first}
+use Rattle.scheme.proofs.Laws.FirstCause.{first_none, second_none, by_cause}
+use Rattle.scheme.proofs.Laws.Cause.{inside_outside, class_fits}
+use Rattle.scheme.proofs.Laws.Judged.{size_tells, accepted_cause}
+use Rattle.scheme.proofs.Laws.Sound.{accepted_sound}
+use Rattle.scheme.proofs.Laws.Values.{size_first}
 use Rattle.bounds_spec.specs.declared.Bounds.TheVariants.{Answered, Refused}
 use Rattle.bounds_spec.specs.Causes.{share_cause}
 use Rattle.bounds_spec.specs.Answers.{start_of, share_answer}
 use Rattle.bounds_spec.specs.Reached.{reached_answer}
-use Rattle.bounds_spec.specs.Laws.Causes.{of_share}
+use Rattle.bounds_spec.proofs.Laws.Causes.{of_share}
 use Rattle.reached.specs.Staying.{staying_rule, StayingRules, with_rules}
 
 -- A rule is outside where it was.

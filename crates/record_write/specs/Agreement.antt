@@ -10,10 +10,10 @@ use Rattle.scheme.specs.Tables.{tab}
 use Rattle.scheme.specs.Access.{rule_at, lower_at, upper_at, premium_at}
 use Rattle.scheme.specs.Cause.{cause_of}
 use Rattle.scheme.specs.Accepted.{Accepted}
-use Rattle.scheme.specs.Laws.Judged.{accepted_cause}
-use Rattle.scheme.specs.Laws.Tab.{tab_eq}
-use Rattle.scheme.specs.Laws.Stored.{made_eq, made_cleared}
-use Rattle.scheme.specs.Laws.Values.{cause_same, cleared_values}
+use Rattle.scheme.proofs.Laws.Judged.{accepted_cause}
+use Rattle.scheme.proofs.Laws.Tab.{tab_eq}
+use Rattle.scheme.proofs.Laws.Stored.{made_eq, made_cleared}
+use Rattle.scheme.proofs.Laws.Values.{cause_same, cleared_values}
 use Rattle.big_endian_spec.specs.Numbers.{Bytes, be_at, be_bytes}
 use Rattle.scheme.specs.Stored.{scheme_of, cleared}
 use Rattle.record_spec.specs.declared.WriteAnswer.{WriteAnswer}
@@ -24,10 +24,10 @@ use Rattle.record_spec.specs.Read.{read_cause, read_answer}
 use Rattle.record_spec.specs.Write.{record_of, record_length, write_cause, write_answer, write_leaves, Reread, WritePromise}
 use Rattle.record_spec.specs.Frame.{Framed}
 use Rattle.record_write.specs.Laws.Lists.{tab_part}
-use Rattle.big_endian_spec.specs.Laws.{put_read}
-use Rattle.record_spec.specs.Laws.Frame.{framed}
-use Rattle.record_spec.specs.Laws.Read.{read_framed, scheme_none, scheme_next, answer_scheme, read_scheme}
-use Rattle.record_spec.specs.Laws.Layout.{of_both, further_most, width_most, version_told, version_known}
+use Rattle.big_endian_spec.proofs.Laws.{put_read}
+use Rattle.record_spec.proofs.Laws.Frame.{framed}
+use Rattle.record_spec.proofs.Laws.Read.{read_framed, scheme_none, scheme_next, answer_scheme, read_scheme}
+use Rattle.record_spec.proofs.Laws.Layout.{of_both, further_most, width_most, version_told, version_known}
 use Rattle.record_write.specs.Laws.Bytes.{length_header, further_at, length_bytes}
 use Rattle.record_write.specs.Laws.Write.{written, write_clear, answer_number, answer_value}
 use Rattle.record_write.specs.Laws.Body.{body_put, rule_read, lower_read, upper_read, premium_read}

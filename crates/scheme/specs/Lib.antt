@@ -2,6 +2,7 @@
 -- what the row operations answer, what the cells of one class come to, what a made scheme holds, when two schemes have the same values or one is trimmed,
 -- worked cases.
 -- Ignored proves that values beyond s and m are ignored, Inward that narrower bands move the row that is answered inward.
+-- Theorems, lemmas and worked examples stand in proofs/: a wrong definition is refused there, by what it makes false.
 pub mod Tables
 pub mod Access
 pub mod Accepted
@@ -13,13 +14,5 @@ pub mod RowAnswer
 pub mod SumByTarget
 pub mod Stored
 pub mod Values
-pub mod FirstCauseExamples
-pub mod Examples
-pub mod RowExamples
-pub mod SumByTargetExamples
-pub mod BeyondExamples
-pub mod Laws
-pub mod TrimmedExamples
-pub mod Ignored
 pub mod Inward
-pub mod InwardExamples
+pub mod Laws

@@ -3,6 +3,7 @@
 -- what a tight row is (Tight) and that it changes no figure and no promise (Tightened), which counts of years mix (Mixing), what that means (Mixed) and how far one has to look (Limit),
 -- then worked figures, and one that is worked for any number of states (Cycle).
 -- Laws has the lemmas by which the theorems are proved.
+-- Theorems, lemmas and worked examples stand in proofs/: a wrong definition is refused there, by what it makes false.
 pub mod Sums
 pub mod Tests
 pub mod Fractions
@@ -20,21 +21,3 @@ pub mod Sequences
 pub mod Pooled
 pub mod Tight
 pub mod Mixing
-pub mod Laws
-pub mod Theorems
-pub mod Kept
-pub mod Inward
-pub mod PooledTheorems
-pub mod ReachedTheorems
-pub mod Tightened
-pub mod Mixed
-pub mod Limit
-pub mod Examples
-pub mod ChanceExamples
-pub mod Cycle
-pub mod DistanceExamples
-pub mod PromiseExamples
-pub mod TurnExamples
-pub mod InwardExamples
-pub mod TightExamples
-pub mod MixedExamples

@@ -10,8 +10,8 @@ use Rattle.record_spec.specs.declared.WriteAnswer.{WriteAnswer}
 use Rattle.record_spec.specs.Write.{write_number, written_length}
 use Rattle.sheet_spec.specs.Sheet.{sheet_text}
 use Rattle.sheet_spec.specs.Answer.{space_for, sheet_answer, TextPromise}
-use Rattle.sheet_spec.specs.Laws.Space.{enough_space}
-use Rattle.sheet_spec.specs.Laws.Cut.{cut_text}
+use Rattle.sheet_spec.proofs.Laws.Space.{enough_space}
+use Rattle.sheet_spec.proofs.Laws.Cut.{cut_text}
 use Rattle.sheet_text.specs.Laws.Answer.{answer_written}
 use Rattle.sheet.specs.Program.{ComposePre, ComposePost}
 

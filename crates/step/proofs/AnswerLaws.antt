@@ -13,9 +13,9 @@ use borrow.Author.Tests.{ltb-false, ne_eqb}
 use Rattle.setchain.specs.Sums.{at}
 use Rattle.setchain.specs.Rows.{SoundRow, lists_row}
 use Rattle.setchain.specs.Step.{step_figure, Reaches}
-use Rattle.setchain.specs.Laws.Agreeing.{Agree, agree_sym, sound_agrees, reaches_agree}
-use Rattle.setchain.specs.Laws.Step.{reached_figure_lem}
-use Rattle.setchain.specs.Laws.Tests.{any_false}
+use Rattle.setchain.proofs.Laws.Agreeing.{Agree, agree_sym, sound_agrees, reaches_agree}
+use Rattle.setchain.proofs.Laws.Step.{reached_figure_lem}
+use Rattle.setchain.proofs.Laws.Tests.{any_false}
 use Rattle.scheme.specs.declared.Scheme.{Scheme}
 use Rattle.scheme.specs.declared.RowAnswer.{RowAnswer}
 use Rattle.scheme.specs.Accepted.{Accepted}
@@ -23,11 +23,11 @@ use Rattle.scheme.specs.FirstCause.{◌when◌, or_else}
 use Rattle.scheme.specs.Cause.{outside, cause_of, class_cause}
 use Rattle.scheme.specs.Stages.{limit_cause}
 use Rattle.scheme.specs.RowAnswer.{row_cause, row_refused, interval_at, interval_answer}
-use Rattle.scheme.specs.Laws.FirstCause.{first_cause, second_cause, declined, answered, first_none, second_none, test_none, cause_first}
-use Rattle.scheme.specs.Laws.Cause.{class_fits}
-use Rattle.scheme.specs.Laws.Judged.{accepted_cause, cause_most}
-use Rattle.scheme.specs.Laws.Sound.{accepted_sound}
-use Rattle.scheme.specs.Laws.RowAnswer.{interval_number, answered_size, answered_agrees}
+use Rattle.scheme.proofs.Laws.FirstCause.{first_cause, second_cause, declined, answered, first_none, second_none, test_none, cause_first}
+use Rattle.scheme.proofs.Laws.Cause.{class_fits}
+use Rattle.scheme.proofs.Laws.Judged.{accepted_cause, cause_most}
+use Rattle.scheme.proofs.Laws.Sound.{accepted_sound}
+use Rattle.scheme.proofs.Laws.RowAnswer.{interval_number, answered_size, answered_agrees}
 use Rattle.rows.specs.Laws.Front.{front_lent, whole_size, whole_front, whole_beyond}
 use Rattle.order.specs.Order.{SortedPermutation}
 use Rattle.step_spec.specs.declared.StepAnswer.{StepAnswer}

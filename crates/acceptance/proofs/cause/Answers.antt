@@ -2,7 +2,7 @@
 use mathlib.Core.Path.{ap₂, ◌∙◌}
 use Rattle.scheme.specs.FirstCause.{or_else}
 use Rattle.scheme.specs.Cause.{rule_out, premium_out}
-use Rattle.scheme.specs.Laws.Cause.{cause_form, cause_later}
+use Rattle.scheme.proofs.Laws.Cause.{cause_form, cause_later}
 use Rattle.acceptance.proofs.cause.Goals as goal
 
 pub returns-then-form-ne0 : goal.returns-then-form-ne0

@@ -1,7 +1,7 @@
 -- `copy` meets its contract: nothing, or k bytes are copied at the head of the loop.
 use mathlib.Core.Path.{◌≡◌, sym, ◌∙◌}
 use native.Mathlib.Omega.{arith}
-use Rattle.big_endian_spec.specs.Laws.{copy_more, part_held, part_none, part_no_room}
+use Rattle.big_endian_spec.proofs.Laws.{copy_more, part_held, part_none, part_no_room}
 use Rattle.big_endian.proofs.copy.Goals as goal
 
 pub returns-then-not-holds : goal.returns-then-not-holds

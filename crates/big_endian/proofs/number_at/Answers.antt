@@ -4,7 +4,7 @@ use mathlib.Core.Path.{◌≡◌, refl, sym, ◌∙◌}
 use native.Mathlib.Omega.{arith}
 use borrow.Author.Tests.{leb-true}
 use Rattle.big_endian_spec.specs.Numbers.{be_at}
-use Rattle.big_endian_spec.specs.Laws.{read_held, read_wide, read_none, read_more, read_room, fits_more}
+use Rattle.big_endian_spec.proofs.Laws.{read_held, read_wide, read_none, read_more, read_room, fits_more}
 use Rattle.big_endian.proofs.number_at.Goals as goal
 
 pub returns-then-width-gt-MOST_BYTES : goal.returns-then-width-gt-MOST_BYTES

@@ -3,7 +3,7 @@ use mathlib.Core.Path.{◌≡◌, sym, ◌∙◌}
 use native.Mathlib.Omega.{arith}
 use lib.ListN.{length-set}
 use Rattle.big_endian_spec.specs.Numbers.{be_bytes}
-use Rattle.big_endian_spec.specs.Laws.{put_held, put_none, put_last}
+use Rattle.big_endian_spec.proofs.Laws.{put_held, put_none, put_last}
 use Rattle.big_endian.proofs.put_number.Goals as goal
 
 pub returns-then-not-holds : goal.returns-then-not-holds

@@ -2,8 +2,8 @@
 -- Assumes nothing.
 use mathlib.Core.Path.{sym, ◌∙◌}
 use native.Mathlib.Omega.{arith}
-use Rattle.scheme.specs.Laws.Filled.{fill_all}
-use Rattle.joguyvi_spec.specs.Laws.Buffers.{front_copied}
+use Rattle.scheme.proofs.Laws.Filled.{fill_all}
+use Rattle.joguyvi_spec.proofs.Laws.Buffers.{front_copied}
 use Rattle.joguyvi_buffers.proofs.copy_front.Goals as goal
 
 pub returns : goal.returns

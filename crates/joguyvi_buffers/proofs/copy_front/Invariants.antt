@@ -3,7 +3,7 @@
 use Prim.Native.Nat.{◌-◌}
 use lib.ListN.{length}
 use Rattle.setchain.specs.Sums.{at}
-use Rattle.scheme.specs.Laws.Filled.{Filled}
+use Rattle.scheme.proofs.Laws.Filled.{Filled}
 use Rattle.joguyvi_buffers.proofs.copy_front.Given as goal
 
 abbrev pub invariant-loop-k : goal.invariant-loop-k

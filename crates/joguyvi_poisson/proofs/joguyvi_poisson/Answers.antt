@@ -3,13 +3,13 @@
 use Rattle.std.proofs.Common.{true, false, ◌≡◌, ℕ, List, length, ap, ap₂, sym, subst, ◌∙◌, rules}
 use Rattle.scheme.specs.FirstCause.{or_else}
 use Rattle.scheme.specs.Cause.{slices_cause}
-use Rattle.scheme.specs.Laws.FirstCause.{first_none, second_none}
+use Rattle.scheme.proofs.Laws.FirstCause.{first_none, second_none}
 use Rattle.poisson_spec.specs.declared.BandsAnswer.{BandsAnswer}
 use Rattle.poisson_spec.specs.Answer.{bands_answer, BandsPromise}
 use Rattle.setchain.specs.Sums.{at}
 use Rattle.poisson_spec.specs.Series.{Bounds}
 use Rattle.joguyvi_spec.specs.Buffers.{copied_front}
-use Rattle.joguyvi_spec.specs.Laws.Buffers.{buffer_sizes, unfilled, all_copied}
+use Rattle.joguyvi_spec.proofs.Laws.Buffers.{buffer_sizes, unfilled, all_copied}
 use Rattle.joguyvi_spec.specs.Poisson.{poisson_number, PoissonCall}
 use Rattle.joguyvi_poisson.proofs.joguyvi_poisson.Goals as goal
 

@@ -3,9 +3,9 @@
 use mathlib.Core.Path.{◌≡◌, ap, sym, ◌∙◌}
 use mathlib.Core.Bool.{false}
 use Rattle.scheme.specs.Cause.{cause_of}
-use Rattle.scheme.specs.Laws.Judged.{cause_accepted}
+use Rattle.scheme.proofs.Laws.Judged.{cause_accepted}
 use Rattle.record_spec.specs.Layout.{other_version}
-use Rattle.ready_spec.specs.Theorems.{answered_accepted}
+use Rattle.ready_spec.proofs.Theorems.{answered_accepted}
 use Rattle.joguyvi_records.proofs.joguyvi_ready.Goals as goal
 
 pub put_record-requires : goal.put_record-requires

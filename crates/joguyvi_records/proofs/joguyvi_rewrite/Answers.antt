@@ -4,7 +4,7 @@ use mathlib.Core.Path.{◌≡◌, sym, ◌∙◌}
 use mathlib.Core.Bool.{false}
 use native.Mathlib.Omega.{arith}
 use Rattle.record_spec.specs.Layout.{other_version}
-use Rattle.joguyvi_spec.specs.Laws.Causes.{passed_scheme}
+use Rattle.joguyvi_spec.proofs.Laws.Causes.{passed_scheme}
 use Rattle.joguyvi_records.proofs.LibLaws.{rewrite_stopped, rewrite_passed}
 use Rattle.joguyvi_records.proofs.joguyvi_rewrite.Goals as goal
 

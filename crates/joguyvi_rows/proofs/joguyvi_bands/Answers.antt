@@ -1,7 +1,7 @@
 -- `joguyvi_bands` meets its contract: the cause of reading, or the bands put into their buffers.
 -- Assumes nothing.
-use Rattle.scheme.specs.Laws.Judged.{accepted_cause}
-use Rattle.joguyvi_spec.specs.Laws.Causes.{passed_scheme}
+use Rattle.scheme.proofs.Laws.Judged.{accepted_cause}
+use Rattle.joguyvi_spec.proofs.Laws.Causes.{passed_scheme}
 use Rattle.joguyvi_rows.proofs.LibLaws.{bands_stopped, bands_passed}
 use Rattle.joguyvi_rows.proofs.joguyvi_bands.Goals as goal
 

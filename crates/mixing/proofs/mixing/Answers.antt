@@ -2,7 +2,7 @@
 use mathlib.Core.Path.{◌≡◌, sym, ◌∙◌}
 use Rattle.scheme.specs.Cause.{cause_of}
 use Rattle.mixing_spec.specs.MixingAnswer.{first_count}
-use Rattle.mixing_spec.specs.Laws.{answer_not_mixing, answer_count}
+use Rattle.mixing_spec.proofs.Laws.{answer_not_mixing, answer_count}
 use Rattle.mixing.specs.Laws.Edges.{classes_few}
 use Rattle.mixing.specs.Laws.Powers.{bits_held, scheme_first}
 use Rattle.mixing.proofs.mixing.Goals as goal

@@ -6,7 +6,7 @@ use Rattle.std.proofs.Math.Pow.{pow-lt}
 use Rattle.std.specs.Int.Bits.{bit_or, or_step}
 use Rattle.setchain.specs.Sums.{at, only_if}
 use Rattle.setchain.specs.Tests.{any_below, all_below}
-use Rattle.setchain.specs.Laws.Tests.{all_hit, all_true, both_ways}
+use Rattle.setchain.proofs.Laws.Tests.{all_hit, all_true, both_ways}
 use Rattle.mixing.specs.Bits.{digit, bits_of, all_bits, has_bit, union_of}
 
 pub digit_small : (b : Bool) → digit b < 2

@@ -8,10 +8,10 @@ use Rattle.scheme.specs.declared.RowAnswer.{RowAnswer}
 use Rattle.scheme.specs.Cause.{cause_of, class_cause}
 use Rattle.scheme.specs.Rows.{chain_of}
 use Rattle.scheme.specs.RowAnswer.{row_cause, row_refused, row_answer, row_at}
-use Rattle.scheme.specs.Laws.Cause.{inside_outside}
-use Rattle.scheme.specs.Laws.FirstCause.{answered, second_cause, cond_false}
-use Rattle.scheme.specs.Laws.Judged.{accepted_cause}
-use Rattle.scheme.specs.Laws.RowAnswer.{answered_size, answered_agrees}
+use Rattle.scheme.proofs.Laws.Cause.{inside_outside}
+use Rattle.scheme.proofs.Laws.FirstCause.{answered, second_cause, cond_false}
+use Rattle.scheme.proofs.Laws.Judged.{accepted_cause}
+use Rattle.scheme.proofs.Laws.RowAnswer.{answered_size, answered_agrees}
 use Rattle.mixing_spec.specs.MixingAnswer.{scheme_edges}
 use Rattle.mixing.specs.Bits.{bits_of}
 use Rattle.mixing.specs.Laws.Bits.{bits_eq}

@@ -4,11 +4,11 @@ use Rattle.std.proofs.Common.{ap, ap₂, sym, ◌∙◌, subst, arith, pow-suc, 
 use Rattle.setchain.specs.Sums.{at}
 use Rattle.setchain.specs.Tests.{all_below, first_from}
 use Rattle.setchain.specs.Mixing.{path, mixes}
-use Rattle.setchain.specs.Mixed.{first_mixing, none_mixing}
-use Rattle.setchain.specs.Laws.Tests.{all_eq, first_eq}
-use Rattle.setchain.specs.Laws.Mixing.{path_sum, path_one, mixes_agrees}
+use Rattle.setchain.proofs.Mixed.{first_mixing, none_mixing}
+use Rattle.setchain.proofs.Laws.Tests.{all_eq, first_eq}
+use Rattle.setchain.proofs.Laws.Mixing.{path_sum, path_one, mixes_agrees}
 use Rattle.scheme.specs.declared.Scheme.{Scheme}
-use Rattle.scheme.specs.Laws.Filled.{Filled}
+use Rattle.scheme.proofs.Laws.Filled.{Filled}
 use Rattle.mixing_spec.specs.MixingAnswer.{scheme_edges, mixes_scheme, first_count}
 use Rattle.mixing.specs.Bits.{bits_of, all_bits, has_bit, union_of, Holds, bit_edges}
 use Rattle.mixing.specs.Powers.{Squares, SquaresPre, Squaring, SquaresPost, LastPre, Halving, LastPost}

@@ -4,10 +4,10 @@ use Rattle.std.specs.Prelude.{ℕ, suc, ◌≤◌, ◌<◌, ◌≡◌, Bool, con
 use Rattle.std.proofs.Common.{ap, arith, eq-eqb, ne_eqb, ltb-false}
 use Rattle.std.proofs.Math.Bool.{true, false}
 use Rattle.setchain.specs.Sums.{at}
-use Rattle.setchain.specs.Laws.Tests.{or_false_left, or_false_right}
+use Rattle.setchain.proofs.Laws.Tests.{or_false_left, or_false_right}
 use Rattle.scheme.specs.Access.{BAND_PLACES}
-use Rattle.scheme.specs.Laws.FirstCause.{first_none, second_none, test_none, answered}
-use Rattle.scheme.specs.Laws.Stored.{stored_at}
+use Rattle.scheme.proofs.Laws.FirstCause.{first_none, second_none, test_none, answered}
+use Rattle.scheme.proofs.Laws.Stored.{stored_at}
 use Rattle.poisson_spec.specs.Values.{value}
 use Rattle.poisson_spec.specs.Bands.{frequency_of, last_end, end_of, ends_of, lower_ends, upper_ends}
 use Rattle.poisson_spec.specs.Answer.{columns_cause, frequency_cause, bands_cause, bands_answer}

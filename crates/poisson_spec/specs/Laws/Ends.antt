@@ -4,7 +4,7 @@ use Rattle.std.specs.Prelude.{ℕ, zero, suc, ◌+◌, ◌-◌, ◌≤◌, ◌<�
 use Rattle.std.proofs.Common.{ap, sym, ◌∙◌, subst, subst₂, ⊎_elim, arith, le_refl, le_trans, eq-or-lt_of_le, le_of_suc-le-suc, ne_eqb}
 use Rattle.setchain.specs.Sums.{sum_to}
 use Rattle.setchain.specs.Rows.{ONE}
-use Rattle.setchain.specs.Laws.Sums.{sum_to_le}
+use Rattle.setchain.proofs.Laws.Sums.{sum_to_le}
 use Rattle.poisson_spec.specs.Values.{value}
 use Rattle.poisson_spec.specs.Bands.{end_of}
 use Rattle.poisson_spec.specs.Laws.Values.{value_most, low_high, claimed_by, free_by, used_by, outward}

@@ -4,7 +4,7 @@ use Rattle.std.specs.Prelude.{ℕ, suc, ◌+◌, ◌*◌, ◌%◌, ◌^◌, ◌�
 use Rattle.std.proofs.Common.{ap, sym, arith, le_refl, mul-pos, mul-le-mul_right, lt_of_mul-lt-mul_right}
 use Rattle.setchain.specs.Rows.{ONE}
 use Rattle.setchain.specs.Fractions.{Fraction, whole, ◌⊕◌, ◌⊗◌, ◌≼◌, ◌≺◌, ◌≈◌, Proper}
-use Rattle.setchain.specs.Laws.Fractions.{add_same, mul_same, BoundOf, bound_same, bound_trans, proper_sum}
+use Rattle.setchain.proofs.Laws.Fractions.{add_same, mul_same, BoundOf, bound_same, bound_trans, proper_sum}
 use Rattle.poisson_spec.specs.Series.{term, terms_of, added, taken, added_parts, taken_parts, Bounds, Exceeds}
 use Rattle.poisson_spec.specs.Laws.Series.{over, over_positive, numerator, terms_over}
 use Rattle.poisson_spec.specs.Laws.Values.{PartsBound}

@@ -10,7 +10,7 @@ use Rattle.std.proofs.Math.Nat.{pow-zero}
 use Rattle.setchain.specs.Sums.{only_if}
 use Rattle.setchain.specs.Fractions.{Fraction, whole, ◌⊕◌, ◌≈◌, sum_fractions}
 use Rattle.setchain.specs.Rows.{ONE}
-use Rattle.setchain.specs.Laws.Sums.{only_if_true, only_if_false, only_if_zero}
+use Rattle.setchain.proofs.Laws.Sums.{only_if_true, only_if_false, only_if_zero}
 use Rattle.poisson_spec.specs.Series.{factorial, term, terms_of}
 
 -- What all terms up to power n are brought over.

@@ -4,7 +4,7 @@ use Rattle.std.specs.Prelude.{ℕ, zero, suc, ◌+◌, ◌*◌, ◌≤◌, ◌<�
 use Rattle.std.proofs.Common.{sym, ◌∙◌, subst, ⊎_elim, leb→le, arith, add-zero, zero-add, add-suc, suc-add, le_refl, eq-or-lt_of_le, le_of_suc-le-suc, not-suc-le-zero}
 use Rattle.setchain.specs.Sums.{at, only_if}
 use Rattle.setchain.specs.Rows.{ONE}
-use Rattle.setchain.specs.Laws.Tests.{both_pass}
+use Rattle.setchain.proofs.Laws.Tests.{both_pass}
 use Rattle.poisson_spec.specs.Series.{factorial}
 use Rattle.poisson_spec.specs.Exponentials.{exponentials, entry_at}
 use Rattle.poisson_spec.specs.Laws.Series.{over, numerator, CutDown, every_cut}

@@ -6,7 +6,7 @@ use Rattle.std.proofs.Common.{sym, subst, subst₂, leb→le, arith, add-zero, z
 use Rattle.setchain.specs.Sums.{at, sum_to}
 use Rattle.setchain.specs.Tests.{any_below, all_below}
 use Rattle.setchain.specs.Rows.{ONE}
-use Rattle.setchain.specs.Laws.Tests.{both_pass, all_true}
+use Rattle.setchain.proofs.Laws.Tests.{both_pass, all_true}
 use Rattle.poisson_spec.specs.Exponentials.{exponentials, entry_at}
 use Rattle.poisson_spec.specs.Values.{start_from, value_from, value}
 use Rattle.poisson_spec.specs.Laws.Table.{size}

@@ -9,7 +9,7 @@ use Rattle.std.proofs.Math.Nat.{pow-zero}
 use Rattle.setchain.specs.Rows.{ONE}
 use Rattle.setchain.specs.Rounding.{rounded}
 use Rattle.setchain.specs.Step.{NotAfter}
-use Rattle.setchain.specs.Laws.Rounding.{rounded_outward, rounded_at_most, rounded_inward}
+use Rattle.setchain.proofs.Laws.Rounding.{rounded_outward, rounded_at_most, rounded_inward}
 use Rattle.poisson_spec.specs.Exponentials.{entry_at}
 use Rattle.poisson_spec.specs.Values.{start_from, value_from, value}
 use Rattle.poisson_spec.specs.Bands.{frequency_of}

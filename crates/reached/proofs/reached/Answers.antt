@@ -1,7 +1,7 @@
 -- `reached` meets its contract: the answer is the share in the scheme in which nobody leaves the class, and the promise is its theorem.
 use mathlib.Core.Path.{sym, ◌∙◌, subst}
 use Rattle.bounds_spec.specs.Reached.{ReachedPromise}
-use Rattle.bounds_spec.specs.Laws.Reached.{reached_kept}
+use Rattle.bounds_spec.proofs.Laws.Reached.{reached_kept}
 use Rattle.reached.proofs.StayingLaws.{reached_by_share}
 use Rattle.reached.proofs.reached.Goals as goal
 

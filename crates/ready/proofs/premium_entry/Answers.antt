@@ -2,8 +2,8 @@
 -- Assumes nothing.
 use mathlib.Core.Path.{sym, ◌∙◌}
 use native.Mathlib.Omega.{arith}
-use Rattle.scheme.specs.Laws.Stored.{up_to_below, up_to_past}
-use Rattle.ready_spec.specs.Laws.{product_most}
+use Rattle.scheme.proofs.Laws.Stored.{up_to_below, up_to_past}
+use Rattle.ready_spec.proofs.Laws.{product_most}
 use Rattle.ready.proofs.premium_entry.Goals as goal
 
 pub returns-then-s-i : goal.returns-then-s-i

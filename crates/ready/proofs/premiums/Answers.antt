@@ -1,6 +1,6 @@
 -- `ready::premiums` meets its contract: the list is filled from the front by the rule.
 -- Assumes nothing.
-use Rattle.scheme.specs.Laws.Filled.{fill_all}
+use Rattle.scheme.proofs.Laws.Filled.{fill_all}
 use Rattle.ready.proofs.premiums.Goals as goal
 
 pub returns : goal.returns

@@ -3,7 +3,7 @@
 use Prim.Native.Nat.{◌-◌, ◌≤◌}
 use Rattle.scheme.specs.Stored.{up_to}
 use Rattle.ready_spec.specs.Scales.{classes_of, premium_of}
-use Rattle.scheme.specs.Laws.Filled.{Filled}
+use Rattle.scheme.proofs.Laws.Filled.{Filled}
 use Rattle.ready.proofs.premiums.Given as goal
 
 abbrev pub invariant-loop-i : goal.invariant-loop-i

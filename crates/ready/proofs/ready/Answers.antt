@@ -1,7 +1,7 @@
 -- `ready::ready` meets its contract: without a cause the ready scheme is offered and made, and with one it is not.
 -- Assumes nothing.
 use mathlib.Core.Path.{sym, ◌∙◌}
-use Rattle.ready_spec.specs.Laws.{answer_made, answer_declined}
+use Rattle.ready_spec.proofs.Laws.{answer_made, answer_declined}
 use Rattle.ready.proofs.ready.Goals as goal
 
 pub returns-then-refused-eq0 : goal.returns-then-refused-eq0

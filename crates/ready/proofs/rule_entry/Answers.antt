@@ -2,7 +2,7 @@
 -- Assumes nothing.
 use mathlib.Core.Path.{sym, ◌∙◌}
 use native.Mathlib.Omega.{arith}
-use Rattle.scheme.specs.Laws.Stored.{up_to_below, up_to_past}
+use Rattle.scheme.proofs.Laws.Stored.{up_to_below, up_to_past}
 use Rattle.ready.proofs.rule_entry.Goals as goal
 
 pub returns-then-s-i : goal.returns-then-s-i

@@ -1,7 +1,7 @@
 -- `ready::rules` meets its contract: the list is filled from the front by the rule.
 -- Assumes nothing.
 use Rattle.scheme.specs.Access.{CELL_PLACES}
-use Rattle.scheme.specs.Laws.Filled.{fill_all}
+use Rattle.scheme.proofs.Laws.Filled.{fill_all}
 use Rattle.ready.proofs.rules.Goals as goal
 
 pub returns : goal.returns

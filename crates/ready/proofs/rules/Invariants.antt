@@ -5,7 +5,7 @@ use Rattle.scheme.specs.Access.{CELL_PLACES}
 use Rattle.scheme.specs.Stored.{rules_up_to}
 use Rattle.ready_spec.specs.Scales.{classes_of}
 use Rattle.ready_spec.specs.Ready.{ready_rule}
-use Rattle.scheme.specs.Laws.Filled.{Filled}
+use Rattle.scheme.proofs.Laws.Filled.{Filled}
 use Rattle.ready.proofs.rules.Given as goal
 
 abbrev pub invariant-loop-place : goal.invariant-loop-place

@@ -1,7 +1,7 @@
 -- `ready::tenths` meets its contract: each table is its scale of specs/, entry by entry.
 -- Assumes nothing.
 use Rattle.ready_spec.specs.Scales.{scale1, scale2, scale3}
-use Rattle.ready_spec.specs.Laws.{chosen_first, chosen_second, chosen_third}
+use Rattle.ready_spec.proofs.Laws.{chosen_first, chosen_second, chosen_third}
 use Rattle.ready.proofs.tenths.Goals as goal
 
 pub returns-then-number-eq1 : goal.returns-then-number-eq1

@@ -1,7 +1,7 @@
 -- `header_length` meets its contract.
 use mathlib.Core.Path.{ap, sym}
 use Rattle.record_spec.specs.Layout.{header_length}
-use Rattle.record_spec.specs.Laws.Layout.{first_layout, second_layout}
+use Rattle.record_spec.proofs.Laws.Layout.{first_layout, second_layout}
 use Rattle.record.proofs.header_length.Goals as goal
 
 pub returns-then-version-eq2 : goal.returns-then-version-eq2

@@ -2,7 +2,7 @@
 use Prim.Native.Nat.{◌*◌, ◌≤◌}
 use native.Mathlib.Omega.{arith}
 use native.Mathlib.Nat.{mul-le-mul}
-use Rattle.record_spec.specs.Laws.Layout.{further_most, width_most}
+use Rattle.record_spec.proofs.Laws.Layout.{further_most, width_most}
 use Rattle.record.proofs.length_of.Goals as goal
 
 pub overflow_add-result : goal.overflow_add-result

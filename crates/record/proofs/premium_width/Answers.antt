@@ -1,6 +1,6 @@
 -- `premium_width` meets its contract.
 use mathlib.Core.Path.{ap, sym}
-use Rattle.record_spec.specs.Laws.Layout.{first_layout, second_layout}
+use Rattle.record_spec.proofs.Laws.Layout.{first_layout, second_layout}
 use Rattle.record.proofs.premium_width.Goals as goal
 
 pub returns-then-version-eq2 : goal.returns-then-version-eq2

@@ -2,8 +2,8 @@
 use mathlib.Core.Path.{◌≡◌, ap, sym, ◌∙◌}
 use Rattle.scheme.specs.Cause.{cause_of}
 use Rattle.record_spec.specs.Read.{read_cause}
-use Rattle.record_spec.specs.Laws.Frame.{frame_clear}
-use Rattle.record_spec.specs.Laws.Read.{frame_first, scheme_next, answer_declined, answer_scheme}
+use Rattle.record_spec.proofs.Laws.Frame.{frame_clear}
+use Rattle.record_spec.proofs.Laws.Read.{frame_first, scheme_next, answer_declined, answer_scheme}
 use Rattle.record.proofs.read.Goals as goal
 
 pub returns-then-frame-ne0 : goal.returns-then-frame-ne0

@@ -7,10 +7,10 @@ use Rattle.std.proofs.Math.Seq.{length-sets}
 use Rattle.scheme.specs.Access.{CELL_PLACES, CELL_STRIDE}
 use Rattle.scheme.specs.Tables.{tab}
 use Rattle.scheme.specs.Stored.{up_to, rules_up_to}
-use Rattle.scheme.specs.Laws.Tab.{length_tab, get_d_tab, as_tab}
-use Rattle.scheme.specs.Laws.Stored.{split, up_to_below, up_to_past}
+use Rattle.scheme.proofs.Laws.Tab.{length_tab, get_d_tab, as_tab}
+use Rattle.scheme.proofs.Laws.Stored.{split, up_to_below, up_to_past}
 use Rattle.record.specs.Laws.Lists.{sets_below, sets_within, sets_past}
-pub use Rattle.scheme.specs.Laws.Stored.{stored_none, stored_more}
+pub use Rattle.scheme.proofs.Laws.Stored.{stored_none, stored_more}
 
 -- An array of 0 has no row of rules.
 pub rows_none : (m : ℕ) (rule : ℕ → ℕ → ℕ) → replicate CELL_PLACES 0 ≡ tab CELL_PLACES (rules_up_to 0 m rule)

@@ -6,7 +6,7 @@ use native.Mathlib.Omega.{arith}
 use lib.ListN.{length}
 use Rattle.big_endian_spec.specs.Numbers.{be_at}
 use Rattle.record_spec.specs.Reader.{stored}
-use Rattle.big_endian_spec.specs.Laws.{read_held}
+use Rattle.big_endian_spec.proofs.Laws.{read_held}
 use Rattle.record_parts.specs.Laws.Reader.{band_answered, band_within, answer_none, answer_ends}
 use Rattle.record_spec.specs.Layout.{layout_in, classes_in, columns_in, band_place, BAND_WIDTH}
 use Rattle.record_parts.proofs.band_at.Goals as goal

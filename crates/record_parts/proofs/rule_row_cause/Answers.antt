@@ -2,7 +2,7 @@
 use mathlib.Core.Path.{◌≡◌, sym, ◌∙◌}
 use native.Mathlib.Omega.{arith}
 use Rattle.record_spec.specs.Read.{read_cause}
-use Rattle.record_spec.specs.Laws.Read.{read_framed}
+use Rattle.record_spec.proofs.Laws.Read.{read_framed}
 use Rattle.record_parts.proofs.rule_row_cause.Goals as goal
 
 pub bounds-bytes-3 : goal.bounds-bytes-3

@@ -2,7 +2,7 @@
 use mathlib.Core.Path.{sym, ◌∙◌}
 use native.Mathlib.Omega.{arith}
 use Rattle.record_spec.specs.Frame.{Framed}
-use Rattle.record_spec.specs.Laws.Read.{read_framed}
+use Rattle.record_spec.proofs.Laws.Read.{read_framed}
 use Rattle.record_parts.proofs.stored.Goals as goal
 
 pub bounds-bytes-4 : goal.bounds-bytes-4

@@ -10,7 +10,7 @@ use Rattle.std.proofs.Math.Nat.{add-zero, zero-add}
 use borrow.Author.Tests.{eq-eqb, ne_eqb, lt-ltb, le-ltb, eqb-true, ltb-true}
 use Rattle.scheme.specs.Tables.{tab}
 use Rattle.scheme.specs.Access.{lower_at, upper_at}
-use Rattle.scheme.specs.Laws.Tab.{tab_eq}
+use Rattle.scheme.proofs.Laws.Tab.{tab_eq}
 use Rattle.record_spec.specs.declared.Band.{Band}
 use Rattle.record_spec.specs.declared.Band.TheVariants.{Ends, NoMore}
 use Rattle.big_endian_spec.specs.Numbers.{be_at}
@@ -18,9 +18,9 @@ use Rattle.record_spec.specs.Layout.{layout_in, band_place, scheme_in, classes_i
 use Rattle.record_spec.specs.Frame.{Framed}
 use Rattle.record_spec.specs.Read.{frame_cause, read_cause}
 use Rattle.record_spec.specs.Reader.{handed_out, ends_of, stored, band_in, band_at, BandAnswered, after_at, open_part, answers, cursor_after, stored_bands}
-use Rattle.record_spec.specs.Laws.Frame.{framed_short}
-use Rattle.record_spec.specs.Laws.Read.{read_framed}
-use Rattle.scheme.specs.Laws.Stored.{lower_made, upper_made}
+use Rattle.record_spec.proofs.Laws.Frame.{framed_short}
+use Rattle.record_spec.proofs.Laws.Read.{read_framed}
+use Rattle.scheme.proofs.Laws.Stored.{lower_made, upper_made}
 
 -- Both tests pass.
 pub both_left : (a b : Bool) → (a && b) ≡ true → a ≡ true

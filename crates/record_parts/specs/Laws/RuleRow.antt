@@ -4,12 +4,12 @@ use Rattle.std.proofs.Common.{sym, ◌∙◌, mul-le-mul_right}
 use native.Mathlib.Omega.{arith}
 use borrow.Author.Tests.{eq-eqb, ne_eqb}
 use Rattle.scheme.specs.Cause.{outside}
-use Rattle.scheme.specs.Laws.FirstCause.{first_cause, second_cause, first_none, second_none}
-use Rattle.scheme.specs.Laws.Cause.{class_fits}
+use Rattle.scheme.proofs.Laws.FirstCause.{first_cause, second_cause, first_none, second_none}
+use Rattle.scheme.proofs.Laws.Cause.{class_fits}
 use Rattle.record_spec.specs.Layout.{layout_in, row_place, classes_in, columns_in}
 use Rattle.record_spec.specs.Frame.{Framed}
 use Rattle.record_spec.specs.Read.{read_cause}
-use Rattle.record_spec.specs.Laws.Read.{read_framed}
+use Rattle.record_spec.proofs.Laws.Read.{read_framed}
 use Rattle.record_spec.specs.RuleRow.{rule_row_cause, rule_row}
 
 module _ (bytes : List ℕ) (class : ℕ) where

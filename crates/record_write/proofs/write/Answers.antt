@@ -3,7 +3,7 @@ use mathlib.Core.Path.{◌≡◌, sym, ◌∙◌}
 use mathlib.Core.Bool.{false}
 use native.Mathlib.Omega.{arith}
 use Rattle.scheme.specs.Cause.{cause_of}
-use Rattle.scheme.specs.Laws.Judged.{accepted_cause}
+use Rattle.scheme.proofs.Laws.Judged.{accepted_cause}
 use Rattle.record_spec.specs.Layout.{other_version}
 use Rattle.record_write.specs.Agreement.{keeps}
 use Rattle.record_write.specs.Laws.Write.{declined, by_version, by_scheme, by_slice, written}

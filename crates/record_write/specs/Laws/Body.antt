@@ -8,17 +8,17 @@ use Rattle.std.proofs.Math.Seq.{drop-drop, take_all}
 use Rattle.scheme.specs.declared.Scheme.{Scheme}
 use Rattle.scheme.specs.Tables.{tab}
 use Rattle.scheme.specs.Access.{rule_at, premium_at, lower_at, upper_at}
-use Rattle.scheme.specs.Laws.Tab.{length_tab, get_d_tab, tab_eq}
+use Rattle.scheme.proofs.Laws.Tab.{length_tab, get_d_tab, tab_eq}
 use Rattle.big_endian_spec.specs.Numbers.{be_at, be_bytes}
 use Rattle.record_spec.specs.Joined.{joined}
 use Rattle.scheme.specs.Stored.{scheme_of}
 use Rattle.record_spec.specs.Layout.{Layout, header_length, length_of, row_place, band_place, premium_place, scheme_from, END_WIDTH, BAND_WIDTH}
 use Rattle.record_spec.specs.Bytes.{band_bytes, rules_of, bands_of, premiums_of}
 use Rattle.record_write.specs.Laws.Lists.{tab_part, joined_parts, get_d_joined}
-use Rattle.record_spec.specs.Laws.Joined.{joined_eq}
-use Rattle.big_endian_spec.specs.Laws.{put_read, read_put, be_at_eq, length_be_bytes}
+use Rattle.record_spec.proofs.Laws.Joined.{joined_eq}
+use Rattle.big_endian_spec.proofs.Laws.{put_read, read_put, be_at_eq, length_be_bytes}
 use Rattle.record_write.specs.Laws.Numbers.{length_band}
-use Rattle.scheme.specs.Laws.Stored.{rule_made, lower_made, upper_made, premium_made}
+use Rattle.scheme.proofs.Laws.Stored.{rule_made, lower_made, upper_made, premium_made}
 use Rattle.record_write.specs.Laws.Bytes.{length_rules, length_bands}
 
 -- An index below s among s lists of w entries.

@@ -15,10 +15,10 @@ use Rattle.record_spec.specs.Write.{record_of, record_length}
 use Rattle.scheme.specs.Tables.{tab}
 use Rattle.record_spec.specs.Layout.{Layout, HEADER, layout_of, header_length, length_of, BAND_WIDTH}
 use Rattle.record_spec.specs.Bytes.{band_bytes, header_bytes, header_of, rules_of, bands_of, premiums_of, bytes_of}
-use Rattle.scheme.specs.Laws.Tab.{length_tab, get_d_tab}
+use Rattle.scheme.proofs.Laws.Tab.{length_tab, get_d_tab}
 use Rattle.record_write.specs.Laws.Lists.{length_joined, sets_4}
 use Rattle.record.specs.Laws.Lists.{sets_front}
-use Rattle.big_endian_spec.specs.Laws.{length_be_bytes}
+use Rattle.big_endian_spec.proofs.Laws.{length_be_bytes}
 use Rattle.record_write.specs.Laws.Numbers.{length_band}
 
 module _ (y : Layout) (s : Scheme) where

@@ -4,8 +4,8 @@ use Rattle.std.proofs.Common.{ap, sym, ◌∙◌, ⊎_elim, arith, add-one, mul-
 use Rattle.std.proofs.Math.ListN.{get_or-append}
 use Rattle.std.proofs.lemmas.List.Edits.{sets}
 use Rattle.scheme.specs.Tables.{tab}
-use Rattle.scheme.specs.Laws.Tab.{as_tab}
-use Rattle.big_endian_spec.specs.Laws.{sets_append}
+use Rattle.scheme.proofs.Laws.Tab.{as_tab}
+use Rattle.big_endian_spec.proofs.Laws.{sets_append}
 use Rattle.record_spec.specs.Joined.{joined}
 use Rattle.record.specs.Laws.Lists.{part_length, part_at}
 

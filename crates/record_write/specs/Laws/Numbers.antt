@@ -7,7 +7,7 @@ use Rattle.big_endian_spec.specs.Numbers.{be_bytes, number_put}
 use Rattle.scheme.specs.Tables.{tab}
 use Rattle.record_spec.specs.Layout.{layout_of, END_WIDTH, BAND_WIDTH}
 use Rattle.record_spec.specs.Bytes.{band_bytes, header_bytes}
-use Rattle.big_endian_spec.specs.Laws.{sets_append, length_be_bytes, put_held}
+use Rattle.big_endian_spec.proofs.Laws.{sets_append, length_be_bytes, put_held}
 
 pub length_band : (lower upper : ℕ) → length (band_bytes lower upper) ≡ BAND_WIDTH
 length_band lower upper = omega (arith, length-append (be_bytes END_WIDTH lower) (be_bytes END_WIDTH upper), length_be_bytes END_WIDTH lower, length_be_bytes END_WIDTH upper)

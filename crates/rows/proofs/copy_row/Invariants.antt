@@ -2,7 +2,7 @@
 -- Assumes nothing.
 use Prim.Native.Nat.{◌-◌}
 use lib.ListN.{length, get_or}
-use Rattle.scheme.specs.Laws.Filled.{Filled}
+use Rattle.scheme.proofs.Laws.Filled.{Filled}
 use Rattle.rows.proofs.copy_row.Given as goal
 
 abbrev pub invariant-loop-j : goal.invariant-loop-j

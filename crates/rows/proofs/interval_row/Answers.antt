@@ -2,8 +2,8 @@
 use mathlib.Core.Path.{◌≡◌, sym, ◌∙◌}
 use lib.ListN.{length}
 use Rattle.scheme.specs.Access.{CELL_PLACES}
-use Rattle.scheme.specs.Laws.Cause.{outside_false}
-use Rattle.scheme.specs.Laws.Judged.{accepted_cause}
+use Rattle.scheme.proofs.Laws.Cause.{outside_false}
+use Rattle.scheme.proofs.Laws.Judged.{accepted_cause}
 use Rattle.rows.specs.Laws.Entries.{row_answered_lem}
 use Rattle.rows.proofs.interval_row.Goals as goal
 

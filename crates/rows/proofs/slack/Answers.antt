@@ -2,7 +2,7 @@
 -- Assumes nothing.
 use native.Mathlib.Omega.{arith}
 use lib.ListN.{get_or}
-use Rattle.setchain.specs.Laws.Sums.{total_start, sum_to_more}
+use Rattle.setchain.proofs.Laws.Sums.{total_start, sum_to_more}
 use Rattle.rows.proofs.slack.Goals as goal
 
 pub loop-i-init : goal.loop-i-init

@@ -8,10 +8,10 @@ use Rattle.std.proofs.Math.Decide.{ℕ_discrete, dec_lt}
 use native.Mathlib.Omega.{arith}
 use Rattle.setchain.specs.Sums.{sum_to, only_if}
 use Rattle.setchain.specs.Rows.{ONE}
-use Rattle.setchain.specs.Laws.Sums.{only_if_true, only_if_false, total_more}
+use Rattle.setchain.proofs.Laws.Sums.{only_if_true, only_if_false, total_more}
 use Rattle.scheme.specs.Tables.{tab}
 use Rattle.scheme.specs.SumByTarget.{sum_by_target, Capped, added_to_target}
-use Rattle.scheme.specs.Laws.Tab.{length_tab, get_d_tab, as_tab, tab_eq}
+use Rattle.scheme.proofs.Laws.Tab.{length_tab, get_d_tab, as_tab, tab_eq}
 
 -- A rule that leads to none of the entries leaves them.
 pub added_none : (l : List ℕ) (rule end : ℕ) → Capped l → ((j : ℕ) → j < length l → rule ≡ suc j → ⊥) → l ≡ added_to_target l rule end

@@ -2,8 +2,8 @@
 -- Assumes nothing.
 use Rattle.std.specs.Prelude.{ℕ, ◌≤◌, ◌≡◌, refl, cond, List, length, get_or}
 use Rattle.std.proofs.Common.{ap, sym, ◌∙◌, below_none, eq-eqb, ne_eqb}
-use Rattle.scheme.specs.Laws.Tab.{as_tab}
-use Rattle.scheme.specs.Laws.Filled.{Filled, fill_all}
+use Rattle.scheme.proofs.Laws.Tab.{as_tab}
+use Rattle.scheme.proofs.Laws.Filled.{Filled, fill_all}
 use Rattle.rows.specs.Rows.{copied_into}
 
 -- Nothing of it is copied yet.

@@ -10,15 +10,15 @@ use Rattle.scheme.specs.Tables.{tab}
 use Rattle.scheme.specs.Accepted.{Accepted}
 use Rattle.scheme.specs.FirstCause.{or_else}
 use Rattle.scheme.specs.Cause.{outside, cause_of, class_cause}
-use Rattle.scheme.specs.Laws.FirstCause.{first_cause, second_cause, declined, answered, cond_true, cond_false}
-use Rattle.scheme.specs.Laws.Cause.{outside_false}
-use Rattle.scheme.specs.Laws.Judged.{accepted_cause}
+use Rattle.scheme.proofs.Laws.FirstCause.{first_cause, second_cause, declined, answered, cond_true, cond_false}
+use Rattle.scheme.proofs.Laws.Cause.{outside_false}
+use Rattle.scheme.proofs.Laws.Judged.{accepted_cause}
 use Rattle.scheme.specs.SumByTarget.{sum_by_target}
 use Rattle.rows.specs.Laws.SumByTarget.{lower_is, upper_is}
 use Rattle.scheme.specs.RowAnswer.{row_cause, row_refused, row_answered, interval_at, interval_answer}
 use Rattle.rows.specs.Rows.{entries_of, class_rules, row_from}
 use Rattle.rows.specs.Laws.Front.{front_lent, joined_rule, zeros}
-use Rattle.scheme.specs.Laws.Tab.{tab_eq}
+use Rattle.scheme.proofs.Laws.Tab.{tab_eq}
 
 -- Summed entries followed by what stood beyond them.
 pub entries_joined : (rules ends : List ℕ) (classes : ℕ) (g : List ℕ) → classes ≤ 32

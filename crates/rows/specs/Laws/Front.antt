@@ -6,9 +6,9 @@ use Rattle.std.proofs.lemmas.List.{length-replicate, get_or-replicate}
 use Rattle.std.proofs.Math.ListN.{get_or-append, get_or-eq_default}
 use Rattle.std.proofs.Math.Decide.{dec_lt}
 use Rattle.setchain.specs.Sums.{only_if}
-use Rattle.setchain.specs.Laws.Sums.{only_if_true, only_if_false}
+use Rattle.setchain.proofs.Laws.Sums.{only_if_true, only_if_false}
 use Rattle.scheme.specs.Tables.{tab}
-use Rattle.scheme.specs.Laws.Tab.{length_tab, get_d_tab, as_tab}
+use Rattle.scheme.proofs.Laws.Tab.{length_tab, get_d_tab, as_tab}
 
 -- A front of n, after it was written.
 module _ (n : ℕ) (after rest : List ℕ) (size : length after ≡ n) where

@@ -7,15 +7,15 @@ use Rattle.std.proofs.Math.Nat.{min-le_right}
 use Rattle.setchain.specs.Sums.{sum_to, only_if}
 use Rattle.setchain.specs.Rows.{ONE}
 use Rattle.setchain.specs.Cells.{sum_into}
-use Rattle.setchain.specs.Laws.Cells.{into_all}
-use Rattle.setchain.specs.Laws.Sums.{only_if_false, only_if_zero, sum_to_eq, sum_to_longer}
+use Rattle.setchain.proofs.Laws.Cells.{into_all}
+use Rattle.setchain.proofs.Laws.Sums.{only_if_false, only_if_zero, sum_to_eq, sum_to_longer}
 use Rattle.scheme.specs.declared.Scheme.{Scheme}
 use Rattle.scheme.specs.Access.{CELL_STRIDE, cell_count, rule_at, lower_at, upper_at, class_bands}
 use Rattle.scheme.specs.Accepted.{Accepted}
 use Rattle.scheme.specs.Rows.{cells_of, chain_of}
 use Rattle.rows.specs.Rows.{class_rules}
-use Rattle.scheme.specs.Laws.Access.{bands_few, lower_in, upper_in}
-use Rattle.scheme.specs.Laws.Sound.{accepted_cells}
+use Rattle.scheme.proofs.Laws.Access.{bands_few, lower_in, upper_in}
+use Rattle.scheme.proofs.Laws.Sound.{accepted_cells}
 use Rattle.scheme.specs.SumByTarget.{sum_by_target}
 
 -- A rule is class j + 1 exactly where its target is state j.

@@ -7,8 +7,8 @@ use Rattle.std.proofs.Math.Decide.{dec_lt}
 use Rattle.setchain.specs.Sums.{at, sum_to, only_if}
 use Rattle.setchain.specs.Rows.{ONE, IntervalRow, lists_row}
 use Rattle.setchain.specs.Tight.{sum_others, tight_row}
-use Rattle.setchain.specs.Laws.Agreeing.{Agree}
-use Rattle.setchain.specs.Laws.Tight.{others_and_own, tight_lower, tight_upper, tight_agrees}
+use Rattle.setchain.proofs.Laws.Agreeing.{Agree}
+use Rattle.setchain.proofs.Laws.Tight.{others_and_own, tight_lower, tight_upper, tight_agrees}
 use Rattle.scheme.specs.declared.Scheme.{Scheme}
 use Rattle.scheme.specs.declared.RowAnswer.{RowAnswer}
 use Rattle.scheme.specs.Tables.{tab}
@@ -17,13 +17,13 @@ use Rattle.scheme.specs.Cause.{cause_of, class_cause}
 use Rattle.scheme.specs.Rows.{chain_of}
 use Rattle.scheme.specs.RowAnswer.{row_cause, row_refused, row_answered, interval_at, interval_answer, row_at, row_answer}
 use Rattle.scheme.specs.SumByTarget.{Capped}
-use Rattle.scheme.specs.Laws.FirstCause.{first_none, second_none, declined, answered}
-use Rattle.scheme.specs.Laws.Cause.{class_fits}
-use Rattle.scheme.specs.Laws.Judged.{accepted_cause}
-use Rattle.scheme.specs.Laws.Sound.{accepted_sound}
-use Rattle.scheme.specs.Laws.Tab.{tab_eq}
-use Rattle.scheme.specs.Laws.Filled.{Filled, fill_more, fill_all}
-use Rattle.scheme.specs.Laws.RowAnswer.{interval_number, answered_size, answered_agrees, answered_beyond, answered_same}
+use Rattle.scheme.proofs.Laws.FirstCause.{first_none, second_none, declined, answered}
+use Rattle.scheme.proofs.Laws.Cause.{class_fits}
+use Rattle.scheme.proofs.Laws.Judged.{accepted_cause}
+use Rattle.scheme.proofs.Laws.Sound.{accepted_sound}
+use Rattle.scheme.proofs.Laws.Tab.{tab_eq}
+use Rattle.scheme.proofs.Laws.Filled.{Filled, fill_more, fill_all}
+use Rattle.scheme.proofs.Laws.RowAnswer.{interval_number, answered_size, answered_agrees, answered_beyond, answered_same}
 use Rattle.rows.specs.Rows.{TightPre, TightPost, TightenedPre}
 use Rattle.rows.specs.Laws.Front.{joined_rule}
 

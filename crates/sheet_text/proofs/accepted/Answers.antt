@@ -1,6 +1,6 @@
 -- `accepted` meets its contract: declined for want of space, or the sheet.
 use native.Mathlib.Omega.{arith}
-use Rattle.sheet_spec.specs.Laws.Space.{sheet_within, space_coded}
+use Rattle.sheet_spec.proofs.Laws.Space.{sheet_within, space_coded}
 use Rattle.sheet_text.specs.Laws.Answer.{answered_declined, answered_written, answered_space}
 use Rattle.sheet_text.proofs.accepted.Goals as goal
 

@@ -1,6 +1,6 @@
 -- `refused` meets its contract: declined for want of space, or the line.
 use native.Mathlib.Omega.{arith}
-use Rattle.sheet_spec.specs.Laws.Widths.{refused_line_within}
+use Rattle.sheet_spec.proofs.Laws.Widths.{refused_line_within}
 use Rattle.sheet_text.specs.Laws.Answer.{answered_written, answered_space}
 use Rattle.sheet_text.proofs.refused.Goals as goal
 

@@ -3,8 +3,8 @@ use mathlib.Core.Path.{◌≡◌, ap, sym, ◌∙◌}
 use native.Mathlib.Omega.{arith}
 use Rattle.record_spec.specs.Read.{read_cause}
 use Rattle.record_spec.specs.Layout.{scheme_in}
-use Rattle.record_spec.specs.Laws.Read.{read_number, read_scheme}
-use Rattle.sheet_spec.specs.Laws.Space.{read_cause_most, read_accepted}
+use Rattle.record_spec.proofs.Laws.Read.{read_number, read_scheme}
+use Rattle.sheet_spec.proofs.Laws.Space.{read_cause_most, read_accepted}
 use Rattle.sheet_text.specs.Laws.Answer.{sheet_refused, sheet_accepted}
 use Rattle.sheet_text.proofs.sheet.Goals as goal
 

@@ -4,8 +4,8 @@ use Rattle.std.proofs.Common.{◌∙◌, arith, eq-eqb, lt-ltb, le-ltb}
 use Rattle.scheme.specs.declared.Scheme.{Scheme}
 use Rattle.scheme.specs.Accepted.{Accepted}
 use Rattle.scheme.specs.Cause.{cause_of}
-use Rattle.scheme.specs.Laws.FirstCause.{second_cause}
-use Rattle.scheme.specs.Laws.Judged.{cause_accepted}
+use Rattle.scheme.proofs.Laws.FirstCause.{second_cause}
+use Rattle.scheme.proofs.Laws.Judged.{cause_accepted}
 use Rattle.record_spec.specs.Layout.{scheme_in}
 use Rattle.record_spec.specs.Read.{read_cause}
 use Rattle.record.specs.Laws.Lists.{sets_front}
@@ -17,7 +17,7 @@ use Rattle.sheet_spec.specs.Sheet.{sheet_of, refused_line, sheet_text}
 use Rattle.sheet_text.specs.Put.{Space, Put}
 use Rattle.record_spec.specs.Write.{write_number, written_length}
 use Rattle.sheet_spec.specs.Answer.{space_of, space_for, TextAnswered, sheet_answer, sheet_leaves, TextPromise}
-use Rattle.sheet_spec.specs.Laws.Space.{text_accepted, space_accepted, text_refused, space_refused, text_kept}
+use Rattle.sheet_spec.proofs.Laws.Space.{text_accepted, space_accepted, text_refused, space_refused, text_kept}
 use Rattle.bounds_spec.specs.Causes.{table_size}
 
 -- A slice that is too short, and one that is not.

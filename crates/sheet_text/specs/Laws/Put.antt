@@ -4,7 +4,7 @@ use Rattle.std.proofs.Common.{ap, ap₂, ◌∙◌, append_assoc, arith, add-one
 use Rattle.std.proofs.lemmas.List.Edits.{sets}
 use Rattle.std.proofs.Math.Seq.{length-sets, take-length}
 use Rattle.record_spec.specs.Joined.{joined}
-use Rattle.big_endian_spec.specs.Laws.{sets_append, sets_more}
+use Rattle.big_endian_spec.proofs.Laws.{sets_append, sets_more}
 use Rattle.sheet_spec.specs.Text.{digits_within, two_digits}
 use Rattle.sheet_text.specs.Put.{Space, Put}
 

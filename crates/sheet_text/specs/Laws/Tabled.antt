@@ -4,13 +4,13 @@ use Rattle.std.proofs.Common.{ap, ◌∙◌, arith, add-one}
 use Rattle.std.proofs.Math.Bool.{true, false}
 use Rattle.scheme.specs.declared.Scheme.{Scheme}
 use Rattle.scheme.specs.Rows.{chain_of}
-use Rattle.scheme.specs.Laws.Tab.{length_tab}
+use Rattle.scheme.proofs.Laws.Tab.{length_tab}
 use Rattle.record_spec.specs.Joined.{joined}
-use Rattle.record_spec.specs.Laws.Joined.{joined_eq}
+use Rattle.record_spec.proofs.Laws.Joined.{joined_eq}
 use Rattle.setchain.specs.Years.{low_share, high_share}
 use Rattle.bounds_spec.specs.Answers.{start_of}
 use Rattle.bounds_spec.specs.Table.{figure_table, low_table, high_table}
-use Rattle.bounds_spec.specs.Laws.Table.{share_at, mean_at, total_at}
+use Rattle.bounds_spec.proofs.Laws.Table.{share_at, mean_at, total_at}
 use Rattle.sheet_spec.specs.Sheet.{scheme_line, class_line, year_lines, total_line, sheet_of}
 use Rattle.sheet_text.specs.Put.{Space, Put}
 use Rattle.sheet_text.specs.Tabled.{class_text, year_text}

@@ -8,10 +8,10 @@ use Rattle.setchain.specs.Rows.{ONE, lists_row}
 use Rattle.setchain.specs.Rounding.{rounded}
 use Rattle.setchain.specs.Step.{step_figure, Reaches, NotAfter}
 use Rattle.setchain.specs.Certificate.{Ahead, Certificate}
-use Rattle.setchain.specs.Laws.Step.{certified_reaches, reached_figure_lem}
+use Rattle.setchain.proofs.Laws.Step.{certified_reaches, reached_figure_lem}
 use Rattle.order.specs.Order.{payoff_at, along, Occurs}
-use Rattle.setchain.specs.Laws.NotAfter.{not_after_same}
-use Rattle.order.specs.Laws.Along.{along_permutation, along_sorted}
+use Rattle.setchain.proofs.Laws.NotAfter.{not_after_same}
+use Rattle.order.proofs.Laws.Along.{along_permutation, along_sorted}
 use Rattle.step.specs.Fill.{FillPre, FillPost}
 use Rattle.step.specs.Figure.{WeighPre}
 use Rattle.step.specs.Step.{StepPre, StepPost}

@@ -8,8 +8,8 @@ use Rattle.std.proofs.Math.Seq.{get_or-set_same, get_or-set_other}
 use borrow.Author.Count.{below_none, below_more}
 use Rattle.setchain.specs.Sums.{at, sum_to}
 use Rattle.setchain.specs.Rows.{ONE}
-use Rattle.setchain.specs.Laws.Sums.{sum_to_eq}
-use Rattle.setchain.specs.Laws.Fill.{positive_count}
+use Rattle.setchain.proofs.Laws.Sums.{sum_to_eq}
+use Rattle.setchain.proofs.Laws.Fill.{positive_count}
 use Rattle.order.specs.Order.{Occurs}
 use Rattle.step.specs.Fill.{FillPre, FillPost, FillSlackPre}
 use Rattle.step.specs.Laws.Sums.{sum_to_set}

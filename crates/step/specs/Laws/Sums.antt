@@ -4,7 +4,7 @@ use Rattle.std.specs.Prelude.{ℕ, ◌+◌, ◌*◌, ◌≤◌, ◌<◌, ◌≡�
 use Rattle.std.proofs.Common.{ap, ◌∙◌, mul-le-mul_left, arith, get_or-set_same, get_or-set_other}
 use Rattle.setchain.specs.Sums.{at, sum_to, dot}
 use Rattle.setchain.specs.Rows.{ONE}
-use Rattle.setchain.specs.Laws.Sums.{sum_to_le, sum_to_scale, sum_to_more, sum_to_front, sum_to_change}
+use Rattle.setchain.proofs.Laws.Sums.{sum_to_le, sum_to_scale, sum_to_more, sum_to_front, sum_to_change}
 use Rattle.step_spec.specs.StepAnswer.{MOST_PAYOFF}
 use Rattle.step.specs.Figure.{WeighPre}
 

@@ -1,7 +1,7 @@
 -- `band_out` meets its contract: no column before k has a bad band.
 use mathlib.Core.Path.{sym, ◌∙◌}
 use native.Mathlib.Omega.{arith}
-use Rattle.setchain.specs.Laws.Tests.{any_none, any_more, any_hit}
+use Rattle.setchain.proofs.Laws.Tests.{any_none, any_more, any_hit}
 use Rattle.acceptance.proofs.tests.band_out.Goals as goal
 
 pub loop-k-init : goal.loop-k-init

@@ -1,7 +1,7 @@
 -- `premium_cause` meets its contract: no class before i has a premium above the limit.
 -- Assumes nothing.
 use native.Mathlib.Omega.{arith}
-use Rattle.scheme.specs.Laws.Limits.{above_none, above_more, above_found}
+use Rattle.scheme.proofs.Laws.Limits.{above_none, above_more, above_found}
 use Rattle.acceptance.proofs.tests.premium_cause.Goals as goal
 
 pub loop-i-init : goal.loop-i-init

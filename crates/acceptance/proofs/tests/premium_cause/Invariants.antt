@@ -1,7 +1,7 @@
 -- `premium_cause` meets its contract: no class before i has a premium above the limit.
 -- Assumes nothing.
 use Prim.Native.Nat.{◌-◌}
-use Rattle.scheme.specs.Laws.Limits.{NoneAbove}
+use Rattle.scheme.proofs.Laws.Limits.{NoneAbove}
 use Rattle.acceptance.proofs.tests.premium_cause.Given as goal
 
 abbrev pub invariant-loop-i : goal.invariant-loop-i

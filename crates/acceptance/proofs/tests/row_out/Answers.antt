@@ -1,7 +1,7 @@
 -- `row_out` meets its contract: no column before k is outside.
 use mathlib.Core.Path.{sym, ◌∙◌}
 use native.Mathlib.Omega.{arith}
-use Rattle.setchain.specs.Laws.Tests.{any_none, any_more, any_hit}
+use Rattle.setchain.proofs.Laws.Tests.{any_none, any_more, any_hit}
 use Rattle.acceptance.proofs.tests.row_out.Goals as goal
 
 pub loop-k-init : goal.loop-k-init

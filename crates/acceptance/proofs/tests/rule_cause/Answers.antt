@@ -1,8 +1,8 @@
 -- `rule_cause` meets its contract: no class before i has a rule outside 1 to s.
 use mathlib.Core.Path.{sym, ◌∙◌}
 use native.Mathlib.Omega.{arith}
-use Rattle.setchain.specs.Laws.Tests.{any_none, any_more, any_hit}
-use Rattle.scheme.specs.Laws.FirstCause.{cond_true}
+use Rattle.setchain.proofs.Laws.Tests.{any_none, any_more, any_hit}
+use Rattle.scheme.proofs.Laws.FirstCause.{cond_true}
 use Rattle.acceptance.proofs.tests.rule_cause.Goals as goal
 
 pub loop-i-init : goal.loop-i-init

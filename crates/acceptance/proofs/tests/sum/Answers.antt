@@ -1,6 +1,6 @@
 -- `sum` meets its contract: the total is the sum of the ends before k, and as many 32-bit numbers as a byte counts fit 64 bits.
 use native.Mathlib.Omega.{arith}
-use Rattle.setchain.specs.Laws.Sums.{total_start, total_more}
+use Rattle.setchain.proofs.Laws.Sums.{total_start, total_more}
 use Rattle.acceptance.proofs.tests.sum.Goals as goal
 
 pub loop-k-init : goal.loop-k-init

@@ -3,7 +3,7 @@
 use Prim.Native.Nat.{◌-◌}
 use Rattle.setchain.specs.Sums.{at}
 use Rattle.setchain.specs.Years.{tenths}
-use Rattle.order.specs.Laws.Written.{Written}
+use Rattle.order.proofs.Laws.Written.{Written}
 use Rattle.bounds.proofs.money.in_tenths.Given as goal
 
 abbrev pub invariant-loop-i : goal.invariant-loop-i

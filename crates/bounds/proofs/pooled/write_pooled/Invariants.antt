@@ -1,7 +1,7 @@
 -- `write_pooled` lists the scheme's entries and writes the slice class by class.
 -- Assumes nothing.
 use Prim.Native.Nat.{◌-◌}
-use Rattle.order.specs.Laws.Written.{Written}
+use Rattle.order.proofs.Laws.Written.{Written}
 use Rattle.bounds.proofs.PooledBoundsLaws.{pooled_of}
 use Rattle.bounds.proofs.pooled.write_pooled.Given as goal
 

@@ -1,7 +1,7 @@
 -- `write_shares` lists the scheme's entries and writes the slice class by class.
 -- Assumes nothing.
 use Prim.Native.Nat.{◌-◌}
-use Rattle.order.specs.Laws.Written.{Written}
+use Rattle.order.proofs.Laws.Written.{Written}
 use Rattle.bounds.specs.Sheets.{share_of}
 use Rattle.bounds.proofs.sheet.write_shares.Given as goal
 

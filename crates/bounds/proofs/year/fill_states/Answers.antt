@@ -8,8 +8,8 @@ use Rattle.setchain.specs.Sums.{at}
 use Rattle.bounds.proofs.YearLaws.{states_none, state_fills, states_more, states_all}
 use Rattle.order.specs.Order.{along}
 use Rattle.order.specs.States.{state_of}
-use Rattle.order.specs.Laws.Along.{along_length}
-use Rattle.order.specs.Laws.Numbers.{state_of_lem}
+use Rattle.order.proofs.Laws.Along.{along_length}
+use Rattle.order.proofs.Laws.Numbers.{state_of_lem}
 use Rattle.bounds.proofs.year.fill_states.Goals as goal
 
 pub loop-k-init : goal.loop-k-init

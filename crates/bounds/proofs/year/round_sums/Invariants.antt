@@ -2,7 +2,7 @@
 -- Assumes nothing.
 use Prim.Native.Nat.{◌-◌}
 use lib.ListN.{length}
-use Rattle.order.specs.Laws.Written.{Rewritten}
+use Rattle.order.proofs.Laws.Written.{Rewritten}
 use Rattle.bounds.proofs.YearLaws.{figure_of}
 use Rattle.bounds.proofs.year.round_sums.Given as goal
 

@@ -2,7 +2,7 @@
 -- Assumes nothing.
 use mathlib.Core.Path.{ap, ◌∙◌}
 use Rattle.record_spec.specs.Write.{write_number, written_length}
-use Rattle.joguyvi_spec.specs.Laws.Texts.{text_out, text_declined, text_written}
+use Rattle.joguyvi_spec.proofs.Laws.Texts.{text_out, text_declined, text_written}
 use Rattle.joguyvi_records.proofs.RecordsLaws.{write_only, write_left}
 use Rattle.joguyvi_records.proofs.records.put_record.Goals as goal
 

@@ -1,7 +1,7 @@
 -- `copy_ends` copies: the places passed hold what the list has there.
 -- Assumes nothing.
 use native.Mathlib.Omega.{arith}
-use Rattle.scheme.specs.Laws.Filled.{fill_all}
+use Rattle.scheme.proofs.Laws.Filled.{fill_all}
 use Rattle.joguyvi_rows.proofs.copies.copy_ends.Goals as goal
 
 pub returns : goal.returns

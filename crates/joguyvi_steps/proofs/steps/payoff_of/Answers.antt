@@ -1,7 +1,7 @@
 -- `payoff_of` meets its contract: the places passed hold the payoff's numbers.
 -- Assumes nothing.
 use native.Mathlib.Omega.{arith}
-use Rattle.scheme.specs.Laws.Filled.{fill_all}
+use Rattle.scheme.proofs.Laws.Filled.{fill_all}
 use Rattle.joguyvi_spec.specs.Buffers.{first32}
 use Rattle.joguyvi_steps.proofs.steps.payoff_of.Goals as goal
 

@@ -2,7 +2,7 @@
 -- Assumes nothing.
 use Prim.Native.Nat.{◌-◌}
 use Rattle.setchain.specs.Sums.{at}
-use Rattle.scheme.specs.Laws.Filled.{Filled}
+use Rattle.scheme.proofs.Laws.Filled.{Filled}
 use Rattle.joguyvi_years.proofs.books.copy_counts.Given as goal
 
 abbrev pub invariant-loop-k : goal.invariant-loop-k

@@ -1,7 +1,7 @@
 -- `counts_of` meets its contract: the places passed hold the book's counts.
 -- Assumes nothing.
 use native.Mathlib.Omega.{arith}
-use Rattle.scheme.specs.Laws.Filled.{fill_all}
+use Rattle.scheme.proofs.Laws.Filled.{fill_all}
 use Rattle.joguyvi_spec.specs.Buffers.{first32}
 use Rattle.joguyvi_years.proofs.books.counts_of.Goals as goal
 

@@ -2,7 +2,7 @@
 -- Assumes nothing.
 use Prim.Native.Nat.{◌-◌}
 use lib.ListN.{get_or}
-use Rattle.scheme.specs.Laws.Filled.{Filled}
+use Rattle.scheme.proofs.Laws.Filled.{Filled}
 use Rattle.joguyvi_years.proofs.books.counts_of.Given as goal
 
 abbrev pub invariant-loop-k : goal.invariant-loop-k

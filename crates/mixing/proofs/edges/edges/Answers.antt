@@ -2,7 +2,7 @@
 use Prim.Native.Nat.{ℕ, ◌+◌, ◌-◌, ◌≤◌}
 use mathlib.Core.Path.{◌≡◌, ap, ◌∙◌}
 use native.Mathlib.Omega.{arith}
-use Rattle.scheme.specs.Laws.Filled.{fill_more}
+use Rattle.scheme.proofs.Laws.Filled.{fill_more}
 use Rattle.mixing_spec.specs.MixingAnswer.{scheme_edges}
 use Rattle.mixing.specs.Bits.{bits_of}
 use Rattle.mixing.specs.Laws.Edges.{classes_few}

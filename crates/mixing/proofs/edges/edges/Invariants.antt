@@ -1,6 +1,6 @@
 -- `edges` meets its contract: the first i rows are those of the scheme's edges.
 use Prim.Native.Nat.{◌-◌, ◌≤◌}
-use Rattle.scheme.specs.Laws.Filled.{Filled}
+use Rattle.scheme.proofs.Laws.Filled.{Filled}
 use Rattle.mixing_spec.specs.MixingAnswer.{scheme_edges}
 use Rattle.mixing.specs.Bits.{bits_of}
 use Rattle.mixing.proofs.edges.edges.Given as goal

@@ -5,7 +5,7 @@ use native.Mathlib.Omega.{arith}
 use lib.Dec.{eqb}
 use borrow.Author.Tests.{eq-eqb, ne_eqb}
 use Rattle.setchain.specs.Sums.{at}
-use Rattle.setchain.specs.Laws.Tests.{any_none, any_more, all_miss}
+use Rattle.setchain.proofs.Laws.Tests.{any_none, any_more, all_miss}
 use Rattle.mixing.proofs.matrix.all_rows.Goals as goal
 
 pub loop-i-init : goal.loop-i-init

@@ -2,7 +2,7 @@
 use mathlib.Core.Path.{◌∙◌}
 use borrow.Author.Rules.{rules}
 use native.Mathlib.Omega.{arith}
-use Rattle.scheme.specs.Laws.Filled.{fill_more}
+use Rattle.scheme.proofs.Laws.Filled.{fill_more}
 use Rattle.mixing.specs.Laws.Bits.{union_front}
 use Rattle.mixing.proofs.matrix.product.Goals as goal
 

@@ -1,7 +1,7 @@
 -- `product` meets its contract: the first i rows are the product's.
 use Prim.Native.Nat.{◌-◌, ◌≤◌}
 use Rattle.setchain.specs.Sums.{at}
-use Rattle.scheme.specs.Laws.Filled.{Filled}
+use Rattle.scheme.proofs.Laws.Filled.{Filled}
 use Rattle.mixing.specs.Bits.{union_of}
 use Rattle.mixing.proofs.matrix.product.Given as goal
 

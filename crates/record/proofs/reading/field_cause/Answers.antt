@@ -3,7 +3,7 @@ use mathlib.Core.Path.{◌≡◌, sym, ◌∙◌}
 use native.Mathlib.Omega.{arith}
 use borrow.Author.Tests.{eq-eqb, ne_eqb, le-ltb}
 use Rattle.big_endian_spec.specs.Numbers.{be_at}
-use Rattle.big_endian_spec.specs.Laws.{read_held}
+use Rattle.big_endian_spec.proofs.Laws.{read_held}
 use Rattle.record.proofs.reading.field_cause.Goals as goal
 
 pub returns-then-number_at-bytes : goal.returns-then-number_at-bytes

@@ -6,7 +6,7 @@ use Rattle.scheme.specs.FirstCause.{◌when◌, or_else}
 use Rattle.record_spec.specs.Layout.{classes_in, columns_in}
 use Rattle.scheme.specs.Cause.{sizes_cause}
 use Rattle.record_spec.specs.Read.{version_out, field_out, length_out}
-use Rattle.record_spec.specs.Laws.Frame.{frame_head, frame_shape, frame_last}
+use Rattle.record_spec.proofs.Laws.Frame.{frame_head, frame_shape, frame_last}
 use Rattle.record.proofs.reading.frame.Goals as goal
 
 pub returns-then-head-ne0 : goal.returns-then-head-ne0

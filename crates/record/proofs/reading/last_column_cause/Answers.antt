@@ -2,8 +2,8 @@
 use mathlib.Core.Path.{ap}
 use native.Mathlib.Omega.{arith}
 use Rattle.record_spec.specs.Layout.{header_length}
-use Rattle.record_spec.specs.Laws.Layout.{second_layout}
-use Rattle.record_spec.specs.Laws.Frame.{none_further, last_differs, last_same}
+use Rattle.record_spec.proofs.Laws.Layout.{second_layout}
+use Rattle.record_spec.proofs.Laws.Frame.{none_further, last_differs, last_same}
 use Rattle.record.proofs.reading.last_column_cause.Goals as goal
 
 pub returns-then-bytes-ne2 : goal.returns-then-bytes-ne2

@@ -11,9 +11,9 @@ use Rattle.scheme.specs.Tables.{tab}
 use Rattle.big_endian_spec.specs.Numbers.{be_at}
 use Rattle.scheme.specs.Stored.{up_to, rules_up_to, scheme_of}
 use Rattle.record_spec.specs.Layout.{version_in, layout_in, header_length, classes_in, columns_in, scheme_in, END_WIDTH, BAND_WIDTH}
-use Rattle.record_spec.specs.Laws.Layout.{further_most, width_most}
-use Rattle.scheme.specs.Laws.Tab.{tab_eq}
-use Rattle.scheme.specs.Laws.Stored.{up_to_eq}
+use Rattle.record_spec.proofs.Laws.Layout.{further_most, width_most}
+use Rattle.scheme.proofs.Laws.Tab.{tab_eq}
+use Rattle.scheme.proofs.Laws.Stored.{up_to_eq}
 use Rattle.record.proofs.reading.parsed.Goals as goal
 
 -- An upper end stands behind the lower end.

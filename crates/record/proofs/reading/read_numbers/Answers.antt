@@ -4,8 +4,8 @@ use mathlib.Core.Path.{◌∙◌}
 use native.Mathlib.Omega.{arith}
 use native.Mathlib.Nat.{mul-le-mul_right}
 use lib.ListN.{length}
-use Rattle.big_endian_spec.specs.Laws.{read_held}
-use Rattle.scheme.specs.Laws.Stored.{stored_none, stored_more}
+use Rattle.big_endian_spec.proofs.Laws.{read_held}
+use Rattle.scheme.proofs.Laws.Stored.{stored_none, stored_more}
 use Rattle.record.proofs.reading.read_numbers.Goals as goal
 
 pub loop-k-init : goal.loop-k-init

@@ -5,8 +5,8 @@ use native.Mathlib.Omega.{arith}
 use native.Mathlib.Nat.{mul-le-mul_right}
 use lib.ListN.{length, get_or, take, drop}
 use Rattle.scheme.specs.Access.{CELL_PLACES, CELL_STRIDE}
-use Rattle.scheme.specs.Laws.Tab.{length_tab}
-use Rattle.big_endian_spec.specs.Laws.{part_held}
+use Rattle.scheme.proofs.Laws.Tab.{length_tab}
+use Rattle.big_endian_spec.proofs.Laws.{part_held}
 use Rattle.record.specs.Laws.Lists.{part_length, part_at}
 use Rattle.record.specs.Laws.Stored.{rows_none, rows_more}
 use Rattle.record.proofs.reading.rules.Goals as goal

@@ -2,11 +2,11 @@
 use mathlib.Core.Path.{◌≡◌, ap, ◌∙◌}
 use native.Mathlib.Omega.{arith}
 use Rattle.record_spec.specs.Layout.{header_length}
-use Rattle.record_spec.specs.Laws.Layout.{second_layout, version_first}
+use Rattle.record_spec.proofs.Laws.Layout.{second_layout, version_first}
 use lib.ListN.{length, set, length-set}
 use lib.Seq.{sets, length-sets}
 use Rattle.big_endian_spec.specs.Numbers.{be_bytes}
-use Rattle.big_endian_spec.specs.Laws.{put_held}
+use Rattle.big_endian_spec.proofs.Laws.{put_held}
 use Rattle.record_write.specs.Laws.Numbers.{put_header, put_label_header}
 use Rattle.record_write.proofs.parts.header.Goals as goal
 

@@ -6,7 +6,7 @@ use native.Mathlib.Nat.{mul-le-mul_right}
 use lib.ListN.{length}
 use lib.Seq.{length-sets}
 use Rattle.record_write.specs.Laws.Lists.{join_none, join_more}
-use Rattle.big_endian_spec.specs.Laws.{length_be_bytes, put_held}
+use Rattle.big_endian_spec.proofs.Laws.{length_be_bytes, put_held}
 use Rattle.record_write.proofs.parts.premiums.Goals as goal
 
 pub loop-j-init : goal.loop-j-init

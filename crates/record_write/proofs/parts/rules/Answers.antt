@@ -6,8 +6,8 @@ use native.Mathlib.Nat.{mul-le-mul_right}
 use lib.ListN.{length}
 use lib.Seq.{length-sets}
 use Rattle.scheme.specs.Access.{CELL_STRIDE}
-use Rattle.scheme.specs.Laws.Tab.{length_tab}
-use Rattle.big_endian_spec.specs.Laws.{part_held}
+use Rattle.scheme.proofs.Laws.Tab.{length_tab}
+use Rattle.big_endian_spec.proofs.Laws.{part_held}
 use Rattle.record_write.specs.Laws.Lists.{tab_part, join_none, join_more}
 use Rattle.record_write.proofs.parts.rules.Goals as goal
 

@@ -4,7 +4,7 @@ use mathlib.Core.Path.{◌≡◌, sym, subst}
 use native.Mathlib.Omega.{arith}
 use native.Mathlib.Nat.{mul-le-mul}
 use Rattle.record_spec.specs.Layout.{BAND_WIDTH, layout_of, header_length, length_of}
-use Rattle.record_spec.specs.Laws.Layout.{length_most}
+use Rattle.record_spec.proofs.Laws.Layout.{length_most}
 use Rattle.record_write.specs.Laws.Bytes.{wrote}
 use Rattle.record_write.proofs.parts.whole.Goals as goal
 

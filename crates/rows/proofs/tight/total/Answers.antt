@@ -1,7 +1,7 @@
 -- `total` meets its contract: j entries, of at most ONE each, come to at most j times ONE.
 use native.Mathlib.Omega.{arith}
 use Rattle.setchain.specs.Sums.{at}
-use Rattle.setchain.specs.Laws.Sums.{total_start, sum_to_more}
+use Rattle.setchain.proofs.Laws.Sums.{total_start, sum_to_more}
 use Rattle.rows.proofs.tight.total.Goals as goal
 
 pub loop-j-init : goal.loop-j-init

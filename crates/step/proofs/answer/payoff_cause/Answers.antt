@@ -1,7 +1,7 @@
 -- `payoff_cause` meets its contract: no class before i has a payoff above the limit.
 -- Assumes nothing.
 use native.Mathlib.Omega.{arith}
-use Rattle.scheme.specs.Laws.Limits.{above_none, above_more, above_found}
+use Rattle.scheme.proofs.Laws.Limits.{above_none, above_more, above_found}
 use Rattle.step.proofs.answer.payoff_cause.Goals as goal
 
 pub loop-i-init : goal.loop-i-init

@@ -1,7 +1,7 @@
 -- `payoff_cause` meets its contract: no class before i has a payoff above the limit.
 -- Assumes nothing.
 use Prim.Native.Nat.{◌-◌}
-use Rattle.scheme.specs.Laws.Limits.{NoneAbove}
+use Rattle.scheme.proofs.Laws.Limits.{NoneAbove}
 use Rattle.step_spec.specs.StepAnswer.{MOST_PAYOFF}
 use Rattle.step.proofs.answer.payoff_cause.Given as goal
 

@@ -5,7 +5,7 @@ use mathlib.Core.Path.{◌≡◌}
 use native.Mathlib.Omega.{arith}
 use Rattle.setchain.specs.Sums.{at, dot}
 use Rattle.setchain.specs.Rows.{ONE}
-use Rattle.setchain.specs.Laws.Sums.{total_start}
+use Rattle.setchain.proofs.Laws.Sums.{total_start}
 use Rattle.step_spec.specs.StepAnswer.{MOST_PAYOFF}
 use Rattle.step.specs.Laws.Sums.{weighed_more}
 use Rattle.step.proofs.figure.weigh.Goals as goal

@@ -7,7 +7,7 @@ use Rattle.setchain.specs.Sums.{at}
 use Rattle.step.specs.Laws.Fill.{filling_none, filling_more, filling_last}
 use Rattle.order.specs.Order.{along}
 use Rattle.order.specs.States.{state_of}
-use Rattle.order.specs.Laws.Numbers.{state_of_lem}
+use Rattle.order.proofs.Laws.Numbers.{state_of_lem}
 use Rattle.step.proofs.fill.fill_slack.Goals as goal
 
 pub loop-slack-init : goal.loop-slack-init

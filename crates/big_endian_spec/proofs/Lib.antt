@@ -1,0 +1,3 @@
+-- Theorems, the lemmas by which they are proved, and worked examples, in the order of specs/Lib.antt.
+pub mod Examples
+pub mod Laws

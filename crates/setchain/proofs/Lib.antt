@@ -1,0 +1,19 @@
+-- Theorems, the lemmas by which they are proved, and worked examples, in the order of specs/Lib.antt.
+pub mod Laws
+pub mod Theorems
+pub mod Kept
+pub mod Inward
+pub mod PooledTheorems
+pub mod ReachedTheorems
+pub mod Tightened
+pub mod Mixed
+pub mod Limit
+pub mod Examples
+pub mod ChanceExamples
+pub mod Cycle
+pub mod DistanceExamples
+pub mod PromiseExamples
+pub mod TurnExamples
+pub mod InwardExamples
+pub mod TightExamples
+pub mod MixedExamples
