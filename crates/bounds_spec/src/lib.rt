@@ -1,4 +1,4 @@
-// What a call for bounds answers. The definitions of all answers, what they promise, and the proof that they keep it stand in specs/.
+// What a call for bounds answers. The definitions of all answers and what they promise stand in specs/, the proof that they keep it in proofs/.
 #![tactic(auto)]
 
 // What a call for bounds answers: low and high, or the number of the cause for which it is declined.

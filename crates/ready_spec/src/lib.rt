@@ -1,4 +1,4 @@
-// What asking for a ready scheme answers. The three schemes, their scales and the proof that each is accepted stand in specs/.
+// What asking for a ready scheme answers. The three schemes and their scales stand in specs/, the proof that each is accepted in proofs/.
 #![tactic(auto)]
 
 use scheme::Scheme;

@@ -1,4 +1,4 @@
-// The set-chain of document 01 as mathematics: everything stands in specs/.
+// The set-chain of document 01 as mathematics: the definitions stand in specs/, the theorems in proofs/.
 #![tactic(auto)]
 
 // ONE, a billion parts, is the whole of a share (document 01, "Units and the scheme").

@@ -1,2 +1,2 @@
-// What the sheet of any bytes is, and the space that it takes: everything stands in specs/.
+// What the sheet of any bytes is, and the space that it takes: the definitions stand in specs/, the laws in proofs/.
 #![tactic(auto)]
