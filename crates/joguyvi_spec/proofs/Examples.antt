@@ -14,7 +14,7 @@ use Rattle.big_endian_spec.specs.Numbers.{be_at}
 use Rattle.record_spec.specs.Layout.{layout_of, scheme_in}
 use Rattle.record_spec.specs.Read.{frame_cause, read_cause}
 use Rattle.record_spec.proofs.Examples.{example_a, read_a}
-use Rattle.scheme.specs.declared.RowAnswer.{RowAnswer}
+use Rattle.scheme.specs.RowAnswer.{RowAnswer}
 use Rattle.scheme.specs.RowAnswer.{row_answered}
 use Rattle.scheme.proofs.RowExamples.{answer_of}
 use Rattle.record_spec.specs.Write.{write_answer}

@@ -1,7 +1,7 @@
 -- The tight row of a class, the rule row of a class, and the bands of all columns.
 use Rattle.std.specs.Prelude.{ℕ, ◌≡◌, List, [], ◌∷◌, eqb, length}
 use Rattle.scheme.specs.declared.Scheme.{Scheme}
-use Rattle.scheme.specs.declared.RowAnswer.{RowAnswer}
+use Rattle.scheme.specs.RowAnswer.{RowAnswer}
 use Rattle.scheme.specs.Tables.{tab}
 use Rattle.scheme.specs.Access.{shared_lower, shared_upper, cell_count}
 use Rattle.scheme.specs.FirstCause.{◌when◌, first_of}

@@ -4,7 +4,7 @@ use Rattle.scheme.specs.Access.{CELL_STRIDE, class_bands}
 use Rattle.setchain.specs.Sums.{at, only_if}
 use Rattle.setchain.specs.Rows.{lists_row}
 use Rattle.setchain.specs.Tight.{tight_row}
-use Rattle.scheme.specs.declared.RowAnswer.{RowAnswer}
+use Rattle.scheme.specs.RowAnswer.{RowAnswer}
 use Rattle.scheme.specs.Tables.{tab}
 use Rattle.scheme.specs.SumByTarget.{sum_by_target, Capped}
 

@@ -4,7 +4,7 @@ use Rattle.std.proofs.Common.{ap, ap₂, arith}
 use Rattle.setchain.specs.Rows.{IntervalRow}
 use Rattle.setchain.specs.Tight.{tight_row}
 use Rattle.scheme.specs.declared.Scheme.{Scheme}
-use Rattle.scheme.specs.declared.RowAnswer.{RowAnswer}
+use Rattle.scheme.specs.RowAnswer.{RowAnswer}
 use Rattle.scheme.specs.Cause.{cause_of, class_cause}
 use Rattle.scheme.specs.Rows.{chain_of}
 use Rattle.scheme.specs.Stored.{cleared}

@@ -5,7 +5,7 @@ use Rattle.setchain.specs.Tests.{any_below}
 use Rattle.scheme.specs.Tables.{tab}
 use Rattle.scheme.specs.Cause.{size_out, start_out, horizon_out, rule_out, band_out, sum_out, premium_out, cause_of}
 use Rattle.scheme.proofs.Examples.{padded, scheme_a, single}
-use Rattle.scheme.specs.declared.RowAnswer.{RowAnswer}
+use Rattle.scheme.specs.RowAnswer.{RowAnswer}
 use Rattle.scheme.specs.RowAnswer.{row_refused, row_answered, interval_answer, row_answer}
 
 -- The answer with these entries, and 0 beyond.

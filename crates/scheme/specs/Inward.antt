@@ -1,7 +1,7 @@
 -- Narrower bands move the row that is answered inward (document 02, items 1 and 2): lower ends no smaller, upper ends no larger.
 use Rattle.std.specs.Prelude.{ℕ, ◌-◌, ◌≤◌, ◌≡◌}
 use Rattle.setchain.specs.Sums.{at}
-use Rattle.scheme.specs.declared.RowAnswer.{RowAnswer}
+use Rattle.scheme.specs.RowAnswer.{RowAnswer}
 
 -- The same call is answered, each lower end no smaller and each upper end no larger.
 pub record RowInward (wide narrow : RowAnswer) : Type 0 where

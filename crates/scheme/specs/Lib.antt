@@ -8,6 +8,7 @@ pub mod Access
 pub mod Accepted
 pub mod FirstCause
 pub mod Cause
+pub mod Number
 pub mod Stages
 pub mod Rows
 pub mod RowAnswer

@@ -1,14 +1,22 @@
 -- The answers of the two row operations: the interval row (document 01, "Interval rows") and the tight row (document 02, item 2).
-use Rattle.std.specs.Prelude.{ℕ, ◌-◌, cond, [], ◌∷◌, eqb, ltb, replicate}
+use Rattle.std.specs.Prelude.{ℕ, ◌-◌, cond, List, [], ◌∷◌, eqb, ltb, replicate, Result, Ok, Err}
 use Rattle.setchain.specs.Sums.{only_if}
 use Rattle.setchain.specs.Rows.{IntervalRow}
 use Rattle.setchain.specs.Tight.{tight_row}
 use Rattle.scheme.specs.declared.Scheme.{Scheme}
-use Rattle.scheme.specs.declared.RowAnswer.{RowAnswer}
+use Rattle.scheme.specs.declared.Cause.{Cause}
+use Rattle.scheme.specs.declared.Row.{Row}
 use Rattle.scheme.specs.Tables.{tab}
 use Rattle.scheme.specs.FirstCause.{first_of}
 use Rattle.scheme.specs.Cause.{cause_of, class_cause}
+use Rattle.scheme.specs.Number.{cause_number}
 use Rattle.scheme.specs.Rows.{chain_of}
+
+-- What a row operation answers: the number of the cause, or 0, and the lower and upper entries.
+pub record RowAnswer : Type 0 where
+  pub number : ℕ
+  pub lower : List ℕ
+  pub upper : List ℕ
 
 -- The cause of both: 3, 5 to 10, then 11.
 abbrev pub row_cause : Scheme → ℕ → ℕ
@@ -17,6 +25,11 @@ row_cause s class = first_of (cause_of s ∷ class_cause s class ∷ [])
 -- A refusal: the number, and 0 everywhere else.
 abbrev pub row_refused : ℕ → RowAnswer
 row_refused number = record { number = number; lower = replicate 32 0; upper = replicate 32 0 }
+
+-- The answer of a row, or of the cause for which there is none.
+abbrev pub row_answer_of : Result Row Cause → RowAnswer
+row_answer_of (Ok row) = record { number = 0; lower = row.lower; upper = row.upper }
+row_answer_of (Err cause) = row_refused (cause_number cause)
 
 -- The answer that a row makes over n classes: "lower and upper, with 0 beyond s".
 unfoldable pub row_answered : ℕ → IntervalRow → RowAnswer

@@ -1,11 +1,10 @@
 // The scheme of document 01, its limits and its refusal numbers.
 #![tactic(auto)]
 
-ghost use Rattle.std.specs.Prelude.{◌≡◌, ◌≤◌};
-ghost use Rattle.scheme.specs.FirstCause.{or_else};
+ghost use Rattle.std.specs.Prelude.{◌≡◌};
+ghost use Rattle.scheme.specs.Number.{cause_number, number_in};
 ghost use Rattle.scheme.specs.Cause.{outside, sizes_cause, slice_cause, slices_cause};
 ghost use Rattle.scheme.specs.Access.{class_bands};
-ghost use Rattle.scheme.specs.Stored.{no_scheme};
 
 // The limits of document 01, "Units and the scheme"; ONE is setchain's.
 pub const MOST_CLASSES: u8 = 32;
@@ -22,26 +21,80 @@ pub const CELL_STRIDE: usize = 8;
 // ONE as a band's end.
 pub const MOST_BAND: u32 = 1_000_000_000;
 
-// The refusal numbers of document 01, "When a call is declined", that a scheme, a class, a year or a lent slice can bring.
-pub const SIZE_OUT: u8 = 3;
+// Why a call is declined: the causes of document 01, "When a call is declined", and of document 02, each with its number.
+#[derive(Clone, Copy, Debug, PartialEq, Eq)]
+pub enum Cause {
+    // 1: no byte, or a version that there is not.
+    Version,
+    // 2: a length field that is not the length, or fewer bytes than a header has.
+    LengthField,
+    // 3: the classes or the columns are too few or too many.
+    Size,
+    // 4: a length that is not that of a record of its sizes.
+    Length,
+    // 5: the start is no class.
+    Start,
+    // 6: the horizon is too far.
+    Horizon,
+    // 7: a rule leads to no class.
+    Rule,
+    // 8: a band's ends are not in order, or above ONE.
+    Band,
+    // 9: the bands' ends do not enclose ONE.
+    Sum,
+    // 10: a premium or a payoff is too large.
+    Money,
+    // 11: the class that is asked for is none.
+    Class,
+    // 12: the year that is asked for is after the horizon.
+    Year,
+    // 13: a lent slice is of another length than is asked for.
+    Slice,
+    // 14: a ready scheme's number is none.
+    Ready,
+    // 15: a ready scheme's base is too large.
+    Base,
+    // 16: no count of years to the limit mixes.
+    NotMixing,
+    // 17: a record's last column is not that of its columns.
+    LastColumn,
+    // 18: a count of a book is too large.
+    Count,
+    // 19: no class of a book has a chamber.
+    NoChamber,
+    // 21: a claim frequency is too large, or the first exceeds the second.
+    Frequency,
+}
 
-pub const START_OUT: u8 = 5;
-
-pub const HORIZON_OUT: u8 = 6;
-
-pub const RULE_OUT: u8 = 7;
-
-pub const BAND_OUT: u8 = 8;
-
-pub const SUM_OUT: u8 = 9;
-
-pub const MONEY_OUT: u8 = 10;
-
-pub const CLASS_OUT: u8 = 11;
-
-pub const YEAR_OUT: u8 = 12;
-
-pub const SLICE_OUT: u8 = 13;
+impl Cause {
+    // The number of document 01 or 02.
+    pub fn number(self) -> u8
+        ensures { result ≡ cause_number self }
+    {
+        match self {
+            Cause::Version => 1,
+            Cause::LengthField => 2,
+            Cause::Size => 3,
+            Cause::Length => 4,
+            Cause::Start => 5,
+            Cause::Horizon => 6,
+            Cause::Rule => 7,
+            Cause::Band => 8,
+            Cause::Sum => 9,
+            Cause::Money => 10,
+            Cause::Class => 11,
+            Cause::Year => 12,
+            Cause::Slice => 13,
+            Cause::Ready => 14,
+            Cause::Base => 15,
+            Cause::NotMixing => 16,
+            Cause::LastColumn => 17,
+            Cause::Count => 18,
+            Cause::NoChamber => 19,
+            Cause::Frequency => 21,
+        }
+    }
+}
 
 // A bonus-malus scheme. What is stored beyond `classes` or `columns` is ignored.
 #[derive(Clone, Copy)]
@@ -64,35 +117,21 @@ pub struct Scheme {
     pub premiums: [u32; 32],
 }
 
-// The answer of the row operations: a refusal number or 0, and the lower and upper entries.
+// The row of a class: the lower and upper entries, with 0 beyond s.
 #[derive(Clone, Copy)]
-pub struct RowAnswer {
-    pub number: u8,
+pub struct Row {
     pub lower: [u64; 32],
     pub upper: [u64; 32],
 }
 
-// A scheme all 0, as it stands beside a refusal's number.
-pub fn no_scheme() -> Scheme
-    ensures { result ≡ no_scheme }
+// The number that a check declines with, or 0: what C is answered.
+pub fn number_in(checked: Result<(), Cause>) -> u8
+    ensures { result ≡ number_in checked }
 {
-    Scheme {
-        classes: 0,
-        columns: 0,
-        start: 0,
-        horizon: 0,
-        rules: [0; 256],
-        lowers: [0; 8],
-        uppers: [0; 8],
-        premiums: [0; 32],
+    match checked {
+        Ok(()) => 0,
+        Err(cause) => cause.number(),
     }
-}
-
-// A 32-bit number in 64 bits.
-pub fn wide(x: u32) -> u64
-    ensures { (result ≡ x) × (result ≤ 4294967295) }
-{
-    x as u64
 }
 
 // Whether x is not one of 1 to max.
@@ -102,17 +141,14 @@ pub fn outside(x: u8, max: u8) -> bool
     x == 0 || max < x
 }
 
-// Cause 3 of s classes and m columns, or 0.
-pub fn sizes_cause(classes: u8, columns: u8) -> u8
-    ensures { result ≡ sizes_cause classes columns }
+// Cause 3: s classes and m columns are too few or too many.
+pub fn check_sizes(classes: u8, columns: u8) -> Result<(), Cause>
+    ensures { number_in result ≡ sizes_cause classes columns }
 {
-    if outside(classes, MOST_CLASSES) {
-        return SIZE_OUT;
+    if outside(classes, MOST_CLASSES) || outside(columns, MOST_COLUMNS) {
+        return Err(Cause::Size);
     }
-    if outside(columns, MOST_COLUMNS) {
-        return SIZE_OUT;
-    }
-    0
+    Ok(())
 }
 
 // Whether a class is not one of 1 to s: cause 11.
@@ -132,26 +168,20 @@ pub fn class_bands(ends: &[u32], cells: usize, i: usize) -> &[u32]
     &ends[..cells]
 }
 
-// The first of two causes, where 0 is none.
-pub fn or_else(first: u8, second: u8) -> u8
-    ensures { result ≡ or_else first second }
-{
-    if first == 0 { second } else { first }
-}
-
 // Cause 13: a length that is not the size asked for.
-pub fn slice_cause(size: usize, given: usize) -> u8
-    ensures { result ≡ slice_cause size given }
+pub fn check_slice(size: usize, given: usize) -> Result<(), Cause>
+    ensures { number_in result ≡ slice_cause size given }
 {
     if given != size {
-        return SLICE_OUT;
+        return Err(Cause::Slice);
     }
-    0
+    Ok(())
 }
 
 // Cause 13 of two lengths.
-pub fn slices_cause(size: usize, one: usize, other: usize) -> u8
-    ensures { result ≡ slices_cause size one other }
+pub fn check_slices(size: usize, one: usize, other: usize) -> Result<(), Cause>
+    ensures { number_in result ≡ slices_cause size one other }
 {
-    or_else(slice_cause(size, one), slice_cause(size, other))
+    check_slice(size, one)?;
+    check_slice(size, other)
 }

@@ -17,7 +17,7 @@ use Rattle.setchain.proofs.Laws.Agreeing.{Agree, agree_sym, sound_agrees, reache
 use Rattle.setchain.proofs.Laws.Step.{reached_figure_lem}
 use Rattle.setchain.proofs.Laws.Tests.{any_false}
 use Rattle.scheme.specs.declared.Scheme.{Scheme}
-use Rattle.scheme.specs.declared.RowAnswer.{RowAnswer}
+use Rattle.scheme.specs.RowAnswer.{RowAnswer}
 use Rattle.scheme.specs.Accepted.{Accepted}
 use Rattle.scheme.specs.FirstCause.{◌when◌, or_else}
 use Rattle.scheme.specs.Cause.{outside, cause_of, class_cause}

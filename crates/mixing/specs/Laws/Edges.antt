@@ -4,7 +4,7 @@ use Rattle.std.proofs.Common.{ap, ◌∙◌, arith, get_or-take, length-take-le}
 use Rattle.setchain.specs.Sums.{at}
 use Rattle.setchain.specs.Tight.{tight_row}
 use Rattle.scheme.specs.declared.Scheme.{Scheme}
-use Rattle.scheme.specs.declared.RowAnswer.{RowAnswer}
+use Rattle.scheme.specs.RowAnswer.{RowAnswer}
 use Rattle.scheme.specs.Cause.{cause_of, class_cause}
 use Rattle.scheme.specs.Rows.{chain_of}
 use Rattle.scheme.specs.RowAnswer.{row_cause, row_refused, row_answer, row_at}

@@ -5,7 +5,7 @@ use Rattle.std.proofs.Common.{ap₂, sym, ◌∙◌, arith}
 use Rattle.scheme.specs.Access.{CELL_STRIDE, class_bands}
 use Rattle.setchain.specs.Sums.{only_if}
 use Rattle.scheme.specs.declared.Scheme.{Scheme}
-use Rattle.scheme.specs.declared.RowAnswer.{RowAnswer}
+use Rattle.scheme.specs.RowAnswer.{RowAnswer}
 use Rattle.scheme.specs.Tables.{tab}
 use Rattle.scheme.specs.Accepted.{Accepted}
 use Rattle.scheme.specs.FirstCause.{or_else}

@@ -10,7 +10,7 @@ use Rattle.setchain.specs.Tight.{sum_others, tight_row}
 use Rattle.setchain.proofs.Laws.Agreeing.{Agree}
 use Rattle.setchain.proofs.Laws.Tight.{others_and_own, tight_lower, tight_upper, tight_agrees}
 use Rattle.scheme.specs.declared.Scheme.{Scheme}
-use Rattle.scheme.specs.declared.RowAnswer.{RowAnswer}
+use Rattle.scheme.specs.RowAnswer.{RowAnswer}
 use Rattle.scheme.specs.Tables.{tab}
 use Rattle.scheme.specs.Accepted.{Accepted}
 use Rattle.scheme.specs.Cause.{cause_of, class_cause}

@@ -8,7 +8,7 @@ use Rattle.setchain.specs.Rows.{IntervalRow, lists_row}
 use Rattle.setchain.proofs.Laws.Sums.{only_if_true, only_if_false}
 use Rattle.setchain.proofs.Laws.Agreeing.{Agree}
 use Rattle.scheme.specs.declared.Scheme.{Scheme}
-use Rattle.scheme.specs.declared.RowAnswer.{RowAnswer}
+use Rattle.scheme.specs.RowAnswer.{RowAnswer}
 use Rattle.scheme.specs.Tables.{tab}
 use Rattle.scheme.specs.RowAnswer.{row_cause, row_refused, row_answered, row_by, interval_at, interval_answer}
 use Rattle.scheme.proofs.Laws.FirstCause.{declined, answered}
