@@ -1,10 +1,21 @@
 -- An opening book (document 02, item 7): "A book is 32 counts, one a class, each at most 1,000,000"; what lies past a book's end counts as 0.
-use Rattle.std.specs.Prelude.{ℕ, ◌+◌, Bool, cond, ◌||◌, List, [], ◌∷◌, eqb, ltb, replicate}
+use Rattle.std.specs.Prelude.{ℕ, ◌+◌, Bool, cond, ◌||◌, List, [], ◌∷◌, eqb, ltb, replicate, Result, Ok, Err}
+use Rattle.scheme.specs.declared.Cause.{Cause}
+use Rattle.scheme.specs.Number.{cause_number}
 use Rattle.setchain.specs.Sums.{at}
 use Rattle.setchain.specs.Tests.{any_below, all_below}
 use Rattle.scheme.specs.Tables.{tab}
 use Rattle.scheme.specs.FirstCause.{◌when◌, first_of}
-use Rattle.book_spec.specs.declared.JoinAnswer.{JoinAnswer}
+
+-- What joining two books answers: the number of the cause, or 0; and the joined book.
+pub record JoinAnswer : Type 0 where
+  pub number : ℕ
+  pub book : List ℕ
+
+-- The answer of a joined book, or of the cause for which there is none.
+abbrev pub join_answer_of : Result (List ℕ) Cause → JoinAnswer
+join_answer_of (Ok book) = record { number = 0; book = book }
+join_answer_of (Err cause) = record { number = cause_number cause; book = replicate 32 0 }
 
 -- One of the first n counts is above 1,000,000.
 unfoldable pub count_out : ℕ → List ℕ → Bool

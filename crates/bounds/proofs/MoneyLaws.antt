@@ -16,8 +16,7 @@ use Rattle.setchain.specs.Rounding.{rounded}
 use Rattle.setchain.specs.Years.{CENT, tenths}
 use Rattle.scheme.proofs.Laws.FirstCause.{answered, declined}
 use Rattle.order.proofs.Laws.Written.{Written}
-use Rattle.bounds_spec.specs.declared.Bounds.TheVariants.{Answered, Refused}
-use Rattle.bounds_spec.specs.Answers.{answer_by}
+use Rattle.bounds_spec.specs.Answers.{Answered, Refused, answer_by}
 use Rattle.bounds.specs.Years.{SeriesStored}
 use Rattle.bounds.specs.Money.{TenthsPost, in_cents, RoundMeansPost}
 

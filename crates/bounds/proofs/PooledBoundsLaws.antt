@@ -20,9 +20,8 @@ use Rattle.scheme.proofs.Laws.Tab.{as_tab}
 use Rattle.order.proofs.Laws.Written.{Written, written_more}
 use Rattle.book_spec.specs.Book.{book_cause}
 use Rattle.book_spec.proofs.Laws.{Pooled, pooled_book}
-use Rattle.bounds_spec.specs.declared.Bounds.{Bounds}
+use Rattle.bounds_spec.specs.Answers.{BoundsAnswer, answer_by}
 use Rattle.bounds_spec.specs.Causes.{share_cause, money_cause}
-use Rattle.bounds_spec.specs.Answers.{answer_by}
 use Rattle.bounds_spec.specs.Pooled.{Figure, pooled, figure_cause, pooled_cause, pooled_answer, pooled_lengths_cause, pooled_sheet_cause, pooled_shares, PooledPromise, PooledSheetPromise}
 use Rattle.bounds_spec.proofs.Laws.Pooled.{pooled_kept, pooled_sheet_kept, sheet_money, sheet_counts, sheet_slices_lem}
 use Rattle.bounds.specs.Series.{SharePayoffPost, SeriesPre, ClassFiguresPost}
@@ -59,7 +58,7 @@ module _ (s : Scheme) (book : List ℕ) (figure : Figure) (year : ℕ) {own n : 
       record { years = ready (own_none z); counts = pooled_book s.classes book (second_none own (book_cause s.classes book) (sym c ∙ z)); within = few }
 
   -- What it answers, where its figures are the definition's.
-  pooled_answer_lem : {low high : ℕ} {r : Bounds} → (own ≡ 0 → low ≡ pooled false s book figure year) → (own ≡ 0 → high ≡ pooled true s book figure year)
+  pooled_answer_lem : {low high : ℕ} {r : BoundsAnswer} → (own ≡ 0 → low ≡ pooled false s book figure year) → (own ≡ 0 → high ≡ pooled true s book figure year)
       → r ≡ answer_by n low high → (r ≡ pooled_answer s book figure year) × PooledPromise s book figure year r
   unfolding pooled_answer
   pooled_answer_lem lows highs b =
@@ -72,7 +71,7 @@ module _ (s : Scheme) (book : List ℕ) (class year : ℕ) {own n : ℕ} (e : ow
   pub pooled_share_ready : Fits w64 (year * 1) → n ≡ 0 → PooledPre s book 1 zeros payoff year
   pooled_share_ready counted = pooled_ready s book (Figure.share class) year e c (omega arith) (share_ready s class year e held counted)
 
-  pub pooled_share_answer : {r : Bounds} → r ≡ answer_by n (pooled_years false s book 1 zeros payoff year) (pooled_years true s book 1 zeros payoff year)
+  pub pooled_share_answer : {r : BoundsAnswer} → r ≡ answer_by n (pooled_years false s book 1 zeros payoff year) (pooled_years true s book 1 zeros payoff year)
       → (r ≡ pooled_answer s book (Figure.share class) year) × PooledPromise s book (Figure.share class) year r
   pooled_share_answer = pooled_answer_lem s book (Figure.share class) year e c (figure false) (figure true)
     where
@@ -85,7 +84,7 @@ module _ (s : Scheme) (book : List ℕ) (year : ℕ) {own n : ℕ} (e : own ≡ 
   pub pooled_mean_ready : Fits w64 (year * 1) → n ≡ 0 → PooledPre s book CENT zeros premiums year
   pooled_mean_ready counted = pooled_ready s book Figure.mean year e c (omega arith) (mean_ready s year e are counted)
 
-  pub pooled_mean_answer : {r : Bounds} → r ≡ answer_by n (pooled_years false s book CENT zeros premiums year) (pooled_years true s book CENT zeros premiums year)
+  pub pooled_mean_answer : {r : BoundsAnswer} → r ≡ answer_by n (pooled_years false s book CENT zeros premiums year) (pooled_years true s book CENT zeros premiums year)
       → (r ≡ pooled_answer s book Figure.mean year) × PooledPromise s book Figure.mean year r
   pooled_mean_answer =
       pooled_answer_lem s book Figure.mean year e c
@@ -94,7 +93,7 @@ module _ (s : Scheme) (book : List ℕ) (year : ℕ) {own n : ℕ} (e : own ≡ 
   pub pooled_total_ready : Fits w64 (year * 1) → n ≡ 0 → PooledPre s book CENT premiums zeros year
   pooled_total_ready counted = pooled_ready s book Figure.total year e c (omega arith) (total_ready s year e are counted)
 
-  pub pooled_total_answer : {r : Bounds} → r ≡ answer_by n (pooled_years false s book CENT premiums zeros year) (pooled_years true s book CENT premiums zeros year)
+  pub pooled_total_answer : {r : BoundsAnswer} → r ≡ answer_by n (pooled_years false s book CENT premiums zeros year) (pooled_years true s book CENT premiums zeros year)
       → (r ≡ pooled_answer s book Figure.total year) × PooledPromise s book Figure.total year r
   pooled_total_answer =
       pooled_answer_lem s book Figure.total year e c

@@ -18,9 +18,7 @@ use Rattle.scheme.specs.Rows.{chain_of}
 use Rattle.scheme.proofs.Laws.FirstCause.{first_none, second_none, test_none, by_cause}
 use Rattle.scheme.proofs.Laws.Cause.{outside_false}
 use Rattle.scheme.proofs.Laws.Judged.{accepted_cause}
-use Rattle.bounds_spec.specs.declared.Bounds.{Bounds}
-use Rattle.bounds_spec.specs.declared.Bounds.TheVariants.{Answered, Refused}
-use Rattle.bounds_spec.specs.Answers.{answer_by, start_of, share_answer, mean_answer, total_answer}
+use Rattle.bounds_spec.specs.Answers.{BoundsAnswer, Answered, Refused, answer_by, start_of, share_answer, mean_answer, total_answer}
 use Rattle.bounds_spec.specs.Promises.{SharePromise, MeanPromise, TotalPromise}
 use Rattle.bounds_spec.proofs.Laws.Kept.{share_kept, mean_kept, total_kept}
 use Rattle.bounds.specs.Series.{SharePayoffPost, start_figure, SeriesPre}
@@ -35,7 +33,7 @@ pub answer_same : {n m low high low' high' : ℕ} → n ≡ m → (n ≡ 0 → l
 answer_same e p q = by_cause e (λ z. ap₂ Answered (p z) (q z)) (ap Refused e)
 
 -- An answer keeps the promise that the definition's answer keeps.
-pub with_promise : (P : Bounds → Type 0) {a r : Bounds} → P a → r ≡ a → (r ≡ a) × P r
+pub with_promise : (P : BoundsAnswer → Type 0) {a r : BoundsAnswer} → P a → r ≡ a → (r ≡ a) × P r
 with_promise P kept e = (e, subst P (sym e) kept)
 
 -- The share of a class.
@@ -61,7 +59,7 @@ module _ (s : Scheme) (class year : ℕ) {n : ℕ} (e : n ≡ share_cause s clas
           counted = counted;
         }
 
-    pub share_answer_lem : {r : Bounds} → r ≡ answer_by n (start_figure false s zeros payoff year) (start_figure true s zeros payoff year)
+    pub share_answer_lem : {r : BoundsAnswer} → r ≡ answer_by n (start_figure false s zeros payoff year) (start_figure true s zeros payoff year)
         → (r ≡ share_answer s class year) × SharePromise s class year r
     unfolding share_answer
     share_answer_lem b =
@@ -85,7 +83,7 @@ module _ (s : Scheme) (year : ℕ) {n : ℕ} (e : n ≡ money_cause s year) wher
     pub mean_ready : Fits w64 (year * 1) → n ≡ 0 → SeriesPre s zeros premiums year 1
     mean_ready counted z = record { accepted = money_accepted z; fits = mean_fits s (money_accepted z) are year; apart = omega arith; counted = counted }
 
-    pub mean_answer_lem : {b r : Bounds} → b ≡ answer_by n (start_figure false s zeros premiums year) (start_figure true s zeros premiums year) → r ≡ in_cents b
+    pub mean_answer_lem : {b r : BoundsAnswer} → b ≡ answer_by n (start_figure false s zeros premiums year) (start_figure true s zeros premiums year) → r ≡ in_cents b
         → (r ≡ mean_answer s year) × MeanPromise s year r
     unfolding mean_answer
     mean_answer_lem b c =
@@ -96,7 +94,7 @@ module _ (s : Scheme) (year : ℕ) {n : ℕ} (e : n ≡ money_cause s year) wher
     total_ready counted z =
         record { accepted = money_accepted z; fits = total_fits s (money_accepted z) are year (year_inside z); apart = omega arith; counted = counted }
 
-    pub total_answer_lem : {b r : Bounds} → b ≡ answer_by n (start_figure false s premiums zeros year) (start_figure true s premiums zeros year) → r ≡ in_cents b
+    pub total_answer_lem : {b r : BoundsAnswer} → b ≡ answer_by n (start_figure false s premiums zeros year) (start_figure true s premiums zeros year) → r ≡ in_cents b
         → (r ≡ total_answer s year) × TotalPromise s year r
     unfolding total_answer
     total_answer_lem b c =

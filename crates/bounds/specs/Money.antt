@@ -3,15 +3,14 @@ use Rattle.std.specs.Prelude.{ℕ, ◌*◌, ◌≤◌, ◌<◌, ◌≡◌, Bool,
 use Rattle.setchain.specs.Sums.{at}
 use Rattle.setchain.specs.Rounding.{rounded}
 use Rattle.setchain.specs.Years.{CENT, tenths}
-use Rattle.bounds_spec.specs.declared.Bounds.{Bounds}
-use Rattle.bounds_spec.specs.declared.Bounds.TheVariants.{Answered, Refused}
+use Rattle.bounds_spec.specs.Answers.{BoundsAnswer, Answered, Refused}
 
 -- The premiums in tenths, in an array of 32.
 pub record TenthsPost (premiums out : List ℕ) : Type 0 where
   pub each : (i : ℕ) → i < 32 → at out i ≡ tenths (at premiums) i
 
 -- Low and high in cents.
-abbrev pub in_cents : Bounds → Bounds
+abbrev pub in_cents : BoundsAnswer → BoundsAnswer
 in_cents (Answered low high) = Answered (rounded false CENT low) (rounded true CENT high)
 in_cents (Refused number) = Refused number
 

@@ -14,7 +14,7 @@ use Rattle.scheme.specs.Tables.{tab}
 use Rattle.scheme.specs.Cause.{size_out, start_out, horizon_out, rule_out, band_out, sum_out, premium_out, cause_of}
 use Rattle.scheme.proofs.Examples.{scheme_a, single}
 use Rattle.book_spec.specs.Book.{count_out, no_chamber}
-use Rattle.bounds_spec.specs.declared.Bounds.TheVariants.{Answered, Refused}
+use Rattle.bounds_spec.specs.Answers.{Answered, Refused}
 use Rattle.bounds_spec.specs.Pooled.{Figure, pooled_answer, pooled_lengths_cause, pooled_sheet_cause, pooled_shares, exact_of, OneChamber}
 
 -- Two chambers in class 1 and one in class 2, with junk beyond; three and four. In year 2 class 1 has shares of .9425 to 1 and class 2 of .92 to .99 of class 1,

@@ -19,7 +19,7 @@ use Rattle.scheme.specs.declared.Scheme.{Scheme}
 use Rattle.scheme.specs.Access.{premium_at}
 use Rattle.scheme.specs.Rows.{chain_of}
 use Rattle.scheme.proofs.Examples.{scheme_a}
-use Rattle.bounds_spec.specs.declared.Bounds.TheVariants.{Answered}
+use Rattle.bounds_spec.specs.Answers.{Answered}
 use Rattle.bounds_spec.specs.Promises.{MoneyKept, start_mean}
 use Rattle.bounds_spec.specs.Pooled.{Figure, exact_figure, exact_of, PooledKept, PooledPromise}
 use Rattle.bounds_spec.proofs.Examples.{fixed_bands}

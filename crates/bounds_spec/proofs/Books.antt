@@ -24,11 +24,9 @@ use Rattle.scheme.proofs.Laws.Judged.{accepted_cause}
 use Rattle.scheme.proofs.Laws.Tab.{tab_eq}
 use Rattle.book_spec.specs.Book.{book_cause, joined_book, join_answer}
 use Rattle.book_spec.proofs.Laws.{Pooled, pooled_book, pooled_no_cause, join_book, doubled, double_cause, book_agrees}
-use Rattle.bounds_spec.specs.declared.Bounds.TheVariants.{Answered, Refused}
+use Rattle.bounds_spec.specs.Answers.{Answered, Refused, answer_by, start_of, share_answer, mean_answer, total_answer, sheet_cause, sheet_slice, figure_shares}
 use Rattle.bounds_spec.specs.Causes.{sheet_lengths_cause}
-use Rattle.bounds_spec.specs.Answers.{answer_by, start_of, share_answer, mean_answer, total_answer, sheet_cause, sheet_slice, figure_shares}
-use Rattle.bounds_spec.specs.Pooled.{Figure, units_of, class_figure, pooled, figure_cause, pooled_cause, pooled_answer, pooled_lengths_cause, pooled_sheet_cause, pooled_shares}
-use Rattle.bounds_spec.specs.Pooled.{exact_figure, exact_of, PooledKept, OneChamber}
+use Rattle.bounds_spec.specs.Pooled.{Figure, units_of, class_figure, pooled, figure_cause, pooled_cause, pooled_answer, pooled_lengths_cause, pooled_sheet_cause, pooled_shares, exact_figure, exact_of, PooledKept, OneChamber}
 use Rattle.bounds_spec.specs.Promises.{MoneyKept, start_mean, start_total}
 use Rattle.bounds_spec.proofs.Laws.Causes.{of_figure, of_money}
 use Rattle.bounds_spec.proofs.Laws.Pooled.{of_pooled, counts_of, class_proper, figure_proper, sheet_money, sheet_counts}

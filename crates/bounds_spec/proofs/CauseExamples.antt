@@ -4,8 +4,7 @@ use Rattle.setchain.specs.Sums.{sum_to}
 use Rattle.setchain.specs.Tests.{any_below}
 use Rattle.scheme.specs.Cause.{size_out, start_out, horizon_out, rule_out, band_out, sum_out, premium_out, cause_of}
 use Rattle.scheme.proofs.Examples.{scheme_a, single}
-use Rattle.bounds_spec.specs.declared.Bounds.TheVariants.{Answered, Refused}
-use Rattle.bounds_spec.specs.Answers.{number_of, low_of, high_of}
+use Rattle.bounds_spec.specs.Answers.{Answered, Refused, number_of, low_of, high_of}
 use Rattle.bounds_spec.specs.Causes.{share_cause, money_cause, sheet_lengths_cause, table_size, table_lengths_cause}
 
 -- A class above s, a year above the horizon, and both.

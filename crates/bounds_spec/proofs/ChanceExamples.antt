@@ -12,7 +12,7 @@ use Rattle.setchain.proofs.DistanceExamples.{HasValue}
 use Rattle.scheme.specs.declared.Scheme.{Scheme}
 use Rattle.scheme.specs.Cause.{size_out, start_out, horizon_out, rule_out, band_out, sum_out, premium_out, cause_of}
 use Rattle.scheme.proofs.Examples.{padded, scheme_a, single}
-use Rattle.bounds_spec.specs.declared.Bounds.TheVariants.{Answered, Refused}
+use Rattle.bounds_spec.specs.Answers.{Answered, Refused}
 use Rattle.bounds_spec.specs.Reached.{reached_answer, start_reached}
 
 -- One column, which leads from class 1 and from class 2 to class 1: whoever begins there never stands in class 2.

@@ -13,9 +13,8 @@ use Rattle.scheme.proofs.Laws.FirstCause.{answered, first_none, second_none, tes
 use Rattle.scheme.proofs.Laws.Cause.{class_fits}
 use Rattle.scheme.proofs.Laws.Judged.{accepted_cause}
 use Rattle.scheme.proofs.Laws.Sound.{accepted_sound}
-use Rattle.bounds_spec.specs.declared.Bounds.TheVariants.{Answered}
+use Rattle.bounds_spec.specs.Answers.{Answered, number_of, answer_by, start_of}
 use Rattle.bounds_spec.specs.Causes.{share_cause}
-use Rattle.bounds_spec.specs.Answers.{number_of, answer_by, start_of}
 use Rattle.bounds_spec.specs.Reached.{reached_answer}
 use Rattle.bounds_spec.proofs.Laws.Answered.{no_share_cause}
 use Rattle.bounds_spec.proofs.Laws.Causes.{of_share}

@@ -17,8 +17,7 @@ use Rattle.scheme.specs.Cause.{size_out, start_out, horizon_out, rule_out, band_
 use Rattle.scheme.specs.Rows.{chain_of}
 use Rattle.scheme.proofs.Laws.Judged.{accepted_cause}
 use Rattle.scheme.proofs.Laws.Sound.{accepted_sound}
-use Rattle.bounds_spec.specs.declared.Bounds.TheVariants.{Answered}
-use Rattle.bounds_spec.specs.Answers.{start_of}
+use Rattle.bounds_spec.specs.Answers.{Answered, start_of}
 use Rattle.bounds_spec.specs.Promises.{start_mean, MeanPromise}
 use Rattle.bounds_spec.proofs.Examples.{fixed_bands}
 

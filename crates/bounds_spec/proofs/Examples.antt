@@ -22,8 +22,7 @@ use Rattle.scheme.proofs.RowExamples.{RowAnswersA, row_answers_a}
 use Rattle.scheme.proofs.Laws.FirstCause.{answered, second_cause}
 use Rattle.scheme.proofs.Laws.Judged.{accepted_cause, cause_accepted}
 use Rattle.scheme.proofs.Laws.Sound.{accepted_sound}
-use Rattle.bounds_spec.specs.declared.Bounds.TheVariants.{Answered, Refused}
-use Rattle.bounds_spec.specs.Answers.{start_of, share_answer, mean_answer, total_answer, figure_shares, low_shares, high_shares}
+use Rattle.bounds_spec.specs.Answers.{Answered, Refused, start_of, share_answer, mean_answer, total_answer, figure_shares, low_shares, high_shares}
 use Rattle.bounds_spec.specs.Table.{table_entry, figure_table, low_table, high_table}
 use Rattle.bounds_spec.specs.Causes.{share_cause, money_cause}
 use Rattle.bounds_spec.proofs.Laws.Answered.{no_year_cause, no_share_cause}

@@ -12,9 +12,8 @@ use Rattle.scheme.specs.Stored.{cleared}
 use Rattle.scheme.specs.Values.{SameValues}
 use Rattle.scheme.proofs.Laws.FirstCause.{by_cause}
 use Rattle.scheme.proofs.Laws.Values.{SameCause, Alike, same, alike_values, alike_same, cleared_alike}
-use Rattle.bounds_spec.specs.declared.Bounds.TheVariants.{Answered, Refused}
+use Rattle.bounds_spec.specs.Answers.{Answered, Refused, answer_by, start_of, share_answer, mean_answer, total_answer, sheet_cause, sheet_slice, figure_shares, low_shares, high_shares}
 use Rattle.bounds_spec.specs.Causes.{share_cause, money_cause, sheet_lengths_cause, table_lengths_cause}
-use Rattle.bounds_spec.specs.Answers.{answer_by, start_of, share_answer, mean_answer, total_answer, sheet_cause, sheet_slice, figure_shares, low_shares, high_shares}
 use Rattle.bounds_spec.specs.Table.{figure_table, low_table, high_table, table_cause}
 use Rattle.bounds_spec.specs.Reached.{reached_answer}
 use Rattle.bounds_spec.specs.Pooled.{Figure, pooled, pooled_cause, pooled_answer, pooled_sheet_cause, pooled_shares}

@@ -11,8 +11,7 @@ use Rattle.scheme.specs.Cause.{size_out, start_out, horizon_out, rule_out, band_
 use Rattle.scheme.proofs.Examples.{scheme_a, rows_a}
 use Rattle.scheme.proofs.TrimmedExamples.{narrow_a, unchanged_a, trimmed_a}
 use Rattle.scheme.proofs.Laws.Judged.{accepted_cause}
-use Rattle.bounds_spec.specs.declared.Bounds.TheVariants.{Answered, Refused}
-use Rattle.bounds_spec.specs.Answers.{share_answer, mean_answer, total_answer}
+use Rattle.bounds_spec.specs.Answers.{Answered, Refused, share_answer, mean_answer, total_answer}
 use Rattle.bounds_spec.specs.Reached.{reached_answer}
 use Rattle.bounds_spec.specs.Table.{table_entry, figure_table, low_table, high_table}
 use Rattle.bounds_spec.proofs.Inward.{BoundsInward, SlicesInward, Slices, AnswersInward, answers_inward}

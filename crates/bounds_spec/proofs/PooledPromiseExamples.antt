@@ -13,7 +13,7 @@ use Rattle.scheme.specs.Rows.{chain_of}
 use Rattle.scheme.proofs.Examples.{scheme_a}
 use Rattle.scheme.proofs.Laws.Judged.{accepted_cause}
 use Rattle.book_spec.specs.Book.{count_out, no_chamber}
-use Rattle.bounds_spec.specs.declared.Bounds.TheVariants.{Answered}
+use Rattle.bounds_spec.specs.Answers.{Answered}
 use Rattle.bounds_spec.specs.Pooled.{Figure, pooled_cause, exact_of, PooledKept, PooledPromise, PooledSheetPromise}
 use Rattle.bounds_spec.proofs.BookExamples.{pooled_a}
 use Rattle.bounds_spec.proofs.Laws.Pooled.{of_pooled, counts_of, figure_proper, pooled_kept}

@@ -11,7 +11,7 @@ use Rattle.scheme.specs.Rows.{chain_of}
 use Rattle.scheme.proofs.Examples.{scheme_a, rows_a}
 use Rattle.scheme.proofs.Laws.Judged.{accepted_cause}
 use Rattle.scheme.proofs.Laws.Sound.{accepted_sound}
-use Rattle.bounds_spec.specs.declared.Bounds.TheVariants.{Answered}
+use Rattle.bounds_spec.specs.Answers.{Answered}
 use Rattle.bounds_spec.specs.Promises.{ShareKept, MoneyKept, start_share, start_mean, start_total, SharePromise, MeanPromise, TotalPromise, SheetPromise, TableKept}
 use Rattle.bounds_spec.specs.Table.{high_table}
 use Rattle.bounds_spec.proofs.Examples.{document_examples}

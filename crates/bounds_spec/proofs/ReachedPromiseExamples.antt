@@ -7,7 +7,7 @@ use Rattle.setchain.proofs.Kept.{Pinned, pinned_no_further}
 use Rattle.setchain.proofs.Laws.Reached.{reached_follows}
 use Rattle.scheme.specs.Rows.{chain_of}
 use Rattle.scheme.proofs.Examples.{scheme_a}
-use Rattle.bounds_spec.specs.declared.Bounds.TheVariants.{Answered, Refused}
+use Rattle.bounds_spec.specs.Answers.{Answered, Refused}
 use Rattle.bounds_spec.specs.Promises.{ShareKept}
 use Rattle.bounds_spec.specs.Reached.{start_reached, ReachedPromise}
 use Rattle.bounds_spec.proofs.ChanceExamples.{answers_reached}

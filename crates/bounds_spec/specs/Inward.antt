@@ -5,14 +5,13 @@ use Rattle.std.specs.Prelude.{◌≡◌, List}
 use Rattle.std.proofs.Math.Bool.{true, false}
 use Rattle.setchain.specs.Sums.{at}
 use Rattle.scheme.specs.declared.Scheme.{Scheme}
-use Rattle.bounds_spec.specs.declared.Bounds.{Bounds}
-use Rattle.bounds_spec.specs.Answers.{number_of, low_of, high_of, share_answer, mean_answer, total_answer, sheet_cause, sheet_slice, low_shares, high_shares}
+use Rattle.bounds_spec.specs.Answers.{BoundsAnswer, number_of, low_of, high_of, share_answer, mean_answer, total_answer, sheet_cause, sheet_slice, low_shares, high_shares}
 use Rattle.bounds_spec.specs.Table.{low_table, high_table, table_cause}
 use Rattle.bounds_spec.specs.Pooled.{Figure, pooled, pooled_answer, pooled_sheet_cause, pooled_shares}
 use Rattle.bounds_spec.specs.Reached.{reached_answer}
 
 -- The same call is answered, its low no smaller and its high no larger.
-pub record BoundsInward (wide narrow : Bounds) : Type 0 where
+pub record BoundsInward (wide narrow : BoundsAnswer) : Type 0 where
   pub number : number_of wide ≡ number_of narrow
   pub low : low_of wide ≤ low_of narrow
   pub high : high_of narrow ≤ high_of wide

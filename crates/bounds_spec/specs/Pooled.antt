@@ -14,9 +14,8 @@ use Rattle.scheme.specs.FirstCause.{first_of}
 use Rattle.scheme.specs.Cause.{slices_cause}
 use Rattle.scheme.specs.Rows.{chain_of}
 use Rattle.book_spec.specs.Book.{book_cause}
-use Rattle.bounds_spec.specs.declared.Bounds.{Bounds}
+use Rattle.bounds_spec.specs.Answers.{BoundsAnswer, number_of, low_of, high_of, answer_by, start_of}
 use Rattle.bounds_spec.specs.Causes.{share_cause, money_cause}
-use Rattle.bounds_spec.specs.Answers.{number_of, low_of, high_of, answer_by, start_of}
 
 -- What is asked of a year: the share of a class, the mean premium, or the total of as many premiums as there are years.
 pub data Figure : Type 0 where
@@ -55,7 +54,7 @@ abbrev pub pooled_cause : Scheme → (book : List ℕ) → Figure → (year : �
 pooled_cause s book figure year = first_of (figure_cause s figure year ∷ book_cause s.classes book ∷ [])
 
 -- The pooled figure of a year, low and high.
-unfoldable pub pooled_answer : Scheme → (book : List ℕ) → Figure → (year : ℕ) → Bounds
+unfoldable pub pooled_answer : Scheme → (book : List ℕ) → Figure → (year : ℕ) → BoundsAnswer
 pooled_answer s book figure year = answer_by (pooled_cause s book figure year) (pooled false s book figure year) (pooled true s book figure year)
 
 -- The cause of a pooled share sheet into slices of two lengths: 3, 5 to 10, 12, 18, 19, then 13.
@@ -91,7 +90,7 @@ abbrev pub PooledKept : Scheme → (book : List ℕ) → Figure → (t low high 
 PooledKept s book figure t low high = KeptBy (chain_of s) t (nearness_of figure t) (exact_of s book figure) low high
 
 -- Of the low and high answered for a pooled figure.
-abbrev pub PooledPromise : Scheme → (book : List ℕ) → Figure → (year : ℕ) → Bounds → Type 0
+abbrev pub PooledPromise : Scheme → (book : List ℕ) → Figure → (year : ℕ) → BoundsAnswer → Type 0
 PooledPromise s book figure year r = number_of r ≡ 0 → PooledKept s book figure year (low_of r) (high_of r)
 
 -- Of the numbers in the two slices of a pooled share sheet, for each class.

@@ -6,8 +6,7 @@ use Rattle.setchain.specs.Promise.{share_in_parts, NoFurther, Nearer, cent_and_t
 use Rattle.scheme.specs.declared.Scheme.{Scheme}
 use Rattle.scheme.specs.Access.{premium_at}
 use Rattle.scheme.specs.Rows.{chain_of}
-use Rattle.bounds_spec.specs.declared.Bounds.{Bounds}
-use Rattle.bounds_spec.specs.Answers.{number_of, low_of, high_of, start_of}
+use Rattle.bounds_spec.specs.Answers.{BoundsAnswer, number_of, low_of, high_of, start_of}
 use Rattle.bounds_spec.specs.Table.{place_of}
 use Rattle.bounds_spec.specs.Causes.{total_place}
 
@@ -33,15 +32,15 @@ abbrev pub start_total : Scheme → List Matrix → Fraction
 start_total s ps = exact_total s.classes (premium_at s) ps (start_of s)
 
 -- Of the low and high answered for the share of a class.
-abbrev pub SharePromise : Scheme → ℕ → ℕ → Bounds → Type 0
+abbrev pub SharePromise : Scheme → ℕ → ℕ → BoundsAnswer → Type 0
 SharePromise s class year r = number_of r ≡ 0 → ShareKept s year (start_share s (class - 1)) (low_of r) (high_of r)
 
 -- Of the low and high answered for the mean premium of a year.
-abbrev pub MeanPromise : Scheme → ℕ → Bounds → Type 0
+abbrev pub MeanPromise : Scheme → ℕ → BoundsAnswer → Type 0
 MeanPromise s year r = number_of r ≡ 0 → MoneyKept s year (start_mean s) (low_of r) (high_of r)
 
 -- Of the low and high answered for the total of a year's number of premiums.
-abbrev pub TotalPromise : Scheme → ℕ → Bounds → Type 0
+abbrev pub TotalPromise : Scheme → ℕ → BoundsAnswer → Type 0
 TotalPromise s year r = number_of r ≡ 0 → MoneyKept s year (start_total s) (low_of r) (high_of r)
 
 -- Of the numbers in the two slices of a share sheet, for each class.

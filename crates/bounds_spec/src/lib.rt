@@ -1,9 +1,9 @@
 // What a call for bounds answers. The definitions of all answers and what they promise stand in specs/, the proof that they keep it in proofs/.
 #![tactic(auto)]
 
-// What a call for bounds answers: low and high, or the number of the cause for which it is declined.
+// The bounds of a figure: the lowest and the highest that any choice brings.
 #[derive(Clone, Copy)]
-pub enum Bounds {
-    Answered { low: u64, high: u64 },
-    Refused(u8),
+pub struct Bounds {
+    pub low: u64,
+    pub high: u64,
 }

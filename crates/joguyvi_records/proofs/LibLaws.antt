@@ -9,16 +9,14 @@ use native.Mathlib.Omega.{arith}
 use Rattle.scheme.specs.declared.Scheme.{Scheme}
 use Rattle.scheme.specs.FirstCause.{◌when◌, or_else}
 use Rattle.scheme.proofs.Laws.FirstCause.{first_none, answered, cause_first, cause_second, cond_true, cond_false}
-use Rattle.record_spec.specs.declared.ReadAnswer.{ReadAnswer}
+use Rattle.record_spec.specs.Read.{ReadAnswer, read_answer}
 use Rattle.record_spec.specs.Layout.{other_version, version_in, scheme_in}
-use Rattle.record_spec.specs.Read.{read_answer}
 use Rattle.record_spec.proofs.Laws.Read.{read_passed, read_in}
 use Rattle.record_spec.specs.Write.{write_number, record_length, write_cause, write_answer, write_leaves}
 use Rattle.big_endian_spec.specs.Numbers.{Bytes}
 use Rattle.record_write.specs.Agreement.{rewritten_length, copied, read_again}
 use Rattle.record_write.specs.Laws.Write.{write_clear, answer_number, answer_value}
-use Rattle.ready_spec.specs.declared.ReadyAnswer.{ReadyAnswer}
-use Rattle.ready_spec.specs.Answer.{ready_answer}
+use Rattle.ready_spec.specs.Answer.{ReadyAnswer, ready_answer}
 use Rattle.joguyvi_spec.specs.Buffers.{buffer_cause}
 use Rattle.joguyvi_spec.proofs.Laws.Buffers.{unfilled}
 use Rattle.joguyvi_spec.proofs.Laws.Causes.{stopped_number, passed_number}

@@ -8,20 +8,17 @@ use native.Mathlib.Omega.{arith}
 use native.Mathlib.Decide.{ℕ_discrete}
 use lib.ListN.{length, take, drop, length-drop}
 use lib.Seq.{length-take-le}
-use Rattle.scheme.specs.RowAnswer.{RowAnswer}
+use Rattle.scheme.specs.RowAnswer.{RowAnswer, row_answer}
 use Rattle.scheme.specs.FirstCause.{or_else}
 use Rattle.scheme.specs.Cause.{outside}
 use Rattle.scheme.specs.Stored.{scheme_of}
-use Rattle.scheme.specs.RowAnswer.{row_answer}
 use Rattle.scheme.proofs.Laws.FirstCause.{first_none, second_cause, declined, answered, cause_first, cause_second, by_cause}
-use Rattle.record_spec.specs.declared.ReadAnswer.{ReadAnswer}
+use Rattle.record_spec.specs.Read.{ReadAnswer, read_cause, read_answer}
 use Rattle.record_spec.specs.Layout.{layout_in, scheme_in, row_place, classes_in, columns_in}
-use Rattle.record_spec.specs.Read.{read_cause, read_answer}
 use Rattle.record_spec.specs.RuleRow.{rule_row_cause, rule_row}
 use Rattle.record_spec.proofs.Laws.Read.{read_in}
 use Rattle.record_parts.specs.Laws.RuleRow.{row_read, row_framed, row_within}
-use Rattle.mixing_spec.specs.declared.MixingAnswer.{MixingAnswer}
-use Rattle.mixing_spec.specs.MixingAnswer.{first_count, mixing_number, mixing_answer}
+use Rattle.mixing_spec.specs.MixingAnswer.{MixingAnswer, first_count, mixing_number, mixing_answer}
 use Rattle.mixing_spec.proofs.Theorems.{answer_first}
 use Rattle.joguyvi_spec.specs.Buffers.{buffer_cause}
 use Rattle.joguyvi_spec.proofs.Laws.Buffers.{unfilled}

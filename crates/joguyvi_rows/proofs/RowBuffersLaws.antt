@@ -13,7 +13,7 @@ use Rattle.big_endian_spec.specs.Numbers.{part_put}
 use Rattle.big_endian_spec.proofs.Laws.{part_held}
 use Rattle.record.specs.Laws.Lists.{sets_front}
 use Rattle.joguyvi_spec.specs.Buffers.{buffer_cause}
-use Rattle.mixing_spec.specs.declared.MixingAnswer.{MixingAnswer}
+use Rattle.mixing_spec.specs.MixingAnswer.{MixingAnswer}
 use Rattle.joguyvi_spec.proofs.Laws.Buffers.{buffer_out, buffer_fits, buffer_size, thirteen, unfilled, one}
 use Rattle.joguyvi_spec.specs.Rows.{part_number, PartPost}
 use Rattle.joguyvi_spec.specs.Mixing.{put_count_number, PutCountPost}

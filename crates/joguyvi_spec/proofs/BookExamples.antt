@@ -15,7 +15,7 @@ use Rattle.record_spec.specs.Layout.{layout_of}
 use Rattle.record_spec.specs.Read.{frame_cause}
 use Rattle.record_spec.proofs.Examples.{example_a, scheme_a_lem}
 use Rattle.book_spec.specs.Book.{count_out, no_chamber, joined_book, join_cause, join_answer}
-use Rattle.bounds_spec.specs.declared.Bounds.TheVariants.{Answered}
+use Rattle.bounds_spec.specs.Answers.{Answered}
 use Rattle.bounds_spec.specs.Pooled.{Figure, pooled_answer, pooled_sheet_cause, pooled_shares, PooledKept}
 use Rattle.bounds_spec.proofs.PooledPromiseExamples.{forbidden_pooled}
 use Rattle.bounds_spec.proofs.Laws.Pooled.{pooled_kept, pooled_sheet_kept}

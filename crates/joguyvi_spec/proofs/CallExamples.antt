@@ -27,9 +27,7 @@ use Rattle.step_spec.specs.StepAnswer.{payoff_out}
 use Rattle.step_spec.proofs.Examples.{step_answers}
 use Rattle.setchain.specs.Mixing.{path}
 use Rattle.mixing_spec.specs.MixingAnswer.{mixes_scheme, first_count}
-use Rattle.bounds_spec.specs.declared.Bounds.{Bounds}
-use Rattle.bounds_spec.specs.declared.Bounds.TheVariants.{Answered}
-use Rattle.bounds_spec.specs.Answers.{sheet_cause, low_shares, high_shares, share_answer, mean_answer, total_answer}
+use Rattle.bounds_spec.specs.Answers.{BoundsAnswer, Answered, sheet_cause, low_shares, high_shares, share_answer, mean_answer, total_answer}
 use Rattle.bounds_spec.specs.Promises.{ShareKept, MoneyKept, start_share, start_mean, start_total, SheetPromise}
 use Rattle.bounds_spec.proofs.Examples.{document_examples, sheets_a}
 use Rattle.bounds_spec.proofs.PromiseExamples.{forbidden}
@@ -203,7 +201,7 @@ sheet_calls = (
 )
 
 -- Low and high of Example A's record in a buffer of 2 numbers, from those of its scheme.
-put_a : (query : Scheme → Bounds) {low high : ℕ} → query in_a ≡ Answered low high → RecordBoundsPost query example_a two 0 (low ∷ high ∷ [])
+put_a : (query : Scheme → BoundsAnswer) {low high : ℕ} → query in_a ≡ Answered low high → RecordBoundsPost query example_a two 0 (low ∷ high ∷ [])
 unfolding put_number
 put_a query e = record { answer = sym (after_a _ ∙ ap (λ b. put_number b two) e); filled = sym (ap low_and_high e) }
 

@@ -14,8 +14,7 @@ use Rattle.big_endian_spec.specs.Numbers.{be_at}
 use Rattle.record_spec.specs.Layout.{layout_of, scheme_in}
 use Rattle.record_spec.specs.Read.{frame_cause, read_cause}
 use Rattle.record_spec.proofs.Examples.{example_a, read_a}
-use Rattle.scheme.specs.RowAnswer.{RowAnswer}
-use Rattle.scheme.specs.RowAnswer.{row_answered}
+use Rattle.scheme.specs.RowAnswer.{RowAnswer, row_answered}
 use Rattle.scheme.proofs.RowExamples.{answer_of}
 use Rattle.record_spec.specs.Write.{write_answer}
 use Rattle.ready_spec.specs.Scales.{scale1}
@@ -25,9 +24,7 @@ use Rattle.step_spec.specs.StepAnswer.{payoff_out}
 use Rattle.setchain.specs.Mixing.{path}
 use Rattle.book_spec.specs.Book.{count_out, no_chamber}
 use Rattle.mixing_spec.specs.MixingAnswer.{mixes_scheme, first_count}
-use Rattle.bounds_spec.specs.declared.Bounds.{Bounds}
-use Rattle.bounds_spec.specs.declared.Bounds.TheVariants.{Answered, Refused}
-use Rattle.bounds_spec.specs.Answers.{sheet_cause}
+use Rattle.bounds_spec.specs.Answers.{BoundsAnswer, Answered, Refused, sheet_cause}
 use Rattle.bounds_spec.specs.Pooled.{pooled_sheet_cause}
 use Rattle.sheet_spec.specs.Text.{digits_within}
 use Rattle.sheet_spec.specs.Sheet.{refused_line, sheet_text}
@@ -72,7 +69,7 @@ unfolding layout_of frame_cause be_at scheme_of up_to tab cause_of size_out star
 checks = (read_a, refl, refl)
 
 -- Class 1's share in year 2 of Example A.
-abbrev pub share_a : Bounds
+abbrev pub share_a : BoundsAnswer
 share_a = Answered 920000000 990000000
 
 -- Low, then high; a buffer of two numbers fits, and one of three is cause 13, after the cause of the query.

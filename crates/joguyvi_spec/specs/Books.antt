@@ -4,17 +4,14 @@ use Rattle.scheme.specs.FirstCause.{first_of}
 use Rattle.scheme.specs.Cause.{slices_cause}
 use Rattle.record_spec.specs.Layout.{scheme_in}
 use Rattle.record_spec.specs.Read.{read_cause}
-use Rattle.book_spec.specs.declared.JoinAnswer.{JoinAnswer}
-use Rattle.book_spec.specs.Book.{join_answer}
-use Rattle.bounds_spec.specs.declared.Bounds.{Bounds}
-use Rattle.bounds_spec.specs.declared.Bounds.TheVariants.{Answered, Refused}
-use Rattle.bounds_spec.specs.Answers.{answer_by}
+use Rattle.book_spec.specs.Book.{JoinAnswer, join_answer}
+use Rattle.bounds_spec.specs.Answers.{BoundsAnswer, Answered, Refused, answer_by}
 use Rattle.bounds_spec.specs.Pooled.{Figure, pooled_answer, pooled_sheet_cause, pooled_shares, PooledKept, PooledSheetPromise}
 use Rattle.joguyvi_spec.specs.Buffers.{first32, buffer_cause, filled_where, BufferPost}
 use Rattle.joguyvi_spec.specs.Figures.{BoundsCall}
 
 -- An answer over a lent book: 13 where the book is not of 32 counts, tested after the answer's own causes.
-abbrev pub lent_answer : (book : List ℕ) → Bounds → Bounds
+abbrev pub lent_answer : (book : List ℕ) → BoundsAnswer → BoundsAnswer
 lent_answer book (Answered low high) = answer_by (buffer_cause 32 book) low high
 lent_answer book (Refused number) = Refused number
 

@@ -3,8 +3,7 @@ use Rattle.std.specs.Prelude.{ℕ, ◌≡◌, List, [], ◌∷◌}
 use Rattle.scheme.specs.FirstCause.{first_of}
 use Rattle.record_spec.specs.Layout.{scheme_in}
 use Rattle.record_spec.specs.Read.{read_cause}
-use Rattle.mixing_spec.specs.declared.MixingAnswer.{MixingAnswer}
-use Rattle.mixing_spec.specs.MixingAnswer.{first_count, mixing_number}
+use Rattle.mixing_spec.specs.MixingAnswer.{MixingAnswer, first_count, mixing_number}
 use Rattle.joguyvi_spec.specs.Buffers.{buffer_cause, filled_where, BufferPost}
 
 -- A count into a buffer: its cause, then 13 where the buffer is not of 1 number.

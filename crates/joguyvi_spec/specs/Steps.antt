@@ -6,8 +6,7 @@ use Rattle.scheme.specs.FirstCause.{first_of}
 use Rattle.record_spec.specs.Layout.{scheme_in}
 use Rattle.record_spec.specs.Read.{read_cause}
 use Rattle.setchain.specs.Sums.{at}
-use Rattle.step_spec.specs.declared.StepAnswer.{StepAnswer}
-use Rattle.step_spec.specs.StepAnswer.{step_cause, class_row}
+use Rattle.step_spec.specs.StepAnswer.{StepAnswer, step_cause, class_row}
 use Rattle.joguyvi_spec.specs.Buffers.{first32, buffer_cause, filled_where, BuffersPost}
 
 -- Cause 13: a payoff not of 32 numbers, a buffer for the figure not of 1, or one for the row not of 32.

@@ -7,12 +7,10 @@ use mathlib.Core.List.{List}
 use lib.ListN.{length}
 use Rattle.scheme.specs.FirstCause.{or_else}
 use Rattle.scheme.proofs.Laws.FirstCause.{first_none, second_none}
-use Rattle.record_spec.specs.declared.ReadAnswer.{ReadAnswer}
+use Rattle.record_spec.specs.Read.{ReadAnswer, read_answer}
 use Rattle.record_spec.specs.Layout.{scheme_in}
-use Rattle.record_spec.specs.Read.{read_answer}
 use Rattle.record_spec.proofs.Laws.Read.{read_in}
-use Rattle.step_spec.specs.declared.StepAnswer.{StepAnswer}
-use Rattle.step_spec.specs.StepAnswer.{StepAnswered}
+use Rattle.step_spec.specs.StepAnswer.{StepAnswer, StepAnswered}
 use Rattle.joguyvi_spec.specs.Buffers.{buffer_cause, first32}
 use Rattle.joguyvi_spec.specs.Steps.{step_buffers, StepBuffersPost, StepCall}
 use Rattle.joguyvi_spec.proofs.Laws.Buffers.{buffer_size, unfilled}

@@ -14,15 +14,11 @@ use Rattle.scheme.proofs.Laws.FirstCause.{second_none, first_more}
 use Rattle.scheme.proofs.Laws.Judged.{accepted_cause}
 use Rattle.scheme.proofs.Laws.Tab.{as_tab}
 use Rattle.scheme.proofs.Laws.Filled.{Filled, fill_all}
-use Rattle.record_spec.specs.declared.ReadAnswer.{ReadAnswer}
+use Rattle.record_spec.specs.Read.{ReadAnswer, read_answer}
 use Rattle.record_spec.specs.Layout.{scheme_in}
-use Rattle.record_spec.specs.Read.{read_answer}
 use Rattle.record_spec.proofs.Laws.Read.{read_in}
-use Rattle.book_spec.specs.declared.JoinAnswer.{JoinAnswer}
-use Rattle.book_spec.specs.Book.{join_answer}
-use Rattle.bounds_spec.specs.declared.Bounds.{Bounds}
-use Rattle.bounds_spec.specs.declared.Bounds.TheVariants.{Answered, Refused}
-use Rattle.bounds_spec.specs.Answers.{answer_by, sheet_slice}
+use Rattle.book_spec.specs.Book.{JoinAnswer, join_answer}
+use Rattle.bounds_spec.specs.Answers.{BoundsAnswer, Answered, Refused, answer_by, sheet_slice}
 use Rattle.bounds_spec.specs.Pooled.{Figure, pooled_answer, pooled_sheet_cause, pooled_shares, PooledKept, PooledPromise, PooledSheetPromise}
 use Rattle.bounds_spec.proofs.Laws.Pooled.{pooled_kept}
 use Rattle.joguyvi_spec.specs.Buffers.{first32, buffer_cause, BufferPost}
@@ -48,7 +44,7 @@ module _ (book : List ℕ) (low high : ℕ) where
   lent_fits e = ap (λ n. answer_by n low high) (sym (buffer_fits 32 book e))
 
 -- A pooled answer over the 32 counts of a lent book, with its promise.
-pub pooled_lent : (s : Scheme) (book : List ℕ) (figure : Figure) (year : ℕ) {counts : List ℕ} {p b : Bounds} → counts ≡ first32 book
+pub pooled_lent : (s : Scheme) (book : List ℕ) (figure : Figure) (year : ℕ) {counts : List ℕ} {p b : BoundsAnswer} → counts ≡ first32 book
     → (p ≡ pooled_answer s counts figure year) × PooledPromise s counts figure year p → b ≡ lent_answer book p
     → (b ≡ lent_answer book (pooled_answer s (first32 book) figure year)) × BoundsPromise (PooledKept s (first32 book) figure year) b
 pooled_lent s book figure year {counts} {p} {b} e answer lent = (

@@ -5,8 +5,7 @@ use mathlib.Core.Path.{◌≡◌, refl, sym, ◌∙◌}
 use mathlib.Core.List.{List, [], ◌∷◌}
 use native.Mathlib.Omega.{arith}
 use lib.ListN.{length, set}
-use Rattle.bounds_spec.specs.declared.Bounds.{Bounds}
-use Rattle.bounds_spec.specs.Answers.{number_of, low_of, high_of}
+use Rattle.bounds_spec.specs.Answers.{BoundsAnswer, number_of, low_of, high_of}
 use Rattle.joguyvi_spec.specs.Buffers.{buffer_cause}
 use Rattle.joguyvi_spec.specs.Figures.{put_number, low_and_high, BoundsPost}
 use Rattle.joguyvi_spec.proofs.Laws.Buffers.{buffer_out, buffer_fits, thirteen, unfilled}
@@ -20,7 +19,7 @@ two (x ∷ y ∷ []) a b e = refl
 two (x ∷ y ∷ z ∷ l) a b e = absurd (omega arith)
 
 -- With a cause, into a buffer of another length, and into one of 2.
-module _ (b : Bounds) (out : List ℕ) {n : ℕ} (is : n ≡ number_of b) where
+module _ (b : BoundsAnswer) (out : List ℕ) {n : ℕ} (is : n ≡ number_of b) where
   pub bounds_refused : (n ≡ 0 → ⊥) → BoundsPost b out n out
   unfolding put_number
   bounds_refused some = record { answer = cause_first (buffer_cause 2 out) is some; filled = unfilled (low_and_high b) out some }

@@ -7,14 +7,11 @@ use mathlib.Core.List.{List, ◌++◌}
 use lib.Dec.{ltb}
 use lib.ListN.{length, drop}
 use Rattle.scheme.specs.declared.Scheme.{Scheme}
-use Rattle.record_spec.specs.declared.ReadAnswer.{ReadAnswer}
-use Rattle.record_spec.specs.declared.WriteAnswer.TheVariants.{Written, Declined}
+use Rattle.record_spec.specs.Read.{ReadAnswer, read_answer}
+use Rattle.record_spec.specs.Write.{Written, Declined, write_number, written_length}
 use Rattle.record_spec.specs.Layout.{scheme_in}
-use Rattle.record_spec.specs.Read.{read_answer}
-use Rattle.record_spec.specs.Write.{write_number, written_length}
 use Rattle.record_spec.proofs.Laws.Read.{read_in}
-use Rattle.bounds_spec.specs.declared.Bounds.{Bounds}
-use Rattle.bounds_spec.specs.Answers.{sheet_cause, sheet_slice, low_shares, high_shares}
+use Rattle.bounds_spec.specs.Answers.{BoundsAnswer, sheet_cause, sheet_slice, low_shares, high_shares}
 use Rattle.bounds_spec.specs.Promises.{SheetPromise}
 use Rattle.sheet_spec.specs.Sheet.{sheet_text}
 use Rattle.sheet_spec.specs.Answer.{space_for, sheet_answer, sheet_leaves}
@@ -27,11 +24,11 @@ use Rattle.joguyvi_spec.proofs.Laws.Figures.{BoundsPromise, bounds_call}
 use Rattle.joguyvi_spec.proofs.Laws.Texts.{TextPost}
 
 -- Low and high of a record, as a query answers them for its scheme, with what is promised of them.
-module _ {query : Scheme → Bounds} {kept : Scheme → (low high : ℕ) → Type 0} (bytes out : List ℕ) {a : ReadAnswer} (is : a ≡ read_answer bytes) where
+module _ {query : Scheme → BoundsAnswer} {kept : Scheme → (low high : ℕ) → Type 0} (bytes out : List ℕ) {a : ReadAnswer} (is : a ≡ read_answer bytes) where
   pub bounds_stopped : (a.number ≡ 0 → ⊥) → BoundsCall query kept bytes out a.number out
   bounds_stopped some = record { answer = stopped_number bytes is _ some; figures = unfilled _ out some; promise = λ z. absurd (some z) }
 
-  pub bounds_passed : {b : Bounds} {n : ℕ} {out' : List ℕ} → a.number ≡ 0 → (b ≡ query a.scheme) × BoundsPromise (kept a.scheme) b → BoundsPost b out n out'
+  pub bounds_passed : {b : BoundsAnswer} {n : ℕ} {out' : List ℕ} → a.number ≡ 0 → (b ≡ query a.scheme) × BoundsPromise (kept a.scheme) b → BoundsPost b out n out'
       → BoundsCall query kept bytes out n out'
   bounds_passed {b} {n} {out'} none answered put =
       let s = scheme_in bytes in

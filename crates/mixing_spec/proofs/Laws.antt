@@ -6,8 +6,7 @@ use Rattle.scheme.specs.declared.Scheme.{Scheme}
 use Rattle.scheme.specs.Cause.{cause_of}
 use Rattle.scheme.specs.FirstCause.{◌when◌}
 use Rattle.scheme.proofs.Laws.FirstCause.{answered, declined, cause_first, cause_second}
-use Rattle.mixing_spec.specs.declared.MixingAnswer.{MixingAnswer}
-use Rattle.mixing_spec.specs.MixingAnswer.{scheme_edges, mixes_scheme, first_count, mixing_cause, mixing_number, mixing_answer}
+use Rattle.mixing_spec.specs.MixingAnswer.{MixingAnswer, scheme_edges, mixes_scheme, first_count, mixing_cause, mixing_number, mixing_answer}
 
 module _ (s : Scheme) where
   -- There is no first count where 1,024 does not mix.

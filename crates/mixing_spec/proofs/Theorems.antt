@@ -25,8 +25,7 @@ use Rattle.scheme.proofs.Laws.Judged.{cause_accepted, accepted_cause, cause_most
 use Rattle.scheme.proofs.Laws.Sound.{accepted_sound}
 use Rattle.scheme.proofs.Laws.Trimmed.{trimmed_covers}
 use Rattle.scheme.proofs.Laws.Values.{Alike, same, alike_cause, alike_values, cleared_alike, row_same}
-use Rattle.mixing_spec.specs.declared.MixingAnswer.{MixingAnswer}
-use Rattle.mixing_spec.specs.MixingAnswer.{scheme_edges, mixes_scheme, first_count, mixing_cause, mixing_number, mixing_answer}
+use Rattle.mixing_spec.specs.MixingAnswer.{MixingAnswer, scheme_edges, mixes_scheme, first_count, mixing_cause, mixing_number, mixing_answer}
 use Rattle.mixing_spec.proofs.Laws.{first_cause_none, first_cause_some}
 
 -- "a year count from 1 to 1,024 for which every class can go to every class" (item 3).

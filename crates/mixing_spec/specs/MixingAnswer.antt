@@ -1,5 +1,7 @@
 -- The answer of the mixing check (document 02, items 3 and 11).
-use Rattle.std.specs.Prelude.{ℕ, Bool, cond, [], ◌∷◌, eqb}
+use Rattle.std.specs.Prelude.{ℕ, Bool, cond, [], ◌∷◌, eqb, Result, Ok, Err}
+use Rattle.scheme.specs.declared.Cause.{Cause}
+use Rattle.scheme.specs.Number.{cause_number}
 use Rattle.setchain.specs.Tests.{first_from}
 use Rattle.setchain.specs.Tight.{tight_chain}
 use Rattle.setchain.specs.Mixing.{edges_of, mixes}
@@ -7,7 +9,16 @@ use Rattle.scheme.specs.declared.Scheme.{Scheme}
 use Rattle.scheme.specs.FirstCause.{◌when◌, first_of}
 use Rattle.scheme.specs.Cause.{cause_of}
 use Rattle.scheme.specs.Rows.{chain_of}
-use Rattle.mixing_spec.specs.declared.MixingAnswer.{MixingAnswer}
+
+-- What the mixing check answers: the number of the cause, or 0; and the first count of years that mixes.
+pub record MixingAnswer : Type 0 where
+  pub number : ℕ
+  pub count : ℕ
+
+-- The answer of a count, or of the cause for which there is none.
+abbrev pub mixing_answer_of : Result ℕ Cause → MixingAnswer
+mixing_answer_of (Ok count) = record { number = 0; count = count }
+mixing_answer_of (Err cause) = record { number = cause_number cause; count = 0 }
 
 -- The edges of a scheme: "A new operation looks at the tight lower rows", and each step has "a lower entry above 0". Class i + 1 is i.
 abbrev pub scheme_edges : Scheme → (i j : ℕ) → Bool

@@ -10,9 +10,8 @@ use lib.ListN.{replicate}
 use borrow.Author.Tests.{lt-ltb, le-ltb}
 use Rattle.scheme.specs.Access.{BAND_PLACES}
 use Rattle.scheme.proofs.Laws.FirstCause.{answered, declined}
-use Rattle.poisson_spec.specs.declared.BandsAnswer.{BandsAnswer}
+use Rattle.poisson_spec.specs.Answer.{BandsAnswer, frequency_cause, bands_cause, bands_answer, BandsPromise}
 use Rattle.poisson_spec.specs.Bands.{lower_ends, upper_ends}
-use Rattle.poisson_spec.specs.Answer.{frequency_cause, bands_cause, bands_answer, BandsPromise}
 use Rattle.poisson_spec.specs.Theorems.{bands_promise}
 
 module _ (first second : ℕ) where

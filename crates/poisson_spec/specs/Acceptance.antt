@@ -7,8 +7,7 @@ use Rattle.setchain.proofs.Laws.Sums.{sum_to_eq}
 use Rattle.scheme.specs.declared.Scheme.{Scheme}
 use Rattle.scheme.specs.Access.{cell_count, lower_at, upper_at}
 use Rattle.scheme.specs.Accepted.{BandsFit, SumsFit}
-use Rattle.poisson_spec.specs.declared.BandsAnswer.{BandsAnswer}
-use Rattle.poisson_spec.specs.Answer.{bands_cause, bands_answer}
+use Rattle.poisson_spec.specs.Answer.{BandsAnswer, bands_cause, bands_answer}
 use Rattle.poisson_spec.specs.Laws.Values.{claimed_by, free_by}
 use Rattle.poisson_spec.specs.Laws.Answer.{Asked, no_cause, answered_ends, ends_answered, end_at}
 use Rattle.poisson_spec.specs.Laws.Ends.{end_by, in_order, capped, lowers_sum, uppers_sum}

@@ -1,11 +1,24 @@
 -- What asking for the bands of two claim frequencies answers, and what the answer promises (document 02, item 10).
-use Rattle.std.specs.Prelude.{ℕ, suc, ◌≤◌, ◌<◌, ◌≡◌, true, false, cond, ◌||◌, List, [], ◌∷◌, eqb, ltb, replicate}
+use Rattle.std.specs.Prelude.{ℕ, suc, ◌≤◌, ◌<◌, ◌≡◌, true, false, cond, ◌||◌, List, [], ◌∷◌, eqb, ltb, replicate, Result, Ok, Err}
+use Rattle.scheme.specs.declared.Cause.{Cause}
+use Rattle.scheme.specs.Number.{cause_number}
+use Rattle.poisson_spec.specs.declared.Bands.{Bands}
 use Rattle.setchain.specs.Sums.{at}
 use Rattle.scheme.specs.Access.{BAND_PLACES}
 use Rattle.scheme.specs.FirstCause.{◌when◌, first_of}
-use Rattle.poisson_spec.specs.declared.BandsAnswer.{BandsAnswer}
 use Rattle.poisson_spec.specs.Series.{Bounds}
 use Rattle.poisson_spec.specs.Bands.{lower_ends, upper_ends}
+
+-- What asking for bands answers: the number of the cause, or 0; and the lower and upper ends.
+pub record BandsAnswer : Type 0 where
+  pub number : ℕ
+  pub lower : List ℕ
+  pub upper : List ℕ
+
+-- The answer of bands, or of the cause for which there are none.
+abbrev pub bands_answer_of : Result Bands Cause → BandsAnswer
+bands_answer_of (Ok bands) = record { number = 0; lower = bands.lower; upper = bands.upper }
+bands_answer_of (Err cause) = record { number = cause_number cause; lower = replicate BAND_PLACES 0; upper = replicate BAND_PLACES 0 }
 
 -- "m outside 2 to 8 is cause 3".
 abbrev pub columns_cause : ℕ → ℕ

@@ -27,9 +27,8 @@ use Rattle.scheme.proofs.Laws.Cause.{inside_outside, class_fits}
 use Rattle.scheme.proofs.Laws.Judged.{size_tells, accepted_cause}
 use Rattle.scheme.proofs.Laws.Sound.{accepted_sound}
 use Rattle.scheme.proofs.Laws.Values.{size_first}
-use Rattle.bounds_spec.specs.declared.Bounds.TheVariants.{Answered, Refused}
+use Rattle.bounds_spec.specs.Answers.{Answered, Refused, start_of, share_answer}
 use Rattle.bounds_spec.specs.Causes.{share_cause}
-use Rattle.bounds_spec.specs.Answers.{start_of, share_answer}
 use Rattle.bounds_spec.specs.Reached.{reached_answer}
 use Rattle.bounds_spec.proofs.Laws.Causes.{of_share}
 use Rattle.reached.specs.Staying.{staying_rule, StayingRules, with_rules}

@@ -1,10 +1,22 @@
 -- The answer of the ready schemes' operation (document 01, "Ready schemes" and "When a call is declined").
-use Rattle.std.specs.Prelude.{ℕ, ◌≤◌, [], ◌∷◌, cond, eqb, ltb}
+use Rattle.std.specs.Prelude.{ℕ, ◌≤◌, [], ◌∷◌, cond, eqb, ltb, Result, Ok, Err}
+use Rattle.scheme.specs.declared.Cause.{Cause}
+use Rattle.scheme.specs.Number.{cause_number}
+use Rattle.scheme.specs.declared.Scheme.{Scheme}
 use Rattle.scheme.specs.FirstCause.{first_of}
 use Rattle.scheme.specs.Cause.{outside}
 use Rattle.scheme.specs.Stored.{no_scheme}
-use Rattle.ready_spec.specs.declared.ReadyAnswer.{ReadyAnswer}
 use Rattle.ready_spec.specs.Ready.{ready_scheme}
+
+-- What asking for a ready scheme answers: the number of the cause, or 0; and the scheme.
+pub record ReadyAnswer : Type 0 where
+  pub number : ℕ
+  pub scheme : Scheme
+
+-- The answer of a ready scheme, or of the cause for which there is none.
+abbrev pub ready_answer_of : Result Scheme Cause → ReadyAnswer
+ready_answer_of (Ok scheme) = record { number = 0; scheme = scheme }
+ready_answer_of (Err cause) = record { number = cause_number cause; scheme = no_scheme }
 
 -- "Ready schemes": number 1 to 3, "base 0 to 2,500,000 cents".
 pub record Offered (number base : ℕ) : Type 0 where

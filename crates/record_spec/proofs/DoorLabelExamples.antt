@@ -7,15 +7,13 @@ use Rattle.scheme.specs.Cause.{size_out, start_out, horizon_out, rule_out, band_
 use Rattle.scheme.specs.Stored.{up_to, scheme_of}
 use Rattle.scheme.proofs.Examples.{scheme_a, single}
 use Rattle.big_endian_spec.specs.Numbers.{be_at, be_bytes}
-use Rattle.record_spec.specs.declared.Band.TheVariants.{Ends, NoMore}
-use Rattle.record_spec.specs.declared.WriteAnswer.TheVariants.{Written, Declined}
+use Rattle.record_spec.specs.Reader.{Ends, NoMore, band_at, open_part, answers, stored_bands}
+use Rattle.record_spec.specs.Write.{Written, Declined, write_answer, write_leaves}
 use Rattle.record_spec.specs.Joined.{joined}
 use Rattle.record_spec.specs.Layout.{version1, version2, other_version, layout_of, length_of, scheme_in}
 use Rattle.record_spec.specs.Read.{frame_cause, read_cause, read_answer}
 use Rattle.record_spec.specs.RuleRow.{rule_row}
-use Rattle.record_spec.specs.Reader.{band_at, open_part, answers, stored_bands}
 use Rattle.record_spec.specs.Bytes.{header_bytes, bytes_of}
-use Rattle.record_spec.specs.Write.{write_answer, write_leaves}
 
 -- Its label: 1 byte more in the header, 1 byte less for each of 2 premiums.
 abbrev pub label_a : List ℕ

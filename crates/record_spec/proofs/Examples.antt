@@ -8,17 +8,14 @@ use Rattle.scheme.specs.Cause.{size_out, start_out, horizon_out, rule_out, band_
 use Rattle.scheme.specs.Stored.{up_to, scheme_of, no_scheme}
 use Rattle.scheme.proofs.Examples.{scheme_a, single}
 use Rattle.scheme.proofs.Laws.Values.{same_values}
-use Rattle.big_endian_spec.specs.Numbers.{be_bytes}
-use Rattle.record_spec.specs.declared.Band.TheVariants.{Ends, NoMore}
-use Rattle.record_spec.specs.declared.WriteAnswer.TheVariants.{Written, Declined}
-use Rattle.big_endian_spec.specs.Numbers.{be_at}
+use Rattle.big_endian_spec.specs.Numbers.{be_bytes, be_at}
+use Rattle.record_spec.specs.Reader.{Ends, NoMore, band_at, band_number, band_ends, open_part, answers, stored_bands, handed_out, ends_of}
+use Rattle.record_spec.specs.Write.{Written, Declined, write_number, written_length, write_answer, write_leaves, Reread, WritePromise}
 use Rattle.record_spec.specs.Joined.{joined}
 use Rattle.record_spec.specs.Layout.{version1, layout_of, length_of, scheme_in}
 use Rattle.record_spec.specs.Read.{frame_cause, read_cause, read_answer}
 use Rattle.record_spec.specs.RuleRow.{rule_row_cause, rule_row}
-use Rattle.record_spec.specs.Reader.{band_at, band_number, band_ends, open_part, answers, stored_bands, handed_out, ends_of}
 use Rattle.record_spec.specs.Bytes.{header_bytes, bytes_of}
-use Rattle.record_spec.specs.Write.{write_number, written_length, write_answer, write_leaves, Reread, WritePromise}
 
 -- Its record.
 abbrev pub example_a : List ℕ

@@ -10,11 +10,9 @@ use Rattle.scheme.proofs.Laws.FirstCause.{first_none, second_none, by_cause}
 use Rattle.scheme.proofs.Laws.Judged.{accepted_cause}
 use Rattle.scheme.proofs.Laws.Stored.{made_cleared, none_cleared}
 use Rattle.scheme.proofs.Laws.Values.{Alike, same, alike_values, alike_same, next_same, cleared_alike}
-use Rattle.record_spec.specs.declared.ReadAnswer.{ReadAnswer}
-use Rattle.record_spec.specs.declared.WriteAnswer.TheVariants.{Written, Declined}
+use Rattle.record_spec.specs.Read.{ReadAnswer, read_cause, declined_with, read_answer}
+use Rattle.record_spec.specs.Write.{Written, Declined, record_length, write_cause, write_answer, write_leaves}
 use Rattle.record_spec.specs.Layout.{other_version, layout_of, length_of, scheme_in}
-use Rattle.record_spec.specs.Read.{read_cause, declined_with, read_answer}
-use Rattle.record_spec.specs.Write.{record_length, write_cause, write_answer, write_leaves}
 use Rattle.record_spec.proofs.Laws.Joined.{bytes_same}
 
 -- "every operation that makes a scheme sets them to 0": a reading of any bytes.

@@ -1,13 +1,20 @@
 -- What reading a record answers (document 01, "Record" and "When a call is declined", and document 02, item 5).
-use Rattle.std.specs.Prelude.{ℕ, ◌+◌, Bool, cond, not, ◌||◌, List, [], ◌∷◌, eqb, ltb, length, get_or}
+use Rattle.std.specs.Prelude.{ℕ, ◌+◌, Bool, cond, not, ◌||◌, List, [], ◌∷◌, eqb, ltb, length, get_or, Result, Ok, Err}
+use Rattle.scheme.specs.declared.Cause.{Cause}
+use Rattle.scheme.specs.Number.{cause_number}
+use Rattle.scheme.specs.declared.Scheme.{Scheme}
 use Rattle.setchain.specs.Tests.{any_below}
 use Rattle.scheme.specs.FirstCause.{first_of, Line, tests}
 use Rattle.scheme.specs.Cause.{sizes_out, cause_of}
-use Rattle.record_spec.specs.declared.ReadAnswer.{ReadAnswer}
 use Rattle.big_endian_spec.specs.Numbers.{be_at}
 use Rattle.scheme.specs.Stored.{no_scheme}
 use Rattle.record_spec.specs.Layout.{HEADER, other_version, version_in, layout_in, length_of, classes_in, columns_in, scheme_in}
 use Rattle.record_spec.specs.Frame.{VersionFits, FieldFits, SizesFit, LengthFits, FurtherFits}
+
+-- What reading a record answers: the number of the cause, or 0; and the scheme.
+pub record ReadAnswer : Type 0 where
+  pub number : ℕ
+  pub scheme : Scheme
 
 -- Cause 1: "no byte, or byte 0 is not 1", and not 2 either: "Reading accepts both versions."
 abbrev pub version_out : List ℕ → Bool
@@ -46,6 +53,11 @@ read_cause bytes = first_of (frame_cause bytes ∷ cause_of (scheme_in bytes) �
 -- A declined reading: the cause and a scheme of 0.
 abbrev pub declined_with : ℕ → ReadAnswer
 declined_with number = record { number = number; scheme = no_scheme }
+
+-- The answer of a scheme that is read, or of the cause for which there is none.
+abbrev pub read_answer_of : Result Scheme Cause → ReadAnswer
+read_answer_of (Ok scheme) = record { number = 0; scheme = scheme }
+read_answer_of (Err cause) = declined_with (cause_number cause)
 
 -- The number 0 and the scheme, or the cause and a scheme of 0.
 unfoldable pub read_answer : List ℕ → ReadAnswer

@@ -1,15 +1,24 @@
 -- What writing a record answers, and what the lent slice holds afterwards (document 01, "Record" and "When a call is declined", and document 02, item 5).
-use Rattle.std.specs.Prelude.{ℕ, ◌≡◌, cond, List, [], ◌∷◌, ◌++◌, eqb, ltb, length, take, drop}
+use Rattle.std.specs.Prelude.{ℕ, ◌≡◌, cond, List, [], ◌∷◌, ◌++◌, eqb, ltb, length, take, drop, Result, Ok, Err}
+use Rattle.scheme.specs.declared.Cause.{Cause}
+use Rattle.scheme.specs.Number.{cause_number}
 use Rattle.scheme.specs.declared.Scheme.{Scheme}
 use Rattle.scheme.specs.FirstCause.{◌when◌, first_of}
 use Rattle.scheme.specs.Cause.{cause_of}
 use Rattle.scheme.specs.Values.{SameValues}
-use Rattle.record_spec.specs.declared.ReadAnswer.{ReadAnswer}
-use Rattle.record_spec.specs.declared.WriteAnswer.{WriteAnswer}
-use Rattle.record_spec.specs.declared.WriteAnswer.TheVariants.{Written, Declined}
+use Rattle.record_spec.specs.Read.{ReadAnswer, read_answer}
 use Rattle.record_spec.specs.Layout.{other_version, layout_of, length_of}
-use Rattle.record_spec.specs.Read.{read_answer}
 use Rattle.record_spec.specs.Bytes.{bytes_of}
+
+-- What writing a record, or a text, into a lent slice answers: the length of what was written, or the number of the cause.
+pub data WriteAnswer : Type 0 where
+  Written : (length : ℕ) → WriteAnswer
+  Declined : (number : ℕ) → WriteAnswer
+
+-- The answer of a length, or of the cause for which nothing was written.
+abbrev pub write_answer_of : Result ℕ Cause → WriteAnswer
+write_answer_of (Ok length) = Written length
+write_answer_of (Err cause) = Declined (cause_number cause)
 
 -- The number of each answer: 0 where a record or a text was written.
 abbrev pub write_number : WriteAnswer → ℕ

@@ -16,12 +16,10 @@ use Rattle.scheme.proofs.Laws.Stored.{made_eq, made_cleared}
 use Rattle.scheme.proofs.Laws.Values.{cause_same, cleared_values}
 use Rattle.big_endian_spec.specs.Numbers.{Bytes, be_at, be_bytes}
 use Rattle.scheme.specs.Stored.{scheme_of, cleared}
-use Rattle.record_spec.specs.declared.WriteAnswer.{WriteAnswer}
-use Rattle.record_spec.specs.Layout.{Layout, HEADER, END_WIDTH, other_version, layout_of, header_length, length_of, row_place, band_place, premium_place}
-use Rattle.record_spec.specs.Layout.{version_in, layout_in, classes_in, columns_in, scheme_from, scheme_in}
+use Rattle.record_spec.specs.Write.{WriteAnswer, record_of, record_length, write_cause, write_answer, write_leaves, Reread, WritePromise}
+use Rattle.record_spec.specs.Layout.{Layout, HEADER, END_WIDTH, other_version, layout_of, header_length, length_of, row_place, band_place, premium_place, version_in, layout_in, classes_in, columns_in, scheme_from, scheme_in}
 use Rattle.record_spec.specs.Bytes.{header_bytes, header_of, rules_of, bands_of, premiums_of, bytes_of}
 use Rattle.record_spec.specs.Read.{read_cause, read_answer}
-use Rattle.record_spec.specs.Write.{record_of, record_length, write_cause, write_answer, write_leaves, Reread, WritePromise}
 use Rattle.record_spec.specs.Frame.{Framed}
 use Rattle.record_write.specs.Laws.Lists.{tab_part}
 use Rattle.big_endian_spec.proofs.Laws.{put_read}

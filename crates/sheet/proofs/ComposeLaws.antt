@@ -6,8 +6,7 @@ use mathlib.Core.List.{List}
 use native.Mathlib.Omega.{arith}
 use native.Mathlib.Nat.{le_trans}
 use lib.ListN.{length, take}
-use Rattle.record_spec.specs.declared.WriteAnswer.{WriteAnswer}
-use Rattle.record_spec.specs.Write.{write_number, written_length}
+use Rattle.record_spec.specs.Write.{WriteAnswer, write_number, written_length}
 use Rattle.sheet_spec.specs.Sheet.{sheet_text}
 use Rattle.sheet_spec.specs.Answer.{space_for, sheet_answer, TextPromise}
 use Rattle.sheet_spec.proofs.Laws.Space.{enough_space}

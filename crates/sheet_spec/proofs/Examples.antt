@@ -13,7 +13,7 @@ use Rattle.record_spec.specs.Joined.{joined}
 use Rattle.big_endian_spec.specs.Numbers.{be_at}
 use Rattle.scheme.specs.Stored.{up_to, scheme_of}
 use Rattle.record_spec.specs.Read.{frame_cause}
-use Rattle.record_spec.specs.declared.WriteAnswer.TheVariants.{Written}
+use Rattle.record_spec.specs.Write.{Written}
 use Rattle.record_spec.proofs.Examples.{example_a, read_a, scheme_a_lem}
 use Rattle.record_spec.proofs.DoorLabelExamples.{label_a, read_label}
 use Rattle.sheet_spec.specs.Text.{digits_within, two_digits, decimal}

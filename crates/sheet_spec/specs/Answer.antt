@@ -3,9 +3,7 @@ use Rattle.std.specs.Prelude.{ℕ, suc, ◌+◌, ◌*◌, ◌≡◌, cond, List,
 use Rattle.scheme.specs.declared.Scheme.{Scheme}
 use Rattle.record_spec.specs.Layout.{scheme_in}
 use Rattle.record_spec.specs.Read.{read_cause}
-use Rattle.record_spec.specs.declared.WriteAnswer.{WriteAnswer}
-use Rattle.record_spec.specs.declared.WriteAnswer.TheVariants.{Written, Declined}
-use Rattle.record_spec.specs.Write.{write_number, written_length}
+use Rattle.record_spec.specs.Write.{WriteAnswer, Written, Declined, write_number, written_length}
 use Rattle.sheet_spec.specs.Sheet.{sheet_text}
 
 -- The most bytes that the sheet of a scheme of this size may have: SCHEME 19, a class 40, PREMIUM 35, TOTAL 28.

@@ -17,12 +17,11 @@ use Rattle.setchain.proofs.Laws.Agreeing.{Agree, agree_sym, sound_agrees, reache
 use Rattle.setchain.proofs.Laws.Step.{reached_figure_lem}
 use Rattle.setchain.proofs.Laws.Tests.{any_false}
 use Rattle.scheme.specs.declared.Scheme.{Scheme}
-use Rattle.scheme.specs.RowAnswer.{RowAnswer}
+use Rattle.scheme.specs.RowAnswer.{RowAnswer, row_cause, row_refused, interval_at, interval_answer}
 use Rattle.scheme.specs.Accepted.{Accepted}
 use Rattle.scheme.specs.FirstCause.{◌when◌, or_else}
 use Rattle.scheme.specs.Cause.{outside, cause_of, class_cause}
 use Rattle.scheme.specs.Stages.{limit_cause}
-use Rattle.scheme.specs.RowAnswer.{row_cause, row_refused, interval_at, interval_answer}
 use Rattle.scheme.proofs.Laws.FirstCause.{first_cause, second_cause, declined, answered, first_none, second_none, test_none, cause_first}
 use Rattle.scheme.proofs.Laws.Cause.{class_fits}
 use Rattle.scheme.proofs.Laws.Judged.{accepted_cause, cause_most}
@@ -30,8 +29,7 @@ use Rattle.scheme.proofs.Laws.Sound.{accepted_sound}
 use Rattle.scheme.proofs.Laws.RowAnswer.{interval_number, answered_size, answered_agrees}
 use Rattle.rows.specs.Laws.Front.{front_lent, whole_size, whole_front, whole_beyond}
 use Rattle.order.specs.Order.{SortedPermutation}
-use Rattle.step_spec.specs.declared.StepAnswer.{StepAnswer}
-use Rattle.step_spec.specs.StepAnswer.{MOST_PAYOFF, payoff_out, step_cause, class_row, StepAnswered}
+use Rattle.step_spec.specs.StepAnswer.{StepAnswer, MOST_PAYOFF, payoff_out, step_cause, class_row, StepAnswered}
 use Rattle.step.specs.Answer.{scheme_cause, step_refused}
 use Rattle.step.specs.Step.{StepPre, StepPost}
 

@@ -12,8 +12,7 @@ use Rattle.setchain.specs.Tests.{any_below}
 use Rattle.scheme.specs.Tables.{tab}
 use Rattle.scheme.specs.Cause.{size_out, start_out, horizon_out, rule_out, band_out, sum_out, premium_out, cause_of}
 use Rattle.scheme.proofs.Examples.{scheme_a}
-use Rattle.step_spec.specs.declared.StepAnswer.{StepAnswer}
-use Rattle.step_spec.specs.StepAnswer.{payoff_out, step_cause, class_row, StepAnswered}
+use Rattle.step_spec.specs.StepAnswer.{StepAnswer, payoff_out, step_cause, class_row, StepAnswered}
 
 -- A payoff of 30 in class 1 and 10 in class 2.
 abbrev thirty_ten : List ℕ

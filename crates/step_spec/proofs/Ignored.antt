@@ -14,8 +14,7 @@ use Rattle.scheme.proofs.Laws.Cause.{class_fits}
 use Rattle.scheme.proofs.Laws.Values.{Alike, same, next_same, alike_values, alike_same, alike_back, cleared_alike, class_same, row_same}
 use Rattle.setchain.specs.Sums.{at}
 use Rattle.setchain.proofs.Laws.Tests.{any_eq}
-use Rattle.step_spec.specs.declared.StepAnswer.{StepAnswer}
-use Rattle.step_spec.specs.StepAnswer.{MOST_PAYOFF, payoff_out, step_cause, class_row, StepAnswered}
+use Rattle.step_spec.specs.StepAnswer.{StepAnswer, MOST_PAYOFF, payoff_out, step_cause, class_row, StepAnswered}
 
 -- What is answered for one scheme and payoff is answered for the other.
 module _ {s s' : Scheme} (w : Alike s s') (payoff payoff' : List ℕ) (payoffs : (j : ℕ) → j < s.classes → at payoff j ≡ at payoff' j) (class : ℕ) where

@@ -19,8 +19,7 @@ use Rattle.scheme.proofs.Laws.Judged.{cause_accepted}
 use Rattle.scheme.proofs.Laws.Sound.{accepted_sound}
 use Rattle.scheme.proofs.Laws.Values.{next_same, class_same}
 use Rattle.scheme.proofs.Laws.Trimmed.{trimmed_covers}
-use Rattle.step_spec.specs.declared.StepAnswer.{StepAnswer}
-use Rattle.step_spec.specs.StepAnswer.{payoff_out, step_cause, class_row, StepAnswered}
+use Rattle.step_spec.specs.StepAnswer.{StepAnswer, payoff_out, step_cause, class_row, StepAnswered}
 pub use Rattle.step_spec.specs.Inward.{StepInward}
 
 -- Of what the step answers for a payoff and a class.

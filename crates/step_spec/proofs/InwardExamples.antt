@@ -5,8 +5,7 @@ use Rattle.setchain.specs.Sums.{at, sum_to, only_if}
 use Rattle.setchain.specs.Step.{capacity_before, fill_row, step_figure}
 use Rattle.scheme.proofs.Examples.{scheme_a}
 use Rattle.scheme.proofs.TrimmedExamples.{narrow_a}
-use Rattle.step_spec.specs.declared.StepAnswer.{StepAnswer}
-use Rattle.step_spec.specs.StepAnswer.{class_row}
+use Rattle.step_spec.specs.StepAnswer.{StepAnswer, class_row}
 use Rattle.step_spec.proofs.Inward.{StepInward}
 
 -- A payoff of 300 in class 1 and 100 in class 2: class 2 has at least.1 of ONE, and with the last column's band trimmed at least.11.

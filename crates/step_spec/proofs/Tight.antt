@@ -14,8 +14,7 @@ use Rattle.scheme.proofs.Laws.FirstCause.{first_none, second_none}
 use Rattle.scheme.proofs.Laws.Cause.{class_fits}
 use Rattle.scheme.proofs.Laws.Judged.{accepted_cause}
 use Rattle.scheme.proofs.Laws.Sound.{accepted_sound}
-use Rattle.step_spec.specs.declared.StepAnswer.{StepAnswer}
-use Rattle.step_spec.specs.StepAnswer.{payoff_out, step_cause, class_row, StepAnswered}
+use Rattle.step_spec.specs.StepAnswer.{StepAnswer, payoff_out, step_cause, class_row, StepAnswered}
 
 -- A figure that is the tight row's, and a row that reaches it there.
 pub record TightStep (high : Bool) (s : Scheme) (payoff : List ℕ) (class : ℕ) (r : StepAnswer) : Type 0 where

@@ -1,14 +1,27 @@
 -- The answer of the public one-year step (document 01, "One year").
-use Rattle.std.specs.Prelude.{ℕ, ◌-◌, ◌≤◌, ◌≡◌, Bool, cond, List, [], ◌∷◌, eqb, ltb, length, replicate}
+use Rattle.std.specs.Prelude.{ℕ, ◌-◌, ◌≤◌, ◌≡◌, Bool, cond, List, [], ◌∷◌, eqb, ltb, length, replicate, Result, Ok, Err}
+use Rattle.scheme.specs.declared.Cause.{Cause}
+use Rattle.scheme.specs.Number.{cause_number}
+use Rattle.step_spec.specs.declared.Step.{Step}
 use Rattle.setchain.specs.Rows.{IntervalRow}
 use Rattle.setchain.specs.Step.{step_figure, Reaches}
 use Rattle.scheme.specs.declared.Scheme.{Scheme}
 use Rattle.scheme.specs.FirstCause.{◌when◌, first_of}
 use Rattle.scheme.specs.Cause.{cause_of, class_cause}
 use Rattle.scheme.specs.Rows.{chain_of}
-use Rattle.step_spec.specs.declared.StepAnswer.{StepAnswer}
 use Rattle.setchain.specs.Sums.{at}
 use Rattle.setchain.specs.Tests.{any_below}
+
+-- What the one-year step answers: the number of the cause, or 0; the figure; and a row that reaches it.
+pub record StepAnswer : Type 0 where
+  pub number : ℕ
+  pub figure : ℕ
+  pub row : List ℕ
+
+-- The answer of a step, or of the cause for which there is none.
+abbrev pub step_answer_of : Result Step Cause → StepAnswer
+step_answer_of (Ok step) = record { number = 0; figure = step.figure; row = step.row }
+step_answer_of (Err cause) = record { number = cause_number cause; figure = 0; row = replicate 32 0 }
 
 -- "The payoff limit of the one-year step rises to 10,000,000,000" (document 02, item 6): every sum of part times payoff up to it fits 64 bits.
 abbrev pub MOST_PAYOFF : ℕ

@@ -4,10 +4,9 @@
 // The limit of a payoff in the one-year step (document 02, item 6).
 pub const MOST_PAYOFF: u64 = 10_000_000_000;
 
-// What the one-year step answers: the number of the cause for which it is declined, or 0; the figure; and a row that reaches it.
+// The one-year step of a class: the figure, and a row that reaches it.
 #[derive(Clone, Copy)]
-pub struct StepAnswer {
-    pub number: u8,
+pub struct Step {
     pub figure: u64,
     pub row: [u64; 32],
 }

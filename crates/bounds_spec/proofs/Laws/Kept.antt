@@ -16,9 +16,7 @@ use Rattle.scheme.proofs.Laws.FirstCause.{declined, answered}
 use Rattle.scheme.proofs.Laws.Judged.{accepted_cause}
 use Rattle.scheme.proofs.Laws.Sound.{accepted_sound}
 use Rattle.scheme.proofs.Laws.Tab.{get_d_tab}
-use Rattle.bounds_spec.specs.declared.Bounds.TheVariants.{Answered, Refused}
-use Rattle.bounds_spec.specs.Answers.{number_of, low_of, high_of, answer_by, start_of, share_answer, mean_answer, total_answer}
-use Rattle.bounds_spec.specs.Answers.{sheet_cause, sheet_slice, figure_shares, low_shares, high_shares}
+use Rattle.bounds_spec.specs.Answers.{Answered, Refused, number_of, low_of, high_of, answer_by, start_of, share_answer, mean_answer, total_answer, sheet_cause, sheet_slice, figure_shares, low_shares, high_shares}
 use Rattle.bounds_spec.specs.Promises.{ShareKept, MoneyKept, start_share, start_mean, start_total, SharePromise, MeanPromise, TotalPromise, SheetPromise, TableKept, FiguresPromise}
 use Rattle.bounds_spec.specs.Table.{low_table, high_table, table_cause}
 use Rattle.bounds_spec.proofs.Laws.Table.{share_at, mean_at, total_at}

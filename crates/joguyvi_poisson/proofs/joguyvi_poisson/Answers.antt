@@ -4,8 +4,7 @@ use Rattle.std.proofs.Common.{true, false, ◌≡◌, ℕ, List, length, ap, ap�
 use Rattle.scheme.specs.FirstCause.{or_else}
 use Rattle.scheme.specs.Cause.{slices_cause}
 use Rattle.scheme.proofs.Laws.FirstCause.{first_none, second_none}
-use Rattle.poisson_spec.specs.declared.BandsAnswer.{BandsAnswer}
-use Rattle.poisson_spec.specs.Answer.{bands_answer, BandsPromise}
+use Rattle.poisson_spec.specs.Answer.{BandsAnswer, bands_answer, BandsPromise}
 use Rattle.setchain.specs.Sums.{at}
 use Rattle.poisson_spec.specs.Series.{Bounds}
 use Rattle.joguyvi_spec.specs.Buffers.{copied_front}

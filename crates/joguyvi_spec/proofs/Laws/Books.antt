@@ -7,8 +7,7 @@ use Rattle.scheme.specs.FirstCause.{◌when◌, or_else}
 use Rattle.scheme.specs.Cause.{slices_cause}
 use Rattle.scheme.proofs.Laws.FirstCause.{or_assoc}
 use Rattle.book_spec.specs.Book.{book_cause}
-use Rattle.bounds_spec.specs.declared.Bounds.{Bounds}
-use Rattle.bounds_spec.specs.declared.Bounds.TheVariants.{Answered, Refused}
+use Rattle.bounds_spec.specs.Answers.{BoundsAnswer, Answered, Refused}
 use Rattle.bounds_spec.specs.Causes.{money_cause}
 use Rattle.bounds_spec.specs.Pooled.{pooled_sheet_cause}
 use Rattle.bounds_spec.proofs.Laws.Kept.{kept_answer}
@@ -17,7 +16,7 @@ use Rattle.joguyvi_spec.specs.Books.{lent_answer}
 use Rattle.joguyvi_spec.proofs.Laws.Figures.{BoundsPromise}
 
 -- What low and high promise, they promise over a lent book.
-pub lent_kept : (kept : (low high : ℕ) → Type 0) (book : List ℕ) (b : Bounds) → BoundsPromise kept b → BoundsPromise kept (lent_answer book b)
+pub lent_kept : (kept : (low high : ℕ) → Type 0) (book : List ℕ) (b : BoundsAnswer) → BoundsPromise kept b → BoundsPromise kept (lent_answer book b)
 lent_kept kept book (Answered low high) promise = kept_answer kept (buffer_cause 32 book) low high (λ z. promise refl)
 lent_kept kept book (Refused number) promise = promise
 

@@ -5,8 +5,7 @@ use Rattle.std.proofs.Common.{ap, ◌∙◌}
 use Rattle.scheme.specs.FirstCause.{or_else}
 use Rattle.scheme.specs.Cause.{cause_of}
 use Rattle.scheme.proofs.Laws.FirstCause.{cause_first, cause_second}
-use Rattle.record_spec.specs.declared.ReadAnswer.{ReadAnswer}
-use Rattle.record_spec.specs.Read.{read_cause, read_answer}
+use Rattle.record_spec.specs.Read.{ReadAnswer, read_cause, read_answer}
 use Rattle.record_spec.proofs.Laws.Read.{scheme_none, read_cause_lem, read_passed, read_in}
 
 -- A test's number is the one that it gives, or 0.

@@ -6,8 +6,7 @@ use Rattle.scheme.specs.declared.Scheme.{Scheme}
 use Rattle.scheme.proofs.Laws.FirstCause.{answered, first_none, second_none}
 use Rattle.record_spec.specs.Layout.{scheme_in}
 use Rattle.record_spec.specs.Read.{read_cause}
-use Rattle.bounds_spec.specs.declared.Bounds.{Bounds}
-use Rattle.bounds_spec.specs.Answers.{number_of, low_of, high_of, share_answer, mean_answer, total_answer}
+use Rattle.bounds_spec.specs.Answers.{BoundsAnswer, number_of, low_of, high_of, share_answer, mean_answer, total_answer}
 use Rattle.bounds_spec.specs.Reached.{reached_answer}
 use Rattle.bounds_spec.proofs.Laws.Kept.{share_kept, mean_kept, total_kept}
 use Rattle.bounds_spec.proofs.Laws.Reached.{reached_kept}
@@ -15,15 +14,15 @@ use Rattle.joguyvi_spec.specs.Buffers.{buffer_cause, BufferPost}
 use Rattle.joguyvi_spec.specs.Figures.{put_number, low_and_high, bounds_number, BoundsCall, ShareCall, ReachedCall, MeanCall, TotalCall}
 
 -- What is answered and left for low and high of a record: the cause of reading comes first.
-abbrev pub RecordBoundsPost : (query : Scheme → Bounds) (bytes out : List ℕ) (number : ℕ) (out' : List ℕ) → Type 0
+abbrev pub RecordBoundsPost : (query : Scheme → BoundsAnswer) (bytes out : List ℕ) (number : ℕ) (out' : List ℕ) → Type 0
 RecordBoundsPost query bytes out = BufferPost (bounds_number bytes (query (scheme_in bytes)) out) (low_and_high (query (scheme_in bytes))) out
 
 -- What low and high promise where they are answered.
-abbrev pub BoundsPromise : (kept : (low high : ℕ) → Type 0) → Bounds → Type 0
+abbrev pub BoundsPromise : (kept : (low high : ℕ) → Type 0) → BoundsAnswer → Type 0
 BoundsPromise kept b = number_of b ≡ 0 → kept (low_of b) (high_of b)
 
 -- The buffer keeps it where the number is 0.
-pub bounds_call : {query : Scheme → Bounds} {kept : Scheme → (low high : ℕ) → Type 0} (bytes out : List ℕ) {number : ℕ} {out' : List ℕ}
+pub bounds_call : {query : Scheme → BoundsAnswer} {kept : Scheme → (low high : ℕ) → Type 0} (bytes out : List ℕ) {number : ℕ} {out' : List ℕ}
     → BoundsPromise (kept (scheme_in bytes)) (query (scheme_in bytes)) → RecordBoundsPost query bytes out number out'
     → BoundsCall query kept bytes out number out'
 unfolding put_number

@@ -8,9 +8,8 @@ use Rattle.scheme.specs.FirstCause.{or_else}
 use Rattle.scheme.proofs.Laws.FirstCause.{declined, answered, by_cause, first_none, second_none}
 use Rattle.record_spec.specs.Layout.{scheme_in}
 use Rattle.record_spec.specs.Read.{read_cause}
-use Rattle.step_spec.specs.declared.StepAnswer.{StepAnswer}
+use Rattle.step_spec.specs.StepAnswer.{StepAnswer, step_cause, class_row, StepAnswered}
 use Rattle.setchain.specs.Sums.{at}
-use Rattle.step_spec.specs.StepAnswer.{step_cause, class_row, StepAnswered}
 use Rattle.joguyvi_spec.specs.Buffers.{first32, BuffersPost}
 use Rattle.joguyvi_spec.specs.Steps.{step_buffers, step_number, StepCall}
 

@@ -11,13 +11,11 @@ use borrow.Author.Tests.{eq-eqb, ne_eqb, lt-ltb, le-ltb, eqb-true, ltb-true}
 use Rattle.scheme.specs.Tables.{tab}
 use Rattle.scheme.specs.Access.{lower_at, upper_at}
 use Rattle.scheme.proofs.Laws.Tab.{tab_eq}
-use Rattle.record_spec.specs.declared.Band.{Band}
-use Rattle.record_spec.specs.declared.Band.TheVariants.{Ends, NoMore}
+use Rattle.record_spec.specs.Reader.{BandAnswer, Ends, NoMore, handed_out, ends_of, stored, band_in, band_at, BandAnswered, after_at, open_part, answers, cursor_after, stored_bands}
 use Rattle.big_endian_spec.specs.Numbers.{be_at}
 use Rattle.record_spec.specs.Layout.{layout_in, band_place, scheme_in, classes_in, columns_in}
 use Rattle.record_spec.specs.Frame.{Framed}
 use Rattle.record_spec.specs.Read.{frame_cause, read_cause}
-use Rattle.record_spec.specs.Reader.{handed_out, ends_of, stored, band_in, band_at, BandAnswered, after_at, open_part, answers, cursor_after, stored_bands}
 use Rattle.record_spec.proofs.Laws.Frame.{framed_short}
 use Rattle.record_spec.proofs.Laws.Read.{read_framed}
 use Rattle.scheme.proofs.Laws.Stored.{lower_made, upper_made}
@@ -38,7 +36,7 @@ second_fails true b e = e
 second_fails false b e = refl
 
 -- The answer's number and values follow from the answer.
-pub band_answered : (bytes : List ℕ) (cursor : ℕ) {b : Band} → b ≡ band_at bytes cursor → BandAnswered bytes cursor b
+pub band_answered : (bytes : List ℕ) (cursor : ℕ) {b : BandAnswer} → b ≡ band_at bytes cursor → BandAnswered bytes cursor b
 unfolding band_at
 band_answered bytes cursor e = record { answer = e; number = ap handed_out e ∙ number (stored bytes cursor); ends = ap ends_of e ∙ ends (stored bytes cursor) }
   where
@@ -153,7 +151,7 @@ module _ (bytes : List ℕ) where
       (rw (still, ← (answer_none bytes cursor e), rest.0), rw (still, rest.1))
 
   -- k calls at columns that are stored hand out their bands.
-  bands_next : (k cursor n : ℕ) (f : ℕ → Band) → ((j : ℕ) → j < k → stored bytes (cursor + j) ≡ true) → ((j : ℕ) → j < k → band_in bytes (cursor + j) ≡ f j)
+  bands_next : (k cursor n : ℕ) (f : ℕ → BandAnswer) → ((j : ℕ) → j < k → stored bytes (cursor + j) ≡ true) → ((j : ℕ) → j < k → band_in bytes (cursor + j) ≡ f j)
       → (answers bytes (k + n) cursor ≡ tab k f ++ answers bytes n (cursor + k)) × (cursor_after bytes (k + n) cursor ≡ cursor_after bytes n (cursor + k))
   unfolding answers cursor_after tab
   bands_next zero cursor n f all is =

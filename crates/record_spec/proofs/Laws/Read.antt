@@ -5,10 +5,9 @@ use Rattle.std.proofs.Math.Decide.{ℕ_discrete}
 use borrow.Author.Tests.{eq-eqb, ne_eqb}
 use Rattle.scheme.specs.Cause.{cause_of}
 use Rattle.scheme.proofs.Laws.FirstCause.{first_cause, second_cause, first_none, second_none}
-use Rattle.record_spec.specs.declared.ReadAnswer.{ReadAnswer}
+use Rattle.record_spec.specs.Read.{ReadAnswer, frame_cause, read_cause, declined_with, read_answer}
 use Rattle.record_spec.specs.Layout.{scheme_in}
 use Rattle.record_spec.specs.Frame.{Framed}
-use Rattle.record_spec.specs.Read.{frame_cause, read_cause, declined_with, read_answer}
 use Rattle.record_spec.proofs.Laws.Frame.{frame_clear}
 
 module _ (bytes : List ℕ) where

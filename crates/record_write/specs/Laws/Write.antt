@@ -7,9 +7,8 @@ use Rattle.scheme.specs.declared.Scheme.{Scheme}
 use Rattle.scheme.specs.Cause.{cause_of}
 use Rattle.scheme.specs.FirstCause.{◌when◌, or_else}
 use Rattle.scheme.proofs.Laws.FirstCause.{first_cause, second_cause, first_none, second_none, test_none}
-use Rattle.record_spec.specs.declared.WriteAnswer.TheVariants.{Written, Declined}
+use Rattle.record_spec.specs.Write.{Written, Declined, record_of, record_length, write_cause, write_answer, write_leaves, write_number, written_length}
 use Rattle.record_spec.specs.Layout.{other_version}
-use Rattle.record_spec.specs.Write.{record_of, record_length, write_cause, write_answer, write_leaves, write_number, written_length}
 
 module _ (s : Scheme) (version : ℕ) (out : List ℕ) where
   -- A cause n.

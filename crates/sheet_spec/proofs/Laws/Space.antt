@@ -17,7 +17,7 @@ use Rattle.record_spec.specs.Layout.{scheme_in}
 use Rattle.record_spec.specs.Read.{frame_cause, read_cause}
 use Rattle.record_spec.proofs.Laws.Frame.{frame_number}
 use Rattle.record_spec.proofs.Laws.Read.{scheme_none}
-use Rattle.record_spec.specs.declared.WriteAnswer.TheVariants.{Written, Declined}
+use Rattle.record_spec.specs.Write.{Written, Declined}
 use Rattle.sheet_spec.specs.Sheet.{class_lines, year_premium, year_lines, sheet_of, refused_line, sheet_text}
 use Rattle.sheet_spec.specs.Answer.{space_of, space_for, sheet_answer, sheet_leaves, TextPromise}
 use Rattle.sheet_spec.proofs.Laws.Figures.{share_at_most, mean_at_most, total_at_most}

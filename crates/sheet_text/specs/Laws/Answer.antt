@@ -11,11 +11,9 @@ use Rattle.record_spec.specs.Read.{read_cause}
 use Rattle.record.specs.Laws.Lists.{sets_front}
 use Rattle.bounds_spec.specs.Answers.{sheet_slice}
 use Rattle.bounds_spec.specs.Table.{table_cause}
-use Rattle.record_spec.specs.declared.WriteAnswer.{WriteAnswer}
-use Rattle.record_spec.specs.declared.WriteAnswer.TheVariants.{Written, Declined}
+use Rattle.record_spec.specs.Write.{WriteAnswer, Written, Declined, write_number, written_length}
 use Rattle.sheet_spec.specs.Sheet.{sheet_of, refused_line, sheet_text}
 use Rattle.sheet_text.specs.Put.{Space, Put}
-use Rattle.record_spec.specs.Write.{write_number, written_length}
 use Rattle.sheet_spec.specs.Answer.{space_of, space_for, TextAnswered, sheet_answer, sheet_leaves, TextPromise}
 use Rattle.sheet_spec.proofs.Laws.Space.{text_accepted, space_accepted, text_refused, space_refused, text_kept}
 use Rattle.bounds_spec.specs.Causes.{table_size}
