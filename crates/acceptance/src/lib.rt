@@ -3,24 +3,20 @@
 
 ghost use Rattle.std.specs.Prelude.{◌≡◌};
 ghost use Rattle.scheme.specs.Cause.{cause_of};
+ghost use Rattle.scheme.specs.Number.{number_in};
 
-use scheme::{Scheme, or_else};
+use scheme::{Cause, Scheme};
 
 mod tests;
 
-// The first cause that applies to the scheme, tests in their order, or 0.
-pub fn cause(scheme: Scheme) -> u8
-    ensures { result ≡ cause_of scheme }
+// The first cause that applies to the scheme, tests in their order.
+pub fn check(scheme: Scheme) -> Result<(), Cause>
+    ensures { number_in result ≡ cause_of scheme }
 {
     let classes = scheme.classes;
     let columns = scheme.columns;
-    let form = tests::form_cause(classes, columns, scheme.start, scheme.horizon);
-    if form != 0 {
-        return form;
-    }
-    let leads = tests::rule_cause(&scheme.rules, classes, columns);
-    let bands = tests::band_cause(&scheme.lowers, &scheme.uppers, columns);
-    let money = tests::premium_cause(&scheme.premiums, classes);
-    let later = or_else(bands, money);
-    or_else(leads, later)
+    tests::check_form(classes, columns, scheme.start, scheme.horizon)?;
+    tests::check_rules(&scheme.rules, classes, columns)?;
+    tests::check_bands(&scheme.lowers, &scheme.uppers, columns)?;
+    tests::check_premiums(&scheme.premiums, classes)
 }

@@ -6,25 +6,23 @@ ghost use Rattle.setchain.specs.Tests.{any_below};
 ghost use Rattle.setchain.specs.Rows.{ONE};
 ghost use Rattle.scheme.specs.FirstCause.{◌when◌};
 ghost use Rattle.scheme.specs.Cause.{outside, band_test};
+ghost use Rattle.scheme.specs.Number.{number_in};
 ghost use Rattle.scheme.specs.Stages.{form_cause, band_cause, limit_cause};
 
-use scheme::{outside, wide};
+use scheme::{Cause, outside};
 
-// The first of causes 3, 5 and 6, or 0.
-pub fn form_cause(classes: u8, columns: u8, start: u8, horizon: u8) -> u8
-    ensures { result ≡ form_cause classes columns start horizon }
+// The first of causes 3, 5 and 6.
+pub fn check_form(classes: u8, columns: u8, start: u8, horizon: u8) -> Result<(), Cause>
+    ensures { number_in result ≡ form_cause classes columns start horizon }
 {
-    let sizes = scheme::sizes_cause(classes, columns);
-    if sizes != 0 {
-        return sizes;
-    }
+    scheme::check_sizes(classes, columns)?;
     if outside(start, classes) {
-        return scheme::START_OUT;
+        return Err(Cause::Start);
     }
     if scheme::MOST_YEARS < horizon {
-        return scheme::HORIZON_OUT;
+        return Err(Cause::Horizon);
     }
-    0
+    Ok(())
 }
 
 // Some rule from place `from` on, of as many as there are columns, is outside 1 to s.
@@ -43,20 +41,20 @@ fn row_out(rules: &[u8], from: usize, classes: u8, columns: u8) -> bool
     false
 }
 
-// Some rule of some class is outside 1 to s.
-pub fn rule_cause(rules: &[u8], classes: u8, columns: u8) -> u8
+// Cause 7: some rule of some class is outside 1 to s.
+pub fn check_rules(rules: &[u8], classes: u8, columns: u8) -> Result<(), Cause>
     requires { (classes * CELL_STRIDE ≤ length rules.now) × (columns ≤ CELL_STRIDE) }
-    ensures { result ≡ 7 when any_below classes (λ i. any_below columns (λ k. outside classes (get_or rules.now (i * CELL_STRIDE + k) 0))) }
+    ensures { number_in result ≡ 7 when any_below classes (λ i. any_below columns (λ k. outside classes (get_or rules.now (i * CELL_STRIDE + k) 0))) }
 {
     let n = classes as usize;
     let mut i: usize = 0;
     while i < n {
         if row_out(rules, i * scheme::CELL_STRIDE, classes, columns) {
-            return scheme::RULE_OUT;
+            return Err(Cause::Rule);
         }
         i += 1;
     }
-    0
+    Ok(())
 }
 
 // A band's lower end is above its upper, or its upper above ONE.
@@ -91,7 +89,7 @@ fn sum(ends: &[u32], columns: u8) -> u64
     let mut total: u64 = 0;
     let mut k: usize = 0;
     while k < n {
-        total += wide(ends[k]);
+        total += u64::from(ends[k]);
         k += 1;
     }
     total
@@ -105,32 +103,32 @@ fn sum_out(lowers: &[u32], uppers: &[u32], columns: u8) -> bool
     setchain::ONE < sum(lowers, columns) || sum(uppers, columns) < setchain::ONE
 }
 
-// The first of causes 8 and 9, or 0.
-pub fn band_cause<'a>(lowers: &'a [u32], uppers: &'a [u32], columns: u8) -> u8
+// The first of causes 8 and 9.
+pub fn check_bands(lowers: &[u32], uppers: &[u32], columns: u8) -> Result<(), Cause>
     requires { (columns ≤ length lowers.now) × (columns ≤ length uppers.now) }
-    ensures { result ≡ band_cause columns (λ k. get_or lowers.now k 0) (λ k. get_or uppers.now k 0) }
+    ensures { number_in result ≡ band_cause columns (λ k. get_or lowers.now k 0) (λ k. get_or uppers.now k 0) }
 {
     if band_out(lowers, uppers, columns) {
-        return scheme::BAND_OUT;
+        return Err(Cause::Band);
     }
     if sum_out(lowers, uppers, columns) {
-        return scheme::SUM_OUT;
+        return Err(Cause::Sum);
     }
-    0
+    Ok(())
 }
 
-// Cause 10 where some class's premium is above 10,000,000, or 0.
-pub fn premium_cause(premiums: &[u32], classes: u8) -> u8
+// Cause 10: some class's premium is above 10,000,000.
+pub fn check_premiums(premiums: &[u32], classes: u8) -> Result<(), Cause>
     requires { classes ≤ length premiums.now }
-    ensures { result ≡ limit_cause 10000000 premiums.now classes }
+    ensures { number_in result ≡ limit_cause 10000000 premiums.now classes }
 {
     let n = classes as usize;
     let mut i: usize = 0;
     while i < n {
         if scheme::MOST_PREMIUM < premiums[i] {
-            return scheme::MONEY_OUT;
+            return Err(Cause::Money);
         }
         i += 1;
     }
-    0
+    Ok(())
 }

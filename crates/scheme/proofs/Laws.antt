@@ -2,6 +2,7 @@
 pub mod Access
 pub mod FirstCause
 pub mod Cause
+pub mod Number
 pub mod Limits
 pub mod Judged
 pub mod Sound

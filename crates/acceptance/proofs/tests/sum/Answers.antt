@@ -7,4 +7,4 @@ pub loop-k-init : goal.loop-k-init
 loop-k-init c = (omega arith, total_start _, omega arith)
 
 pub loop-k-preserved : goal.loop-k-preserved
-loop-k-preserved c = (omega arith, total_more _ _ _ _ c.loop-k.invariant.1 c.wide-total.ensures.0, omega arith)
+loop-k-preserved c = (omega arith, total_more _ _ _ _ c.loop-k.invariant.1 c.from-total.ensures, omega arith)

@@ -1,8 +1,8 @@
--- `premium_cause` meets its contract: no class before i has a premium above the limit.
+-- `check_premiums` meets its contract: no class before i has a premium above the limit.
 -- Assumes nothing.
 use native.Mathlib.Omega.{arith}
 use Rattle.scheme.proofs.Laws.Limits.{above_none, above_more, above_found}
-use Rattle.acceptance.proofs.tests.premium_cause.Goals as goal
+use Rattle.acceptance.proofs.tests.check_premiums.Goals as goal
 
 pub loop-i-init : goal.loop-i-init
 loop-i-init c = above_none

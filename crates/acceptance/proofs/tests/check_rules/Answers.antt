@@ -1,9 +1,9 @@
--- `rule_cause` meets its contract: no class before i has a rule outside 1 to s.
+-- `check_rules` meets its contract: no class before i has a rule outside 1 to s.
 use mathlib.Core.Path.{sym, ◌∙◌}
 use native.Mathlib.Omega.{arith}
 use Rattle.setchain.proofs.Laws.Tests.{any_none, any_more, any_hit}
 use Rattle.scheme.proofs.Laws.FirstCause.{cond_true}
-use Rattle.acceptance.proofs.tests.rule_cause.Goals as goal
+use Rattle.acceptance.proofs.tests.check_rules.Goals as goal
 
 pub loop-i-init : goal.loop-i-init
 loop-i-init c = (omega arith, any_none _)

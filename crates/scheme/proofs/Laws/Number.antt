@@ -1,0 +1,46 @@
+-- What an answer's number tells: a cause is never 0, and a cause that `?` passes on keeps its number.
+use Rattle.std.proofs.Common.{◌≡◌, ℕ, sym, ap, ◌∙◌, arith, true≢false, Result, Ok, Err}
+use Rattle.std.specs.Prelude.{IsErr, IsErrAnd}
+use Rattle.scheme.specs.declared.Cause.{Cause}
+use Rattle.scheme.specs.declared.Cause.TheVariants.{Version, LengthField, Size, Length, Start, Horizon, Rule, Band, Sum, Money, Class, Year, Slice, Ready, Base, NotMixing, LastColumn, Count, NoChamber, Frequency}
+use Rattle.scheme.specs.FirstCause.{or_else}
+use Rattle.scheme.specs.Number.{cause_number, number_in}
+use Rattle.scheme.proofs.Laws.FirstCause.{first_cause, second_cause}
+
+-- No cause has the number 0.
+pub cause_some : (cause : Cause) → cause_number cause ≡ 0 → ⊥
+cause_some Version none = omega arith
+cause_some LengthField none = omega arith
+cause_some Size none = omega arith
+cause_some Length none = omega arith
+cause_some Start none = omega arith
+cause_some Horizon none = omega arith
+cause_some Rule none = omega arith
+cause_some Band none = omega arith
+cause_some Sum none = omega arith
+cause_some Money none = omega arith
+cause_some Class none = omega arith
+cause_some Year none = omega arith
+cause_some Slice none = omega arith
+cause_some Ready none = omega arith
+cause_some Base none = omega arith
+cause_some NotMixing none = omega arith
+cause_some LastColumn none = omega arith
+cause_some Count none = omega arith
+cause_some NoChamber none = omega arith
+cause_some Frequency none = omega arith
+
+-- An answer to which `?` passed a cause on has its number.
+pub passed_on : {A : Type 0} (r : Result A Cause) (cause : Cause) → IsErr r × IsErrAnd r (λ e. e ≡ cause) → number_in r ≡ cause_number cause
+passed_on (Ok answer) cause w = absurd (true≢false (sym w.0))
+passed_on (Err e) cause w = ap cause_number w.1
+
+-- The cause of the first of two checks, passed on, is the first of both.
+pub first_declines : {A : Type 0} (r : Result A Cause) (cause : Cause) {first : ℕ} (second : ℕ) →
+  IsErr r × IsErrAnd r (λ e. e ≡ cause) → cause_number cause ≡ first → number_in r ≡ or_else first second
+first_declines r cause {first} second w is =
+    passed_on r cause w ∙ is ∙ sym (first_cause first second (λ none. cause_some cause (is ∙ none)))
+
+-- Where the first check finds none, what the second finds is the first of both.
+pub second_declines : {number first second : ℕ} → 0 ≡ first → number ≡ second → number ≡ or_else first second
+second_declines {number} {first} {second} none is = is ∙ sym (second_cause first second (sym none))
