@@ -2,55 +2,30 @@
 #![tactic(auto)]
 
 ghost use Rattle.std.specs.Prelude.{◌≡◌};
-ghost use Rattle.record_spec.specs.Read.{read_cause, declined_with, read_answer};
+ghost use Rattle.scheme.specs.Number.{number_in};
+ghost use Rattle.record_spec.specs.Read.{read_cause, read_answer_of, read_answer};
 ghost use Rattle.record_spec.specs.Layout.{other_version, layout_of, header_length, length_of};
 
-pub use record_spec::ReadAnswer;
+use scheme::{Cause, Scheme};
 
 mod reading;
 
-// The refusal numbers of document 01, "When a call is declined", and of document 02, item 5, that only a record brings.
-pub const VERSION_OUT: u8 = 1;
-
-pub const FIELD_OUT: u8 = 2;
-
-pub const LENGTH_OUT: u8 = 4;
-
-pub const LAST_COLUMN_OUT: u8 = 17;
-
-// The answer of a declined reading.
-fn declined(number: u8) -> ReadAnswer
-    ensures { result ≡ declined_with number }
-{
-    let scheme = scheme::no_scheme();
-    ReadAnswer { number, scheme }
-}
-
 // Reads a record: any bytes, of any length.
-pub fn read(bytes: &[u8]) -> ReadAnswer
-    ensures { result ≡ read_answer bytes.now }
+pub fn read(bytes: &[u8]) -> Result<Scheme, Cause>
+    ensures { read_answer_of result ≡ read_answer bytes.now }
 {
-    let frame = reading::frame(bytes);
-    if frame != 0 {
-        return declined(frame);
-    }
+    reading::check_frame(bytes)?;
     let scheme = reading::parsed(bytes);
-    let number = acceptance::cause(scheme);
-    if number != 0 {
-        return declined(number);
-    }
-    ReadAnswer { number, scheme }
+    acceptance::check(scheme)?;
+    Ok(scheme)
 }
 
-// The first cause of any bytes, or 0.
-pub fn cause(bytes: &[u8]) -> u8
-    ensures { result ≡ read_cause bytes.now }
+// The first cause of any bytes.
+pub fn check(bytes: &[u8]) -> Result<(), Cause>
+    ensures { number_in result ≡ read_cause bytes.now }
 {
-    let frame = reading::frame(bytes);
-    if frame != 0 {
-        return frame;
-    }
-    acceptance::cause(reading::parsed(bytes))
+    reading::check_frame(bytes)?;
+    acceptance::check(reading::parsed(bytes))
 }
 
 // Whether there is no such version.

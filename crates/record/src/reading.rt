@@ -5,87 +5,72 @@ ghost use Rattle.scheme.specs.Tables.{tab};
 ghost use Rattle.big_endian_spec.specs.Numbers.{be_at};
 ghost use Rattle.scheme.specs.Stored.{up_to, rules_up_to};
 ghost use Rattle.scheme.specs.FirstCause.{◌when◌};
+ghost use Rattle.scheme.specs.Number.{number_in};
 ghost use Rattle.record_spec.specs.Layout.{HEADER, layout_in, header_length, columns_in, scheme_in};
 ghost use Rattle.record_spec.specs.Read.{version_out, field_out, length_out, further_out, frame_cause};
 ghost use Rattle.record_spec.specs.Frame.{Framed};
 
-use super::{
-    FIELD_OUT, LAST_COLUMN_OUT, LENGTH_OUT, VERSION_OUT, header_length, length_of, other_version,
-    premium_width,
-};
+use super::{header_length, length_of, other_version, premium_width};
 use record_spec::{BAND_WIDTH, END_WIDTH, HEADER};
-use scheme::{Scheme, or_else};
+use scheme::{Cause, Scheme};
 
-// Cause 1, or 0.
-fn version_cause(bytes: &[u8]) -> u8
-    ensures { result ≡ 1 when version_out bytes.now }
+// Cause 1.
+fn check_version(bytes: &[u8]) -> Result<(), Cause>
+    ensures { number_in result ≡ 1 when version_out bytes.now }
 {
-    if bytes.len() == 0 {
-        return VERSION_OUT;
+    match bytes.first() {
+        Some(version) if !other_version(u64::from(*version)) => Ok(()),
+        _ => Err(Cause::Version),
     }
-    if other_version(bytes[0] as u64) {
-        return VERSION_OUT;
-    }
-    0
 }
 
-// Cause 2, or 0.
-fn field_cause(bytes: &[u8]) -> u8
-    ensures { result ≡ 2 when field_out bytes.now }
+// Cause 2.
+fn check_length_field(bytes: &[u8]) -> Result<(), Cause>
+    ensures { number_in result ≡ 2 when field_out bytes.now }
 {
     if bytes.len() < HEADER {
-        return FIELD_OUT;
+        return Err(Cause::LengthField);
     }
     if (big_endian::number_at(bytes, 1, 2) as usize) != bytes.len() {
-        return FIELD_OUT;
+        return Err(Cause::LengthField);
     }
-    0
+    Ok(())
 }
 
-// Cause 4, or 0.
-fn length_cause(bytes: &[u8]) -> u8
+// Cause 4.
+fn check_length(bytes: &[u8]) -> Result<(), Cause>
     requires { HEADER ≤ length bytes.now }
-    ensures { result ≡ 4 when length_out bytes.now }
+    ensures { number_in result ≡ 4 when length_out bytes.now }
 {
-    if bytes.len() != length_of(bytes[0] as u64, bytes[3], bytes[4]) {
-        return LENGTH_OUT;
+    if bytes.len() != length_of(u64::from(bytes[0]), bytes[3], bytes[4]) {
+        return Err(Cause::Length);
     }
-    0
+    Ok(())
 }
 
-// Cause 17, or 0.
-fn last_column_cause(bytes: &[u8]) -> u8
+// Cause 17.
+fn check_last_column(bytes: &[u8]) -> Result<(), Cause>
     requires { (header_length (layout_in bytes.now) ≤ length bytes.now) × (1 ≤ columns_in bytes.now) }
-    ensures { result ≡ 17 when further_out bytes.now }
+    ensures { number_in result ≡ 17 when further_out bytes.now }
 {
     if bytes[0] != 2 {
-        return 0;
+        return Ok(());
     }
     if bytes[7] != bytes[4] - 1 {
-        return LAST_COLUMN_OUT;
+        return Err(Cause::LastColumn);
     }
-    0
+    Ok(())
 }
 
-// The first of the causes 1 to 4 and 17, or 0.
-pub fn frame(bytes: &[u8]) -> u8
-    ensures { result ≡ frame_cause bytes.now }
+// The first of the causes 1 to 4 and 17.
+pub fn check_frame(bytes: &[u8]) -> Result<(), Cause>
+    ensures { number_in result ≡ frame_cause bytes.now }
 {
-    let version = version_cause(bytes);
-    let field = field_cause(bytes);
-    let head = or_else(version, field);
-    if head != 0 {
-        return head;
-    }
-    let classes = bytes[3];
-    let columns = bytes[4];
-    let sizes = scheme::sizes_cause(classes, columns);
-    let length = length_cause(bytes);
-    let shape = or_else(sizes, length);
-    if shape != 0 {
-        return shape;
-    }
-    last_column_cause(bytes)
+    check_version(bytes)?;
+    check_length_field(bytes)?;
+    scheme::check_sizes(bytes[3], bytes[4])?;
+    check_length(bytes)?;
+    check_last_column(bytes)
 }
 
 // The rules of s classes and m columns, from place `from` on.

@@ -30,10 +30,14 @@ cause_some Count none = omega arith
 cause_some NoChamber none = omega arith
 cause_some Frequency none = omega arith
 
--- An answer to which `?` passed a cause on has its number.
+-- An answer to which `?` passed a cause on is that cause.
+pub passed_whole : {A : Type 0} (r : Result A Cause) (cause : Cause) → IsErr r × IsErrAnd r (λ e. e ≡ cause) → r ≡ Err cause
+passed_whole (Ok answer) cause w = absurd (true≢false (sym w.0))
+passed_whole (Err e) cause w = ap Err w.1
+
+-- So it has the cause's number.
 pub passed_on : {A : Type 0} (r : Result A Cause) (cause : Cause) → IsErr r × IsErrAnd r (λ e. e ≡ cause) → number_in r ≡ cause_number cause
-passed_on (Ok answer) cause w = absurd (true≢false (sym w.0))
-passed_on (Err e) cause w = ap cause_number w.1
+passed_on r cause w = ap number_in (passed_whole r cause w)
 
 -- The cause of the first of two checks, passed on, is the first of both.
 pub first_declines : {A : Type 0} (r : Result A Cause) (cause : Cause) {first : ℕ} (second : ℕ) →

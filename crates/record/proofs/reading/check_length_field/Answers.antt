@@ -1,10 +1,10 @@
--- `reading::field_cause` meets its contract.
+-- `reading::check_length_field` meets its contract.
 use mathlib.Core.Path.{◌≡◌, sym, ◌∙◌}
 use native.Mathlib.Omega.{arith}
 use borrow.Author.Tests.{eq-eqb, ne_eqb, le-ltb}
 use Rattle.big_endian_spec.specs.Numbers.{be_at}
 use Rattle.big_endian_spec.proofs.Laws.{read_held}
-use Rattle.record.proofs.reading.field_cause.Goals as goal
+use Rattle.record.proofs.reading.check_length_field.Goals as goal
 
 pub returns-then-number_at-bytes : goal.returns-then-number_at-bytes
 returns-then-number_at-bytes c =

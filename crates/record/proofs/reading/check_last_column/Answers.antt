@@ -1,10 +1,10 @@
--- `reading::last_column_cause` meets its contract.
+-- `reading::check_last_column` meets its contract.
 use mathlib.Core.Path.{ap}
 use native.Mathlib.Omega.{arith}
 use Rattle.record_spec.specs.Layout.{header_length}
 use Rattle.record_spec.proofs.Laws.Layout.{second_layout}
 use Rattle.record_spec.proofs.Laws.Frame.{none_further, last_differs, last_same}
-use Rattle.record.proofs.reading.last_column_cause.Goals as goal
+use Rattle.record.proofs.reading.check_last_column.Goals as goal
 
 pub returns-then-bytes-ne2 : goal.returns-then-bytes-ne2
 returns-then-bytes-ne2 c = none_further c.args.bytes.now c.if-bytes-ne2.true
