@@ -30,15 +30,9 @@ fn row_out(rules: &[u8], from: usize, classes: u8, columns: u8) -> bool
     requires { from + columns ≤ length rules.now }
     ensures { result ≡ any_below columns (λ k. outside classes (get_or rules.now (from + k) 0)) }
 {
-    let n = columns as usize;
-    let mut k: usize = 0;
-    while k < n {
-        if outside(rules[from + k], classes) {
-            return true;
-        }
-        k += 1;
-    }
-    false
+    rules[from..from + usize::from(columns)]
+        .iter()
+        .any(|rule| outside(*rule, classes))
 }
 
 // Cause 7: some rule of some class is outside 1 to s.
@@ -46,13 +40,10 @@ pub fn check_rules(rules: &[u8], classes: u8, columns: u8) -> Result<(), Cause>
     requires { (classes * CELL_STRIDE ≤ length rules.now) × (columns ≤ CELL_STRIDE) }
     ensures { number_in result ≡ 7 when any_below classes (λ i. any_below columns (λ k. outside classes (get_or rules.now (i * CELL_STRIDE + k) 0))) }
 {
-    let n = classes as usize;
-    let mut i: usize = 0;
-    while i < n {
+    for i in 0..usize::from(classes) {
         if row_out(rules, i * scheme::CELL_STRIDE, classes, columns) {
             return Err(Cause::Rule);
         }
-        i += 1;
     }
     Ok(())
 }
@@ -69,15 +60,11 @@ fn band_out(lowers: &[u32], uppers: &[u32], columns: u8) -> bool
     requires { (columns ≤ length lowers.now) × (columns ≤ length uppers.now) }
     ensures { result ≡ any_below columns (λ k. band_test (get_or lowers.now k 0) (get_or uppers.now k 0)) }
 {
-    let n = columns as usize;
-    let mut k: usize = 0;
-    while k < n {
-        if band_bad(lowers[k], uppers[k]) {
-            return true;
-        }
-        k += 1;
-    }
-    false
+    lowers
+        .iter()
+        .zip(uppers)
+        .take(usize::from(columns))
+        .any(|(lower, upper)| band_bad(*lower, *upper))
 }
 
 // The sum of a band's ends over the columns, in 64 bits.
@@ -85,14 +72,10 @@ fn sum(ends: &[u32], columns: u8) -> u64
     requires { columns ≤ length ends.now }
     ensures { result ≡ sum_to columns (λ k. get_or ends.now k 0) }
 {
-    let n = columns as usize;
-    let mut total: u64 = 0;
-    let mut k: usize = 0;
-    while k < n {
-        total += u64::from(ends[k]);
-        k += 1;
-    }
-    total
+    ends[..usize::from(columns)]
+        .iter()
+        .map(|end| u64::from(*end))
+        .sum()
 }
 
 // The lowers sum above ONE, or the uppers below.
@@ -122,13 +105,11 @@ pub fn check_premiums(premiums: &[u32], classes: u8) -> Result<(), Cause>
     requires { classes ≤ length premiums.now }
     ensures { number_in result ≡ limit_cause 10000000 premiums.now classes }
 {
-    let n = classes as usize;
-    let mut i: usize = 0;
-    while i < n {
-        if scheme::MOST_PREMIUM < premiums[i] {
-            return Err(Cause::Money);
-        }
-        i += 1;
+    let above = premiums[..usize::from(classes)]
+        .iter()
+        .any(|premium| scheme::MOST_PREMIUM < *premium);
+    if above {
+        return Err(Cause::Money);
     }
     Ok(())
 }

@@ -1,14 +1,17 @@
--- `row_out` meets its contract: no column before k is outside.
-use mathlib.Core.Path.{sym, ◌∙◌}
-use native.Mathlib.Omega.{arith}
-use Rattle.setchain.proofs.Laws.Tests.{any_none, any_more, any_hit}
+-- `row_out` meets its contract: the part of the rules that it reads begins at `from`.
+use Rattle.std.proofs.Common.{rules, take, drop, refl, arith, ◌∙◌, ap, get_or-drop, length-drop}
+use borrow.Author.Tests.{tests}
+use Rattle.std.proofs.lemmas.Iterator.{YieldsList-from_slice}
+use Rattle.std.proofs.lemmas.Iterator.Search.{any_from_yields_List}
+use Rattle.setchain.proofs.Laws.Tests.{any_eq}
+use Rattle.scheme.specs.Cause.{outside}
+use Rattle.acceptance.proofs.ListLaws.{any_front}
 use Rattle.acceptance.proofs.tests.row_out.Goals as goal
 
-pub loop-k-init : goal.loop-k-init
-loop-k-init c = (omega arith, any_none _)
-
-pub returns-then-outside : goal.returns-then-outside
-returns-then-outside c = sym (any_hit _ c.loop-k.k _ (omega arith) (sym c.outside.ensures ∙ c.if-outside.true))
-
-pub loop-k-preserved : goal.loop-k-preserved
-loop-k-preserved c = (omega arith, any_more _ _ c.loop-k.invariant.1 (sym c.outside.ensures ∙ c.if-outside.false))
+pub returns : goal.returns
+returns c =
+    let a = c.args in
+    let later = drop a.from a.rules.now in
+    any_from_yields_List (outside a.classes) _ _ _ c.any.ensures.ran (YieldsList-from_slice (take a.columns later) (search rules)) (λ x b q k. search (rules, tests))
+    ∙ any_front (outside a.classes) 0 later a.columns (omega (arith, length-drop a.from a.rules.now))
+    ∙ any_eq refl _ _ (λ k l. ap (outside a.classes) (get_or-drop a.from a.rules.now k 0))

@@ -1,0 +1,2 @@
+-- Laws over plain lists, which the functions' proofs cite.
+pub mod ListLaws
