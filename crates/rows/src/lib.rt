@@ -50,71 +50,25 @@ pub fn interval_row(scheme: Scheme, class: u64) -> RowAnswer
 
 // The entries that the cells of one class make, over slices.
 
-// b more than a, at most ONE.
-fn add_capped(a: u64, b: u32) -> u64
-    requires { a ≤ ONE }
-    ensures { result ≡ min ONE (a + b) }
-{
-    let sum = a + b as u64;
-    if setchain::ONE < sum {
-        setchain::ONE
-    } else {
-        sum
-    }
-}
-
-// The entry of the class that a rule leads to, with the end of its band added.
+// The entry of the class that a rule leads to, with the end of its band added, at most ONE.
 fn add_to_target(out: &mut [u64], rule: u8, end: u32)
     requires { Capped out.old }
     ensures { out.new ≡ added_to_target out.old rule end }
 {
-    let class = rule as usize;
-    if class == 0 {
-        return;
+    let class = usize::from(rule);
+    if (1..=out.len()).contains(&class) {
+        out[class - 1] = setchain::ONE.min(out[class - 1] + u64::from(end));
     }
-    if out.len() < class {
-        return;
-    }
-    let place = class - 1;
-    out[place] = add_capped(out[place], end);
-}
-
-// 0 everywhere.
-fn clear(out: &mut [u64])
-    ensures { out.new ≡ replicate (length out.old) 0 }
-{
-    let mut i: usize = 0;
-    while i < out.len() {
-        out[i] = 0;
-        i += 1;
-    }
-}
-
-// The smaller of two lengths.
-fn shorter(a: usize, b: usize) -> usize
-    ensures { result ≡ min a b }
-{
-    if a < b { a } else { b }
 }
 
 // For each class, what the bands of the cells that lead to it come to, at most ONE.
 pub fn sum_by_target(rules: &[u8], band: &[u32], out: &mut [u64])
     ensures { out.new ≡ tab (length out.old) (sum_by_target rules.now band.now) }
 {
-    clear(out);
-    let n = shorter(rules.len(), band.len());
-    let mut k: usize = 0;
-    while k < n {
-        add_to_target(out, rules[k], band[k]);
-        k += 1;
+    out.fill(0);
+    for (rule, end) in rules.iter().zip(band) {
+        add_to_target(out, *rule, *end);
     }
-}
-
-// A less b, and 0 where b is more.
-fn less(a: u64, b: u64) -> u64
-    ensures { result ≡ a - b }
-{
-    if a < b { 0 } else { a - b }
 }
 
 // The parts of ONE that the lower entries of a row leave; none where they come to more.
@@ -122,10 +76,8 @@ pub fn slack(lower: &[u64]) -> u64
     ensures { result ≡ slack_of lower.now }
 {
     let mut left = setchain::ONE;
-    let mut i: usize = 0;
-    while i < lower.len() {
-        left = less(left, lower[i]);
-        i += 1;
+    for entry in lower {
+        left = left.saturating_sub(*entry);
     }
     left
 }
@@ -134,12 +86,7 @@ pub fn slack(lower: &[u64]) -> u64
 pub fn copy_row(row: &[u64], out: &mut [u64])
     ensures { out.new ≡ copied_into row.now out.old }
 {
-    if out.len() != row.len() {
-        return;
-    }
-    let mut j: usize = 0;
-    while j < row.len() {
-        out[j] = row[j];
-        j += 1;
+    if out.len() == row.len() {
+        out.copy_from_slice(row);
     }
 }

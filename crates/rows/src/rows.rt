@@ -12,7 +12,7 @@ pub fn entries(rules: &[u8], ends: &[u32], classes: u8) -> [u64; 32]
     requires { classes ≤ 32 }
     ensures { result ≡ entries_of rules.now ends.now classes }
 {
-    let n = classes as usize;
+    let n = usize::from(classes);
     let mut out = [0u64; 32];
     sum_by_target(rules, ends, &mut out[..n]);
     out
@@ -42,7 +42,7 @@ pub fn answered<'a>(
     requires { (1 ≤ class) × (class ≤ classes) × (classes ≤ 32) × (columns ≤ CELL_STRIDE) × (length rules.now ≡ CELL_PLACES) }
     ensures { result ≡ row_from rules.now lowers.now uppers.now columns classes (class - 1) }
 {
-    let m = columns as usize;
+    let m = usize::from(columns);
     let i = (class - 1) as usize;
     let from = i * scheme::CELL_STRIDE;
     let to = from + m;

@@ -1,12 +1,12 @@
 -- `slack` takes each lower entry from what is left.
 -- Assumes nothing.
-use native.Mathlib.Omega.{arith}
-use lib.ListN.{get_or}
+use Rattle.std.proofs.Common.{arith}
+use Rattle.setchain.specs.Sums.{at}
 use Rattle.setchain.proofs.Laws.Sums.{total_start, sum_to_more}
 use Rattle.rows.proofs.slack.Goals as goal
 
-pub loop-i-init : goal.loop-i-init
-loop-i-init c = omega (arith, total_start (λ j. get_or c.args.lower.now j 0))
+pub loop-entry-init : goal.loop-entry-init
+loop-entry-init c = omega (arith, total_start (at c.args.lower.now))
 
-pub loop-i-preserved : goal.loop-i-preserved
-loop-i-preserved c = omega (arith, c.less-left.ensures, sum_to_more (λ j. get_or c.args.lower.now j 0) c.loop-i.i)
+pub loop-entry-preserved : goal.loop-entry-preserved
+loop-entry-preserved c = omega (arith, sum_to_more (at c.args.lower.now) c.loop-entry.entry-index)

@@ -1,11 +1,6 @@
 -- `tighten` meets its contract: after j turns the first j entries are tight, and the others as they were.
-use Prim.Native.Nat.{◌-◌}
-use lib.ListN.{length}
 use Rattle.rows.specs.Laws.Tight.{Tightened}
 use Rattle.rows.proofs.tight.tighten.Given as goal
 
 abbrev pub invariant-loop-j : goal.invariant-loop-j
 invariant-loop-j l = Tightened l.initial.lower l.initial.upper l.j l.lower l.upper
-
-abbrev pub decreases-loop-j : goal.decreases-loop-j
-decreases-loop-j l = length l.lower - l.j

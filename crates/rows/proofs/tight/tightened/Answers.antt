@@ -3,4 +3,4 @@ use Rattle.rows.specs.Laws.Tight.{fronts_tight}
 use Rattle.rows.proofs.tight.tightened.Goals as goal
 
 pub returns : goal.returns
-returns c = fronts_tight c.requires c.tighten.ensures
+returns c = rw c.from-n.ensures (fronts_tight c.requires (rw c.from-n.ensures at c.tighten.ensures))
