@@ -2,50 +2,35 @@
 #![tactic(auto)]
 
 ghost use Rattle.std.specs.Prelude.{◌≡◌, min, ◌+◌, ◌-◌, ◌≤◌, length, replicate};
-ghost use Rattle.scheme.specs.RowAnswer.{interval_answer, row_answer};
+ghost use Rattle.scheme.specs.RowAnswer.{row_answer_of, interval_answer, row_answer};
 ghost use Rattle.setchain.specs.Rows.{ONE};
 ghost use Rattle.rows.specs.Rows.{copied_into};
 ghost use Rattle.scheme.specs.Tables.{tab};
 ghost use Rattle.scheme.specs.SumByTarget.{sum_by_target, added_to_target, slack_of, Capped};
 
-pub use scheme::RowAnswer;
-use scheme::Scheme;
+pub use scheme::Row;
+use scheme::{Cause, Scheme};
 
 mod rows;
 mod tight;
 
 // The row of a class: its interval row made tight.
-pub fn row(scheme: Scheme, class: u64) -> RowAnswer
-    ensures { result ≡ row_answer scheme class }
+pub fn row(scheme: Scheme, class: u64) -> Result<Row, Cause>
+    ensures { row_answer_of result ≡ row_answer scheme class }
 {
-    let interval = interval_row(scheme, class);
-    if interval.number != 0 {
-        return interval;
-    }
-    tight::tightened(interval, scheme.classes)
+    let interval = interval_row(scheme, class)?;
+    Ok(tight::tightened(interval, scheme.classes))
 }
 
 // The interval row of a class, on which all figures rest.
-pub fn interval_row(scheme: Scheme, class: u64) -> RowAnswer
-    ensures { result ≡ interval_answer scheme class }
+pub fn interval_row(scheme: Scheme, class: u64) -> Result<Row, Cause>
+    ensures { row_answer_of result ≡ interval_answer scheme class }
 {
-    let number = acceptance::cause(scheme);
-    if number != 0 {
-        return rows::refused(number);
-    }
+    acceptance::check(scheme)?;
     if scheme::class_out(scheme.classes, class) {
-        return rows::refused(scheme::CLASS_OUT);
+        return Err(Cause::Class);
     }
-    let columns = scheme.columns;
-    let classes = scheme.classes;
-    rows::answered(
-        &scheme.rules,
-        &scheme.lowers,
-        &scheme.uppers,
-        columns,
-        classes,
-        class,
-    )
+    Ok(rows::answered(scheme, class))
 }
 
 // The entries that the cells of one class make, over slices.

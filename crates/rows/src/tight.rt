@@ -1,13 +1,13 @@
 // An interval row made tight (document 02, item 2).
-ghost use Rattle.std.specs.Prelude.{◌≡◌, min, max, ◌-◌, ◌≤◌, length};
+ghost use Rattle.std.specs.Prelude.{◌≡◌, ◌-◌, ◌≤◌, length, Ok};
 ghost use Rattle.setchain.specs.Sums.{at, sum_to};
 ghost use Rattle.setchain.specs.Rows.{ONE, lists_row};
 ghost use Rattle.setchain.specs.Tight.{tight_row};
-ghost use Rattle.scheme.specs.RowAnswer.{row_answered};
+ghost use Rattle.scheme.specs.RowAnswer.{row_answer_of, row_answered};
 ghost use Rattle.scheme.specs.SumByTarget.{Capped};
 ghost use Rattle.rows.specs.Rows.{TightPre, TightPost, TightenedPre};
 
-use scheme::RowAnswer;
+use scheme::Row;
 
 // What all entries but one leave of ONE, from their sum and that one; never below 0.
 fn left_by_others(sum: u64, own: u64) -> u64
@@ -40,17 +40,13 @@ fn tighten(lower: &mut [u64], upper: &mut [u64])
 }
 
 // An interval row made tight.
-pub fn tightened(interval: RowAnswer, classes: u8) -> RowAnswer
-    requires { TightenedPre classes interval }
-    ensures { result ≡ row_answered classes (tight_row classes (lists_row interval.lower interval.upper)) }
+pub fn tightened(interval: Row, classes: u8) -> Row
+    requires { TightenedPre classes (row_answer_of (Ok interval)) }
+    ensures { row_answer_of (Ok result) ≡ row_answered classes (tight_row classes (lists_row interval.lower interval.upper)) }
 {
     let n = usize::from(classes);
     let mut lower = interval.lower;
     let mut upper = interval.upper;
     tighten(&mut lower[..n], &mut upper[..n]);
-    RowAnswer {
-        number: 0,
-        lower,
-        upper,
-    }
+    Row { lower, upper }
 }
