@@ -6,16 +6,12 @@ ghost use Rattle.setchain.specs.Sums.{at};
 ghost use Rattle.book_spec.specs.Book.{book_cause, join_answer};
 
 pub use book_spec::JoinAnswer;
-use scheme::wide;
 
 // The count at a place of a book, or 0 past its end.
 pub fn count_at(book: &[u32], place: usize) -> u32
     ensures { result ≡ at book.now place }
 {
-    if place < book.len() {
-        return book[place];
-    }
-    0
+    book.get(place).copied().unwrap_or(0)
 }
 
 // The first cause for which the counts of the first classes are not pooled, or 0.
@@ -23,14 +19,12 @@ pub fn cause(book: [u32; 32], classes: u8) -> u8
     ensures { result ≡ book_cause classes book }
 {
     let mut chambers: u64 = 0;
-    let mut i: usize = 0;
-    while i < classes as usize {
-        let count = wide(count_at(&book, i));
+    for i in 0..usize::from(classes) {
+        let count = u64::from(count_at(&book, i));
         if book_spec::MOST_COUNT < count {
             return book_spec::COUNT_OUT;
         }
         chambers += count;
-        i += 1;
     }
     if chambers == 0 {
         return book_spec::NO_CHAMBER;
@@ -43,9 +37,8 @@ pub fn join(first: [u32; 32], second: [u32; 32]) -> JoinAnswer
     ensures { result ≡ join_answer first second }
 {
     let mut book = [0u32; 32];
-    let mut i: usize = 0;
-    while i < 32 {
-        let chambers = wide(first[i]) + wide(second[i]);
+    for i in 0..book.len() {
+        let chambers = u64::from(first[i]) + u64::from(second[i]);
         if book_spec::MOST_COUNT < chambers {
             return JoinAnswer {
                 number: book_spec::COUNT_OUT,
@@ -53,7 +46,6 @@ pub fn join(first: [u32; 32], second: [u32; 32]) -> JoinAnswer
             };
         }
         book[i] = chambers as u32;
-        i += 1;
     }
     JoinAnswer { number: 0, book }
 }

@@ -1,11 +1,7 @@
 -- `cause` meets its contract: the counts before i are within the limit, and summed.
 -- Assumes nothing.
-use Prim.Native.Nat.{◌-◌}
 use Rattle.book.proofs.BookLaws.{Counted}
 use Rattle.book.proofs.cause.Given as goal
 
 abbrev pub invariant-loop-i : goal.invariant-loop-i
 invariant-loop-i l = Counted l.book l.classes l.i l.chambers
-
-abbrev pub decreases-loop-i : goal.decreases-loop-i
-decreases-loop-i l = l.classes - l.i
