@@ -27,10 +27,8 @@ fn staying_rules(rules: [u8; 256], classes: u8, class: u64) -> [u8; 256]
         return staying;
     }
     let first = (class - 1) as usize * scheme::CELL_STRIDE;
-    let mut k: usize = 0;
-    while k < scheme::CELL_STRIDE {
-        staying[first + k] = staying_rule(staying[first + k], classes, class as u8);
-        k += 1;
+    for rule in &mut staying[first..first + scheme::CELL_STRIDE] {
+        *rule = staying_rule(*rule, classes, class as u8);
     }
     staying
 }

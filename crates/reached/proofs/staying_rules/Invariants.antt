@@ -1,12 +1,9 @@
 -- `staying_rules` leads the rules of one class to itself: the invariant says so of the cells passed.
 -- Assumes nothing.
-use Prim.Native.Nat.{◌-◌}
 use Rattle.scheme.specs.Access.{CELL_STRIDE}
-use Rattle.reached.proofs.RulesLaws.{Led}
+use Rattle.order.proofs.Laws.Written.{Rewritten}
+use Rattle.reached.specs.Staying.{staying_rule}
 use Rattle.reached.proofs.staying_rules.Given as goal
 
-abbrev pub invariant-loop-k : goal.invariant-loop-k
-invariant-loop-k l = Led l.classes l.class l.initial.staying l.staying l.k
-
-abbrev pub decreases-loop-k : goal.decreases-loop-k
-decreases-loop-k l = CELL_STRIDE - l.k
+abbrev pub invariant-loop-rule : goal.invariant-loop-rule
+invariant-loop-rule l = Rewritten CELL_STRIDE (λ k. staying_rule l.classes l.class) l.initial.rule-items l.rule-items l.rule-index
