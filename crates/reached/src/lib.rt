@@ -38,19 +38,9 @@ pub fn reached(scheme: Scheme, class: u64, year: u64) -> Bounds
     ensures answer { result ≡ reached_answer scheme class year }
     ensures promise { ReachedPromise scheme class year result }
 {
-    let rules = scheme.rules;
-    let lowers = scheme.lowers;
-    let uppers = scheme.uppers;
-    let premiums = scheme.premiums;
     let staying = Scheme {
-        classes: scheme.classes,
-        columns: scheme.columns,
-        start: scheme.start,
-        horizon: scheme.horizon,
-        rules: staying_rules(rules, scheme.classes, class),
-        lowers,
-        uppers,
-        premiums,
+        rules: staying_rules(scheme.rules, scheme.classes, class),
+        ..scheme
     };
     bounds::share(staying, class, year)
 }
