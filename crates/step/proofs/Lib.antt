@@ -1,2 +1,4 @@
 -- Laws over plain lists, which the functions' proofs cite.
 pub mod AnswerLaws
+pub mod Listed
+pub mod WeighLaws

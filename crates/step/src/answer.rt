@@ -25,13 +25,9 @@ fn payoff_cause(payoff: &[u64], classes: u8) -> u8
     requires { classes ≤ length payoff.now }
     ensures { result ≡ limit_cause MOST_PAYOFF payoff.now classes }
 {
-    let n = classes as usize;
-    let mut i: usize = 0;
-    while i < n {
-        if crate::MOST_PAYOFF < payoff[i] {
-            return scheme::MONEY_OUT;
-        }
-        i += 1;
+    let n = usize::from(classes);
+    if payoff[..n].iter().any(|pays| crate::MOST_PAYOFF < *pays) {
+        return scheme::MONEY_OUT;
     }
     0
 }

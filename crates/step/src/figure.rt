@@ -11,10 +11,8 @@ fn weigh(row: &[u64], payoff: &[u64]) -> u64
     ensures { result ≡ dot (length row.now) (at row.now) (at payoff.now) }
 {
     let mut sum: u64 = 0;
-    let mut j = 0;
-    while j < row.len() {
-        sum += row[j] * payoff[j];
-        j += 1;
+    for (part, pays) in row.iter().zip(payoff) {
+        sum += *part * *pays;
     }
     sum
 }

@@ -1,14 +1,23 @@
--- `payoff_cause` meets its contract: no class before i has a payoff above the limit.
+-- `payoff_cause` meets its contract: `any` tells whether a class has a payoff above the limit.
 -- Assumes nothing.
-use native.Mathlib.Omega.{arith}
-use Rattle.scheme.proofs.Laws.Limits.{above_none, above_more, above_found}
+use mathlib.Core.Path.{◌≡◌}
+use lib.Dec.{ltb}
+use lib.ListN.{take}
+use borrow.Author.Rules.{rules}
+use borrow.Author.Tests.{tests}
+use Rattle.std.specs.List.{list_any}
+use Rattle.std.proofs.lemmas.Iterator.{YieldsList-from_slice}
+use Rattle.std.proofs.lemmas.Iterator.Search.{any_from_yields_List}
+use Rattle.step_spec.specs.StepAnswer.{MOST_PAYOFF}
+use Rattle.step.proofs.Listed.{limit_passed, limit_kept}
 use Rattle.step.proofs.answer.payoff_cause.Goals as goal
 
-pub loop-i-init : goal.loop-i-init
-loop-i-init c = above_none
+pub returns-then-any : goal.returns-then-any
+returns-then-any c =
+    let is : c.any.result ≡ list_any (ltb MOST_PAYOFF) (take c.args.classes c.args.payoff.now) = any_from_yields_List (ltb MOST_PAYOFF) _ _ c.any.result c.any.ensures.ran (YieldsList-from_slice (take c.args.classes c.args.payoff.now) (cc)) (λ x b q k. search (rules, tests)) in
+    limit_passed MOST_PAYOFF c.args.payoff.now c.args.classes c.requires is c.if-any.true
 
-pub returns-then-payoff-i-gt-MOST_PAYOFF : goal.returns-then-payoff-i-gt-MOST_PAYOFF
-returns-then-payoff-i-gt-MOST_PAYOFF c = above_found c.loop-i.invariant (omega arith) (omega (arith, c.if-payoff-i-gt-MOST_PAYOFF.true))
-
-pub loop-i-preserved : goal.loop-i-preserved
-loop-i-preserved c = above_more c.loop-i.invariant (omega arith) c.if-payoff-i-gt-MOST_PAYOFF.false
+pub returns : goal.returns
+returns c =
+    let is : c.any.result ≡ list_any (ltb MOST_PAYOFF) (take c.args.classes c.args.payoff.now) = any_from_yields_List (ltb MOST_PAYOFF) _ _ c.any.result c.any.ensures.ran (YieldsList-from_slice (take c.args.classes c.args.payoff.now) (cc)) (λ x b q k. search (rules, tests)) in
+    limit_kept MOST_PAYOFF c.args.payoff.now c.args.classes c.requires is c.if-any.false
