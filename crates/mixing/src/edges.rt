@@ -20,10 +20,8 @@ fn entries_above_zero(entries: &[u64]) -> u32
     ensures { result ≡ bits_of (length entries.now) (λ j. ltb 0 (at entries.now j)) }
 {
     let mut bits: u32 = 0;
-    let mut j = entries.len();
-    while 0 < j {
-        j -= 1;
-        bits = bits * 2 + above_zero(entries[j]);
+    for entry in entries.iter().rev() {
+        bits = bits * 2 + above_zero(*entry);
     }
     bits
 }
@@ -33,7 +31,7 @@ fn class_edges(scheme: Scheme, class: u64) -> u32
     requires { (cause_of scheme ≡ 0) × (1 ≤ class) × (class ≤ scheme.classes) }
     ensures { result ≡ bits_of scheme.classes (scheme_edges scheme (class - 1)) }
 {
-    let n = scheme.classes as usize;
+    let n = usize::from(scheme.classes);
     let answer = rows::row(scheme, class);
     let lower = answer.lower;
     entries_above_zero(&lower[..n])
@@ -44,12 +42,10 @@ pub fn edges(scheme: Scheme) -> [u32; 32]
     requires { cause_of scheme ≡ 0 }
     ensures { Holds scheme.classes result (scheme_edges scheme) }
 {
-    let n = scheme.classes as usize;
+    let n = usize::from(scheme.classes);
     let mut out = [0u32; 32];
-    let mut i: usize = 0;
-    while i < n {
-        out[i] = class_edges(scheme, i as u64 + 1);
-        i += 1;
+    for (i, row) in out[..n].iter_mut().enumerate() {
+        *row = class_edges(scheme, i as u64 + 1);
     }
     out
 }

@@ -19,7 +19,7 @@ pub fn mixing(scheme: Scheme) -> MixingAnswer
     if number != 0 {
         return MixingAnswer { number, count: 0 };
     }
-    let n = scheme.classes as usize;
+    let n = usize::from(scheme.classes);
     let count = powers::first_count(edges::edges(scheme), n);
     if count == 0 {
         return MixingAnswer {

@@ -19,10 +19,8 @@ fn union(set: u32, rows: &[u32]) -> u32
     ensures { result ≡ union_of (length rows.now) set (at rows.now) }
 {
     let mut out: u32 = 0;
-    let mut k: usize = 0;
-    while k < rows.len() {
-        out = out | row_if(set, k as u32, rows[k]);
-        k += 1;
+    for (k, row) in rows.iter().enumerate() {
+        out |= row_if(set, k as u32, *row);
     }
     out
 }
@@ -33,10 +31,8 @@ pub fn product(first: [u32; 32], second: [u32; 32], n: usize) -> [u32; 32]
     ensures { Filled 32 (λ i. union_of n (at first i) (at second)) n result }
 {
     let mut out = [0u32; 32];
-    let mut i: usize = 0;
-    while i < n {
-        out[i] = union(first[i], &second[..n]);
-        i += 1;
+    for (i, row) in out[..n].iter_mut().enumerate() {
+        *row = union(first[i], &second[..n]);
     }
     out
 }
@@ -54,12 +50,5 @@ pub fn all_rows(matrix: [u32; 32], n: usize, row: u32) -> bool
     requires { n ≤ 32 }
     ensures { result ≡ all_below n (λ i. eqb (at matrix i) row) }
 {
-    let mut i: usize = 0;
-    while i < n {
-        if matrix[i] != row {
-            return false;
-        }
-        i += 1;
-    }
-    true
+    matrix[..n].iter().all(|own| *own == row)
 }

@@ -15,21 +15,20 @@ fn store_squares(squares: &mut [[u32; 32]], n: usize, full: u32) -> usize
     requires { SquaresPre n full squares.old }
     ensures { SquaresPost n (get_or squares.old 0 []) result squares.new }
 {
-    let mut k: usize = 0;
-    while k < LAST {
+    for k in 0..LAST {
         let power = squares[k];
         if matrix::all_rows(power, n, full) {
             return k;
         }
         let squared = matrix::product(power, power, n);
         squares[k + 1] = squared;
-        k += 1;
     }
-    let power = squares[k];
+    let power = squares[LAST];
     if matrix::all_rows(power, n, full) {
-        return k;
+        LAST
+    } else {
+        LAST + 1
     }
-    k + 1
 }
 
 // The last count of years that does not mix, where 2 to the power of `levels` mixes and half as many years do not: each smaller square is tried once, the largest first.
@@ -37,11 +36,9 @@ fn last_not_mixing(squares: &[[u32; 32]], levels: usize, n: usize, full: u32) ->
     requires { LastPre n full levels squares.now }
     ensures { LastPost n (get_or squares.now 0 []) result }
 {
-    let mut k = levels - 1;
-    let mut within = squares[k];
-    let mut count: u64 = 1 << k;
-    while 0 < k {
-        k -= 1;
+    let mut within = squares[levels - 1];
+    let mut count: u64 = 1 << (levels - 1);
+    for k in (0..levels - 1).rev() {
         let step = squares[k];
         let further = matrix::product(within, step, n);
         if !matrix::all_rows(further, n, full) {

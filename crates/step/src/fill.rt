@@ -13,6 +13,7 @@ fn fill_slack(upper: &[u64], order: &[u8], high: bool, row: &mut [u64], parts: u
 {
     let mut slack = parts;
     let mut k = 0;
+    // A loop and no `for`: `FillPost` promises the place where the slack ran out, and past the last place there is none to return.
     loop {
         let j = state(class_at(order, k, high));
         let capacity = upper[j] - row[j];

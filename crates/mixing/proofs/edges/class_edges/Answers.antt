@@ -15,9 +15,9 @@ pub slice_bounds-entries_above_zero-end : goal.slice_bounds-entries_above_zero-e
 slice_bounds-entries_above_zero-end c =
     let front : length (take c.args.scheme.classes c.row-answer.result.lower) ≡ c.args.scheme.classes = let pre = c.requires in
     row_front c.args.scheme c.args.class pre.0 pre.1 pre.2 c.row-answer.ensures in
-    sym front
+    rw c.from-n.ensures (sym front)
 
 pub returns : goal.returns
 returns c =
     let pre = c.requires in
-    row_edges c.args.scheme c.args.class pre.0 pre.1 pre.2 c.row-answer.ensures c.entries_above_zero.ensures
+    row_edges c.args.scheme c.args.class pre.0 pre.1 pre.2 c.row-answer.ensures (rw c.from-n.ensures at c.entries_above_zero.ensures)

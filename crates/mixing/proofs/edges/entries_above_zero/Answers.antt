@@ -1,30 +1,32 @@
--- `entries_above_zero` meets its contract: the bits of the entries from j on.
-use Prim.Native.Nat.{◌-◌, ◌<◌}
-use native.Mathlib.Omega.{arith}
-use lib.Dec.{ltb}
-use lib.ListN.{length}
-use Rattle.setchain.specs.Sums.{at}
-use Rattle.mixing.specs.Laws.Bits.{digit_small, bits_start, bits_more, bits_fit}
+-- `entries_above_zero` meets its contract: the bits of the entries passed, the last entry first.
+use Rattle.std.proofs.Common.{arith, ltb, refl, length-append}
+use Rattle.std.proofs.lemmas.Iterator.Adapters.{YieldsList-from_rev_slice}
+use Rattle.std.proofs.lemmas.Iterator.Consumers.{YieldsList-turn, YieldsList-end}
+use Rattle.mixing.specs.Bits.{digit}
+use Rattle.mixing.proofs.EntryLaws.{bits_from_end, bits_room, bits_from_more, bits_from_all}
 use Rattle.mixing.proofs.edges.entries_above_zero.Goals as goal
 
-pub loop-j-init : goal.loop-j-init
-loop-j-init c = (omega arith, bits_start (length c.args.entries.now) _)
+pub loop-entry-init : goal.loop-entry-init
+loop-entry-init c = bits_from_end c.args.entries.now
 
--- The bits so far leave room for one more.
 pub overflow_mul-bits : goal.overflow_mul-bits
 overflow_mul-bits c =
-    let fits : c.loop-j.bits < 2147483648 = bits_fit (length c.args.entries.now) c.loop-j.j c.loop-j.bits _ c.requires (omega arith) (omega arith) c.loop-j.invariant.1 in
-    record { fits = omega (arith, fits) }
+    let turn = YieldsList-turn (YieldsList-from_rev_slice c.args.entries.now (cc)) c.loop-entry.yielded c.loop-entry.entry-iterator c.loop-entry.yielded_by c.next.result c.next.new.self c.in-Some.entry c.in-Some.is c.next.ensures.steps in
+    let room = bits_room c.loop-entry.invariant {bit = digit (ltb 0 c.in-Some.entry.now)} c.requires turn.0 turn.1 refl in
+    record { fits = omega (arith, room) }
 
 pub overflow_add-bits : goal.overflow_add-bits
 overflow_add-bits c =
-    let fits : c.loop-j.bits < 2147483648 = bits_fit (length c.args.entries.now) c.loop-j.j c.loop-j.bits _ c.requires (omega arith) (omega arith) c.loop-j.invariant.1 in
-    let entry = at c.args.entries.now (c.loop-j.j - 1) in
-    record { fits = omega (arith, fits, c.above_zero.ensures, digit_small (ltb 0 entry)) }
+    let turn = YieldsList-turn (YieldsList-from_rev_slice c.args.entries.now (cc)) c.loop-entry.yielded c.loop-entry.entry-iterator c.loop-entry.yielded_by c.next.result c.next.new.self c.in-Some.entry c.in-Some.is c.next.ensures.steps in
+    let room = bits_room c.loop-entry.invariant c.requires turn.0 turn.1 c.above_zero.ensures in
+    record { fits = omega (arith, room) }
 
-pub loop-j-preserved : goal.loop-j-preserved
-loop-j-preserved c =
-    let entries = c.args.entries.now in (
-      omega arith,
-      bits_more (length entries) c.loop-j.j c.loop-j.bits _ (λ k. ltb 0 (at entries k)) (omega arith) (omega arith) c.loop-j.invariant.1 c.above_zero.ensures,
-    )
+pub loop-entry-preserved : goal.loop-entry-preserved
+loop-entry-preserved c =
+    let turn = YieldsList-turn (YieldsList-from_rev_slice c.args.entries.now (cc)) c.loop-entry.yielded c.loop-entry.entry-iterator c.loop-entry.yielded_by c.next.result c.next.new.self c.in-Some.entry c.in-Some.is c.next.ensures.steps in
+    simp length-append (bits_from_more c.loop-entry.invariant c.requires turn.0 turn.1 c.above_zero.ensures)
+
+pub returns : goal.returns
+returns c =
+    let end = YieldsList-end (YieldsList-from_rev_slice c.args.entries.now (cc)) c.loop-entry.yielded c.loop-entry.entry-iterator c.loop-entry.yielded_by c.next.result c.next.new.self c.in-None.is c.next.ensures.steps in
+    bits_from_all c.loop-entry.invariant end.1

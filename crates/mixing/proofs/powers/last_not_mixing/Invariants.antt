@@ -6,6 +6,3 @@ use Rattle.mixing.proofs.powers.last_not_mixing.Given as goal
 
 abbrev pub invariant-loop-k : goal.invariant-loop-k
 invariant-loop-k l = Halving l.n (get_or l.squares 0 []) l.levels l.k l.within l.count
-
-abbrev pub decreases-loop-k : goal.decreases-loop-k
-decreases-loop-k l = l.k
