@@ -1,6 +1,6 @@
 -- The ends of one side, filled column by column: what stands in the locals after k columns with claims.
 -- Assumes nothing.
-use Prim.Native.Nat.{ℕ, suc, ◌+◌, ◌-◌, ◌≤◌, ◌<◌}
+use Prim.Native.Nat.{ℕ, suc, min, ◌+◌, ◌-◌, ◌≤◌, ◌<◌}
 use mathlib.Core.Path.{◌≡◌, ap, sym, ◌∙◌}
 use mathlib.Core.Bool.{Bool, true, false, not, cond}
 use mathlib.Core.List.{List}
@@ -34,6 +34,11 @@ module _ (f entry : ℕ) (e : entry ≡ entry_at f) where
   pub start_most : f ≤ 1000 → ONE ≤ entry → entry ≡ value true f 0
   unfolding value_from
   start_most small h = omega (arith, entry_most f small)
+
+  -- The same two cases as one least number.
+  pub start_least : min ONE (entry + 1) ≡ value true f 0
+  unfolding value_from
+  start_least = ap (λ x. min ONE (x + 1)) e
 
 -- Up to k claims the ends are written, and so far the values of the other kind are summed.
 pub record Run (high : Bool) (claimed free columns : ℕ) (out : List ℕ) (own other sum k : ℕ) : Type 0 where

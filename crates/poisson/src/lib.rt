@@ -17,7 +17,7 @@ fn columns_cause(columns: u64) -> u8
     if columns < 2 {
         return scheme::SIZE_OUT;
     }
-    if (scheme::MOST_COLUMNS as u64) < columns {
+    if u64::from(scheme::MOST_COLUMNS) < columns {
         return scheme::SIZE_OUT;
     }
     0

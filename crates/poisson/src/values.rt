@@ -14,14 +14,11 @@ fn start(high: bool, f: usize) -> u64
     requires { f ≤ 1000 }
     ensures { result ≡ value high f 0 }
 {
-    let entry = scheme::wide(table::entry(f));
+    let entry = u64::from(table::entry(f));
     if !high {
         return entry;
     }
-    if entry < ONE {
-        return entry + 1;
-    }
-    entry
+    ONE.min(entry + 1)
 }
 
 // The value for one claim more than k.
@@ -42,15 +39,13 @@ pub fn ends(high: bool, claimed: usize, free: usize, columns: usize) -> [u32; 8]
     let mut own = start(high, claimed);
     let mut other = start(!high, claimed);
     let mut sum = other;
-    let mut k: usize = 0;
-    while k + 2 < columns {
+    for k in 0..columns - 2 {
         own = next(high, claimed, k, own);
         other = next(!high, claimed, k, other);
-        k += 1;
-        out[k] = own as u32;
+        out[k + 1] = own as u32;
         sum += other;
     }
-    out[k + 1] = rest(sum);
+    out[columns - 1] = rest(sum);
     out
 }
 
@@ -58,8 +53,5 @@ pub fn ends(high: bool, claimed: usize, free: usize, columns: usize) -> [u32; 8]
 fn rest(sum: u64) -> u32
     ensures { result ≡ ONE - sum }
 {
-    if ONE < sum {
-        return 0;
-    }
-    (ONE - sum) as u32
+    ONE.saturating_sub(sum) as u32
 }

@@ -11,7 +11,7 @@ ghost use Rattle.scheme.specs.Stored.{up_to, rules_up_to};
 ghost use Rattle.ready_spec.specs.Answer.{number_cause, base_cause, ready_cause, ready_answer};
 
 pub use ready_spec::ReadyAnswer;
-use scheme::{Scheme, or_else, wide};
+use scheme::{Scheme, or_else};
 
 // The whole of a share, in parts.
 const ONE: u32 = 1000000000;
@@ -84,13 +84,7 @@ fn held_to(s: u64, class: u64) -> u64
     requires { 1 ≤ s }
     ensures { result ≡ held s class }
 {
-    if class < 1 {
-        return 1;
-    }
-    if class < s {
-        return class;
-    }
-    s
+    class.clamp(1, s)
 }
 
 // The class that k claims lead to.
@@ -115,7 +109,7 @@ fn rule_entry(number: u64, place: usize) -> u8
     if s <= i {
         return 0;
     }
-    if (COLUMNS as u64) <= k {
+    if u64::from(COLUMNS) <= k {
         return 0;
     }
     moved(s, factor_of(number), i + 1, k) as u8
@@ -126,10 +120,8 @@ fn rules(number: u64) -> [u8; 256]
     ensures { result ≡ tab CELL_PLACES (rules_up_to (classes_of number) 5 (ready_rule number)) }
 {
     let mut out = [0u8; 256];
-    let mut place: usize = 0;
-    while place < 256 {
-        out[place] = rule_entry(number, place);
-        place += 1;
+    for (place, rule) in out.iter_mut().enumerate() {
+        *rule = rule_entry(number, place);
     }
     out
 }
@@ -140,12 +132,12 @@ fn tenths(number: u64, i: usize) -> u64
     ensures { result ≡ tenths_of number i }
 {
     if number == 1 {
-        return wide(SCALE_1[i]);
+        return u64::from(SCALE_1[i]);
     }
     if number == 2 {
-        return wide(SCALE_2[i]);
+        return u64::from(SCALE_2[i]);
     }
-    wide(SCALE_3[i])
+    u64::from(SCALE_3[i])
 }
 
 // A thousandth, rounded down.
@@ -174,10 +166,8 @@ fn premiums(number: u64, base: u64) -> [u32; 32]
     ensures { result ≡ tab 32 (up_to (classes_of number) (premium_of number base)) }
 {
     let mut out = [0u32; 32];
-    let mut i: usize = 0;
-    while i < 32 {
-        out[i] = premium_entry(number, base, i);
-        i += 1;
+    for (i, premium) in out.iter_mut().enumerate() {
+        *premium = premium_entry(number, base, i);
     }
     out
 }

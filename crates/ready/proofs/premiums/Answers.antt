@@ -4,4 +4,4 @@ use Rattle.scheme.proofs.Laws.Filled.{fill_all}
 use Rattle.ready.proofs.premiums.Goals as goal
 
 pub returns : goal.returns
-returns c = fill_all 32 _ _ _ c.loop-i-test.false c.loop-i.invariant.1
+returns c = fill_all 32 _ _ _ c.loop-i-test.false c.loop-i.invariant

@@ -8,10 +8,10 @@ use Rattle.ready.proofs.rule_entry.Goals as goal
 pub returns-then-s-i : goal.returns-then-s-i
 returns-then-s-i c = sym (up_to_past _ _ _ (omega arith))
 
-pub returns-then-k : goal.returns-then-k
-returns-then-k c = sym (up_to_below _ _ _ (omega arith) ∙ up_to_past _ _ _ c.if-k.true)
+pub returns-then-from-k : goal.returns-then-from-k
+returns-then-from-k c = sym (up_to_below _ _ _ (omega arith) ∙ up_to_past _ _ _ (omega arith))
 
 pub returns : goal.returns
 returns c =
     rw (c.classes_of-s.ensures, c.factor_of.ensures) at c.moved.ensures
-    ∙ sym (up_to_below _ _ _ (omega arith) ∙ up_to_below _ _ _ c.if-k.false)
+    ∙ sym (up_to_below _ _ _ (omega arith) ∙ up_to_below _ _ _ (omega arith))

@@ -5,4 +5,4 @@ use Rattle.scheme.proofs.Laws.Filled.{fill_all}
 use Rattle.ready.proofs.rules.Goals as goal
 
 pub returns : goal.returns
-returns c = fill_all CELL_PLACES _ _ _ c.loop-place-test.false c.loop-place.invariant.1
+returns c = fill_all CELL_PLACES _ _ _ c.loop-place-test.false c.loop-place.invariant

@@ -1,6 +1,7 @@
 -- `ends` meets its contract: column by column its value, and in the last what the other kind's values leave.
 -- Assumes nothing.
-use Prim.Native.Nat.{◌≤◌}
+use Prim.Native.Nat.{◌+◌, ◌-◌, ◌≤◌}
+use mathlib.Core.Path.{◌≡◌}
 use mathlib.Core.Bool.{not}
 use native.Mathlib.Omega.{arith}
 use Rattle.setchain.specs.Rows.{ONE}
@@ -30,4 +31,6 @@ pub loop-k-preserved : goal.loop-k-preserved
 loop-k-preserved c = run_more c.loop-k.invariant c.requires.3 (omega arith) c.next-own.ensures c.next-other.ensures
 
 pub returns : goal.returns
-returns c = run_end c.loop-k.invariant c.requires.3 (omega arith) c.rest.ensures
+returns c =
+    let last : c.args.columns - 1 ≡ c.loop-k.k + 1 = omega (arith, c.loop-k.invariant.inside) in
+    rw last (run_end c.loop-k.invariant c.requires.3 (omega arith) c.rest.ensures)

@@ -1,11 +1,7 @@
 -- `ends` meets its contract: column by column its value, and in the last what the other kind's values leave.
 -- Assumes nothing.
-use Prim.Native.Nat.{◌-◌}
 use Rattle.poisson.proofs.ValuesLaws.{Run}
 use Rattle.poisson.proofs.values.ends.Given as goal
 
 abbrev pub invariant-loop-k : goal.invariant-loop-k
 invariant-loop-k l = Run l.high l.claimed l.free l.columns l.out l.own l.other l.sum l.k
-
-abbrev pub decreases-loop-k : goal.decreases-loop-k
-decreases-loop-k l = l.columns - l.k
