@@ -207,3 +207,14 @@ module _ (s : Scheme) (payoff : List ℕ) (class : ℕ) where
                 reaches_agree same (λ j l. get_or-take s.classes payoff j 0 l) (λ j l. sym (whole_front s.classes row ok.size.classes size j l))
                 (subst (λ n. Reaches high n (lists_row (take s.classes interval.lower) (take s.classes interval.upper)) (at (take s.classes payoff)) (at row) figure)
                 lower_count w.reaches)
+
+-- The same, where the front that is lent has n places, and n is the number of classes.
+module _ (s : Scheme) (payoff : List ℕ) (class : ℕ) {interval : RowAnswer} (is : interval ≡ interval_answer s class) {number : ℕ}
+    (counts : number ≡ step_cause s payoff class) (none : number ≡ 0) (enough : s.classes ≤ length payoff) {n : ℕ} (count : n ≡ s.classes) {high : Bool} where
+  pub front_steps : (order rest : List ℕ) → SortedPermutation (take n payoff) order
+      → StepPre (take n interval.lower) (take n interval.upper) (take n payoff) (take n (order ++ rest)) high (take n (replicate 32 0))
+  front_steps order rest sorted = rw count (answer_steps s payoff class is counts none enough order rest (rw count at sorted))
+
+  pub front_made : (row : List ℕ) {figure : ℕ} → StepPost (take n interval.lower) (take n interval.upper) (take n payoff) high row figure
+      → StepAnswered high s payoff class (record { number = number; figure = figure; row = row ++ drop n (replicate 32 0) })
+  front_made row w = rw count (answer_made s payoff class is counts none enough row (rw count at w))

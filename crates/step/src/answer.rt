@@ -57,7 +57,7 @@ pub fn answer(scheme: Scheme, payoff: &[u64], class: u64, high: bool) -> StepAns
     if number != 0 {
         return refused(number);
     }
-    let n = scheme.classes as usize;
+    let n = usize::from(scheme.classes);
     let lower = interval.lower;
     let upper = interval.upper;
     let payoffs = &payoff[..n];
