@@ -8,12 +8,9 @@ pub fn put_word(out: &mut [u8], at: usize, word: &[u8]) -> usize
     requires { Space out.old at word.now }
     ensures { Put out.old at word.now out.new result }
 {
-    let mut k: usize = 0;
-    while k < word.len() {
-        out[at + k] = word[k];
-        k += 1;
-    }
-    at + k
+    let end = at + word.len();
+    out[at..end].copy_from_slice(word);
+    end
 }
 
 // A digit's byte.

@@ -20,10 +20,8 @@ fn class_lines(
     ensures { Put out.old at (joined s (class_text low.now high.now year base)) out.new result }
 {
     let mut to = at;
-    let mut j: usize = 0;
-    while j < s {
+    for j in 0..s {
         to = lines::class_line(out, to, year, j, low[base + j], high[base + j]);
-        j += 1;
     }
     to
 }
@@ -44,10 +42,8 @@ pub fn all_years(out: &mut [u8], at: usize, n: usize, s: usize, low: &[u64], hig
     ensures { Put out.old at (joined n (year_text low.now high.now s)) out.new result }
 {
     let mut to = at;
-    let mut t: usize = 0;
-    while t < n {
+    for t in 0..n {
         to = year_lines(out, to, t, s, low, high);
-        t += 1;
     }
     to
 }
