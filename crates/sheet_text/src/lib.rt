@@ -31,8 +31,8 @@ fn accepted(out: &mut [u8], scheme: Scheme) -> WriteAnswer
     requires { Accepted scheme }
     ensures { TextAnswered (space_of scheme) (sheet_of scheme) out.old out.new result }
 {
-    let years = (scheme.horizon as usize) + 1;
-    let space = 19 + years * ((scheme.classes as usize) * 40 + 35) + 28;
+    let years = usize::from(scheme.horizon) + 1;
+    let space = 19 + years * (usize::from(scheme.classes) * 40 + 35) + 28;
     if out.len() < space {
         return WriteAnswer::Declined(scheme::SLICE_OUT);
     }

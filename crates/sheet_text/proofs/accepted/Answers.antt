@@ -5,10 +5,10 @@ use Rattle.sheet_text.specs.Laws.Answer.{answered_declined, answered_written, an
 use Rattle.sheet_text.proofs.accepted.Goals as goal
 
 pub returns-then-out-space : goal.returns-then-out-space
-returns-then-out-space c = answered_declined (omega (arith, space_coded c.args.scheme c.requires))
+returns-then-out-space c = answered_declined (grind (arith, space_coded c.args.scheme c.requires))
 
 pub put_sheet-requires : goal.put_sheet-requires
-put_sheet-requires c = (answered_space (omega (arith, space_coded c.args.scheme c.requires)) (sheet_within c.args.scheme c.requires).fits, c.requires)
+put_sheet-requires c = (answered_space (grind (arith, space_coded c.args.scheme c.requires)) (sheet_within c.args.scheme c.requires).fits, c.requires)
 
 pub returns : goal.returns
-returns c = answered_written (omega (arith, space_coded c.args.scheme c.requires)) (sheet_within c.args.scheme c.requires).fits c.put_sheet.ensures
+returns c = answered_written (grind (arith, space_coded c.args.scheme c.requires)) (sheet_within c.args.scheme c.requires).fits c.put_sheet.ensures
