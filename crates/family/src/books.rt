@@ -1,6 +1,7 @@
 // What is asked of books: pooled figures, and two books joined.
 use crate::{SHARES, show_bounds, show_cause};
 use scheme::Scheme;
+use std::array;
 use std::io::Stdout;
 
 // The count of a class, by the kinds of the format.
@@ -26,13 +27,7 @@ fn count(kind: u8, class: u8, classes: u8, start: u8, number: u64, beyond: u32) 
 
 // The counts of all classes.
 fn counts(kind: u8, classes: u8, start: u8, number: u64, beyond: u32) -> [u32; 32] {
-    let mut book = [0u32; 32];
-    let mut i: usize = 0;
-    while i < 32 {
-        book[i] = count(kind, (i + 1) as u8, classes, start, number, beyond);
-        i += 1;
-    }
-    book
+    array::from_fn(|i| count(kind, i as u8 + 1, classes, start, number, beyond))
 }
 
 // The pooled share of class s, the pooled mean and the pooled total of a year.
@@ -120,19 +115,8 @@ fn joined(stdout: Stdout, scheme: Scheme, number: u64, first: u8, second: u8, be
     let answer = book::join(one, other);
     show_cause(stdout, answer.number);
     let sums = answer.book;
-    console::number(stdout, checksum_of_counts(sums));
+    console::number(stdout, crate::checksum_of(&sums));
     console::end(stdout);
-}
-
-// The checksum of a book.
-fn checksum_of_counts(book: [u32; 32]) -> u64 {
-    let mut sum: u64 = 0;
-    let mut i: usize = 0;
-    while i < 32 {
-        sum = console::add(sum, scheme::wide(book[i]));
-        i += 1;
-    }
-    sum
 }
 
 // All kinds of book, and some of them joined.

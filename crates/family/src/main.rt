@@ -7,6 +7,7 @@ use bounds::Bounds;
 use record_parts::Band;
 use record_write::WriteAnswer;
 use scheme::{RowAnswer, Scheme};
+use std::array;
 use std::io::Stdout;
 
 // The most bytes of a record, and five more.
@@ -17,13 +18,11 @@ const SHARES: usize = 33;
 
 mod books;
 
-// The checksum of numbers.
-fn checksum_of(figures: &[u64]) -> u64 {
-    let mut sum: u64 = 0;
-    let mut i: usize = 0;
-    while i < figures.len() {
-        sum = console::add(sum, figures[i]);
-        i += 1;
+// The checksum of numbers of one width.
+fn checksum_of<T: Copy + Into<u64>>(numbers: &[T]) -> u64 {
+    let mut sum = 0;
+    for number in numbers {
+        sum = console::add(sum, (*number).into());
     }
     sum
 }
@@ -72,10 +71,8 @@ fn answer(stdout: Stdout, b: Bounds) {
 
 // The bytes of a part as numbers, and the end of the line.
 fn shown(stdout: Stdout, part: &[u8]) {
-    let mut i: usize = 0;
-    while i < part.len() {
-        console::number(stdout, console::wide(part[i]));
-        i += 1;
+    for byte in part {
+        console::number(stdout, u64::from(*byte));
     }
     console::end(stdout);
 }
@@ -101,10 +98,8 @@ fn ends(stdout: Stdout, b: Band) -> bool {
 // All bands; one column more than there can be is asked for.
 fn bands(stdout: Stdout, bytes: &[u8]) {
     console::bytes(stdout, b"BANDS");
-    let mut column: usize = 0;
-    while column < 9 {
+    for column in 0..9 {
         ends(stdout, record_parts::band_at(bytes, column));
-        column += 1;
     }
     console::end(stdout);
 }
@@ -126,10 +121,8 @@ fn reader(stdout: Stdout, bytes: &[u8]) {
     let answer = record_parts::open(bytes);
     opened(stdout, answer.number);
     let mut reader = answer.reader;
-    let mut calls: u8 = 0;
-    while calls < 9 {
+    for _ in 0..9 {
         shown_band(stdout, record_parts::next(&mut reader));
-        calls += 1;
     }
 }
 
@@ -214,13 +207,7 @@ fn value(kind: u8, class: u8, classes: u8, number: u64, premium: u32) -> u64 {
 
 // The payoffs of all classes.
 fn payoff(kind: u8, classes: u8, number: u64, premiums: [u32; 32]) -> [u64; 32] {
-    let mut payoff = [0u64; 32];
-    let mut i: usize = 0;
-    while i < 32 {
-        payoff[i] = value(kind, (i + 1) as u8, classes, number, premiums[i]);
-        i += 1;
-    }
-    payoff
+    array::from_fn(|i| value(kind, i as u8 + 1, classes, number, premiums[i]))
 }
 
 // The low and the high step of a class at a kind of payoff.

@@ -1,9 +1,0 @@
--- `checksum_of_counts` is safe and ends: the place moves on.
-use Prim.Native.Nat.{◌≤◌, ◌-◌}
-use Rattle.family.proofs.books.checksum_of_counts.Given as goal
-
-abbrev pub invariant-loop-i : goal.invariant-loop-i
-invariant-loop-i l = l.i ≤ 32
-
-abbrev pub decreases-loop-i : goal.decreases-loop-i
-decreases-loop-i l = 32 - l.i
