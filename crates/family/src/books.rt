@@ -21,7 +21,7 @@ fn count(kind: u8, class: u8, classes: u8, start: u8, number: u64, beyond: u32) 
     if kind == 4 {
         return 0;
     }
-    let mixed = (618_033 * (class as u64) + 271_828 * (number % 1_000_000_000)) % 1_000_001;
+    let mixed = (618_033 * u64::from(class) + 271_828 * (number % 1_000_000_000)) % 1_000_001;
     mixed as u32
 }
 
@@ -32,11 +32,11 @@ fn counts(kind: u8, classes: u8, start: u8, number: u64, beyond: u32) -> [u32; 3
 
 // The pooled share of class s, the pooled mean and the pooled total of a year.
 fn pooled(stdout: Stdout, scheme: Scheme, kind: u8, book: [u32; 32], year: u64) {
-    console::word(stdout, b"POOLED", kind as u64);
+    console::word(stdout, b"POOLED", u64::from(kind));
     console::number(stdout, year);
     show_bounds(
         stdout,
-        bounds::pooled_share(scheme, book, scheme.classes as u64, year),
+        bounds::pooled_share(scheme, book, u64::from(scheme.classes), year),
     );
     show_bounds(stdout, bounds::pooled_mean(scheme, book, year));
     show_bounds(stdout, bounds::pooled_total(scheme, book, year));
@@ -53,7 +53,7 @@ fn pooled_sheet(
     low: &mut [u64],
     high: &mut [u64],
 ) {
-    console::word(stdout, b"POOLSHARES", kind as u64);
+    console::word(stdout, b"POOLSHARES", u64::from(kind));
     console::number(stdout, year);
     show_cause(
         stdout,
@@ -92,7 +92,7 @@ fn pooled_into(
 // What is asked of a book in a year.
 fn of_year(stdout: Stdout, scheme: Scheme, kind: u8, book: [u32; 32], year: u64) {
     pooled(stdout, scheme, kind, book, year);
-    let s = scheme.classes as usize;
+    let s = usize::from(scheme.classes);
     pooled_into(stdout, scheme, kind, book, year, s, s);
     pooled_into(stdout, scheme, kind, book, year, s, s + 1);
 }
@@ -100,16 +100,16 @@ fn of_year(stdout: Stdout, scheme: Scheme, kind: u8, book: [u32; 32], year: u64)
 // What is asked of a kind of book, with a count beyond s that no class may have.
 fn of_kind(stdout: Stdout, scheme: Scheme, number: u64, kind: u8) {
     let book = counts(kind, scheme.classes, scheme.start, number, 4_294_967_295);
-    let horizon = scheme.horizon as u64;
-    of_year(stdout, scheme, kind, book, 1);
-    of_year(stdout, scheme, kind, book, horizon);
-    of_year(stdout, scheme, kind, book, horizon + 1);
+    let horizon = u64::from(scheme.horizon);
+    for year in [1, horizon, horizon + 1] {
+        of_year(stdout, scheme, kind, book, year);
+    }
 }
 
 // Two kinds of book joined, with a count beyond s.
 fn joined(stdout: Stdout, scheme: Scheme, number: u64, first: u8, second: u8, beyond: u32) {
-    console::word(stdout, b"JOIN", first as u64);
-    console::number(stdout, second as u64);
+    console::word(stdout, b"JOIN", u64::from(first));
+    console::number(stdout, u64::from(second));
     let one = counts(first, scheme.classes, scheme.start, number, beyond);
     let other = counts(second, scheme.classes, scheme.start, number, beyond);
     let answer = book::join(one, other);
@@ -121,14 +121,11 @@ fn joined(stdout: Stdout, scheme: Scheme, number: u64, first: u8, second: u8, be
 
 // All kinds of book, and some of them joined.
 pub fn books(stdout: Stdout, scheme: Scheme, number: u64) {
-    of_kind(stdout, scheme, number, 0);
-    of_kind(stdout, scheme, number, 1);
-    of_kind(stdout, scheme, number, 2);
-    of_kind(stdout, scheme, number, 3);
-    of_kind(stdout, scheme, number, 4);
-    joined(stdout, scheme, number, 0, 1, 0);
-    joined(stdout, scheme, number, 1, 1, 0);
-    joined(stdout, scheme, number, 2, 4, 0);
-    joined(stdout, scheme, number, 2, 0, 0);
+    for kind in 0..5 {
+        of_kind(stdout, scheme, number, kind);
+    }
+    for (first, second) in [(0, 1), (1, 1), (2, 4), (2, 0)] {
+        joined(stdout, scheme, number, first, second, 0);
+    }
     joined(stdout, scheme, number, 4, 4, 4_294_967_295);
 }

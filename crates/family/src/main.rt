@@ -1,6 +1,6 @@
 // Prints the answers of every operation but the sheet's text on many records from standard input, each behind its length in two bytes,
 // and on ready schemes. What it must print was written by the plain Rust version (rust/regenerate); rust/trials/src/bin/family.rs
-// describes the lines.
+// describes the lines. Lengths are widened by `as`: there is no `From` between `usize` and `u64`.
 #![tactic(auto)]
 
 use bounds::Bounds;
@@ -20,11 +20,9 @@ mod books;
 
 // The checksum of numbers of one width.
 fn checksum_of<T: Copy + Into<u64>>(numbers: &[T]) -> u64 {
-    let mut sum = 0;
-    for number in numbers {
-        sum = console::add(sum, (*number).into());
-    }
-    sum
+    numbers
+        .iter()
+        .fold(0, |sum, number| console::add(sum, (*number).into()))
 }
 
 // Whether a call was answered, or the number of its cause.
@@ -32,7 +30,7 @@ fn show_cause(stdout: Stdout, cause: u8) {
     if cause == 0 {
         console::bytes(stdout, b" OK");
     } else {
-        console::word(stdout, b" NO", cause as u64);
+        console::word(stdout, b" NO", u64::from(cause));
     }
 }
 
@@ -87,8 +85,8 @@ fn rules(stdout: Stdout, bytes: &[u8], class: u64) {
 fn ends(stdout: Stdout, b: Band) -> bool {
     match b {
         Band::Ends { lower, upper } => {
-            console::number(stdout, lower as u64);
-            console::number(stdout, upper as u64);
+            console::number(stdout, u64::from(lower));
+            console::number(stdout, u64::from(upper));
             true
         }
         Band::NoMore => false,
@@ -113,7 +111,7 @@ fn shown_band(stdout: Stdout, b: Band) {
 
 // What opening a reader answered.
 fn opened(stdout: Stdout, number: u8) {
-    console::word(stdout, b"READER", number as u64);
+    console::word(stdout, b"READER", u64::from(number));
 }
 
 // A reader over the record; one call more than there can be columns.
@@ -191,10 +189,10 @@ fn value(kind: u8, class: u8, classes: u8, number: u64, premium: u32) -> u64 {
     if classes < class {
         return 40_000_000_000;
     }
-    let mixed = (6_180_339_887 * (class as u64) + 2_718_281_828 * (number % 1_000_000_000))
+    let mixed = (6_180_339_887 * u64::from(class) + 2_718_281_828 * (number % 1_000_000_000))
         % 10_000_000_001;
     if kind == 0 {
-        return 1000 * (premium as u64);
+        return 1000 * u64::from(premium);
     }
     if kind == 1 {
         return mixed % 3;
@@ -213,7 +211,7 @@ fn payoff(kind: u8, classes: u8, number: u64, premiums: [u32; 32]) -> [u64; 32] 
 // The low and the high step of a class at a kind of payoff.
 fn step(stdout: Stdout, scheme: Scheme, number: u64, class: u64, kind: u8) {
     console::word(stdout, b"STEP", class);
-    console::number(stdout, kind as u64);
+    console::number(stdout, u64::from(kind));
     let premiums = scheme.premiums;
     let payoff = payoff(kind, scheme.classes, number, premiums);
     let low = step::low_step(scheme, payoff, class);
@@ -240,30 +238,24 @@ fn reached(stdout: Stdout, scheme: Scheme, class: u64, year: u64) {
     answer(stdout, reached::reached(scheme, class, year));
 }
 
-// The chances of having reached a class by the years in which its share is asked for.
-fn chances(stdout: Stdout, scheme: Scheme, class: u64) {
-    let horizon = scheme.horizon as u64;
-    reached(stdout, scheme, class, 0);
-    reached(stdout, scheme, class, 1);
-    reached(stdout, scheme, class, 2);
-    reached(stdout, scheme, class, horizon);
-    reached(stdout, scheme, class, horizon + 1);
+// The years that are asked for: the first three, the horizon, and one year beyond it.
+fn years(scheme: Scheme) -> [u64; 5] {
+    let horizon = u64::from(scheme.horizon);
+    [0, 1, 2, horizon, horizon + 1]
 }
 
 // What is asked of a class: its interval row and its tight row, its steps at all kinds of payoff, its shares, and the chances of having reached it.
 fn of_class(stdout: Stdout, scheme: Scheme, number: u64, class: u64) {
-    let horizon = scheme.horizon as u64;
     row(stdout, scheme, class);
-    step(stdout, scheme, number, class, 0);
-    step(stdout, scheme, number, class, 1);
-    step(stdout, scheme, number, class, 2);
-    step(stdout, scheme, number, class, 3);
-    share(stdout, scheme, class, 0);
-    share(stdout, scheme, class, 1);
-    share(stdout, scheme, class, 2);
-    share(stdout, scheme, class, horizon);
-    share(stdout, scheme, class, horizon + 1);
-    chances(stdout, scheme, class);
+    for kind in 0..4 {
+        step(stdout, scheme, number, class, kind);
+    }
+    for year in years(scheme) {
+        share(stdout, scheme, class, year);
+    }
+    for year in years(scheme) {
+        reached(stdout, scheme, class, year);
+    }
 }
 
 // A share sheet into two slices.
@@ -290,10 +282,10 @@ fn of_year(stdout: Stdout, scheme: Scheme, year: u64) {
     answer(stdout, bounds::mean(scheme, year));
     console::word(stdout, b"TOTAL", year);
     answer(stdout, bounds::total(scheme, year));
-    let s = scheme.classes as usize;
-    sheet_into(stdout, scheme, year, s, s);
-    sheet_into(stdout, scheme, year, s, s + 1);
-    sheet_into(stdout, scheme, year, s / 2, s);
+    let s = usize::from(scheme.classes);
+    for (a, b) in [(s, s), (s, s + 1), (s / 2, s)] {
+        sheet_into(stdout, scheme, year, a, b);
+    }
 }
 
 // The record written in a version into a room for any record and, where there is such a version, into rooms of its length and of one byte less.
@@ -308,11 +300,9 @@ fn writes(stdout: Stdout, scheme: Scheme, version: u64) {
 
 // The record written in both versions, and in some that there are not.
 fn versions(stdout: Stdout, scheme: Scheme) {
-    writes(stdout, scheme, 1);
-    writes(stdout, scheme, 2);
-    writes(stdout, scheme, 0);
-    writes(stdout, scheme, 3);
-    writes(stdout, scheme, 257);
+    for version in [1, 2, 0, 3, 257] {
+        writes(stdout, scheme, version);
+    }
 }
 
 // The first count of years that mixes.
@@ -328,26 +318,20 @@ fn mixing_check(stdout: Stdout, scheme: Scheme) {
 
 // What is asked of an accepted record.
 fn accepted(stdout: Stdout, scheme: Scheme, number: u64, bytes: &[u8]) {
-    let s = scheme.classes as u64;
+    let s = u64::from(scheme.classes);
     let beyond = s + 1;
-    let start = scheme.start as u64;
-    let horizon = scheme.horizon as u64;
-    let late = horizon + 1;
-    rules(stdout, bytes, start);
-    rules(stdout, bytes, s);
-    rules(stdout, bytes, beyond);
+    let start = u64::from(scheme.start);
+    for class in [start, s, beyond] {
+        rules(stdout, bytes, class);
+    }
     versions(stdout, scheme);
     mixing_check(stdout, scheme);
-    of_class(stdout, scheme, number, 0);
-    of_class(stdout, scheme, number, 1);
-    of_class(stdout, scheme, number, start);
-    of_class(stdout, scheme, number, s);
-    of_class(stdout, scheme, number, beyond);
-    of_year(stdout, scheme, 0);
-    of_year(stdout, scheme, 1);
-    of_year(stdout, scheme, 2);
-    of_year(stdout, scheme, horizon);
-    of_year(stdout, scheme, late);
+    for class in [0, 1, start, s, beyond] {
+        of_class(stdout, scheme, number, class);
+    }
+    for year in years(scheme) {
+        of_year(stdout, scheme, year);
+    }
     books::books(stdout, scheme, number);
 }
 
@@ -371,7 +355,7 @@ fn one(stdout: Stdout, number: u64, bytes: &[u8]) {
 // The premium of a class.
 fn premium(stdout: Stdout, class: u64, cents: u32) {
     console::word(stdout, b"PREMIUM", class);
-    console::number(stdout, cents as u64);
+    console::number(stdout, u64::from(cents));
     console::end(stdout);
 }
 
@@ -416,23 +400,28 @@ fn ready(stdout: Stdout, number: u64, base: u64) {
 
 // Ready schemes at the edges of their number and base.
 fn ready_schemes(stdout: Stdout) {
-    ready(stdout, 0, 2_500_001);
-    ready(stdout, 1, 0);
-    ready(stdout, 1, 2_500_000);
-    ready(stdout, 2, 999);
-    ready(stdout, 2, 2_500_001);
-    ready(stdout, 3, 123_457);
-    ready(stdout, 3, 4_000_000_000);
-    ready(stdout, 4, 0);
-    ready(stdout, 1, 100_000);
-    ready(stdout, 3, 2_500_000);
-    ready(stdout, 3, 2_500_001);
+    for (number, base) in [
+        (0, 2_500_001),
+        (1, 0),
+        (1, 2_500_000),
+        (2, 999),
+        (2, 2_500_001),
+        (3, 123_457),
+        (3, 4_000_000_000),
+        (4, 0),
+        (1, 100_000),
+        (3, 2_500_000),
+        (3, 2_500_001),
+    ] {
+        ready(stdout, number, base);
+    }
 }
 
 // All records, numbered from 1.
 fn all(stdout: Stdout, input: &[u8]) {
     let mut at: usize = 0;
     let mut number: u64 = 0;
+    // A `while`, since each turn moves on by the length of the record that it read, as no range does.
     while 2 <= input.len() - at {
         let bytes = console::record_at(input, at);
         at += 2 + bytes.len();

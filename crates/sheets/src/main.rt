@@ -11,6 +11,7 @@ fn show(stdout: Stdout, text: &[u8]) {
         console::bytes(stdout, text);
         return;
     }
+    // By `as`: there is no `From` between `usize` and `u64`.
     console::word(stdout, b"LENGTH", text.len() as u64);
     console::word(stdout, b" CHECKSUM", console::checksum(text));
     console::end(stdout);
@@ -23,7 +24,7 @@ fn text_in(stdout: Stdout, bytes: &[u8], out: &mut [u8]) {
             show(stdout, console::front(out, length));
         }
         WriteAnswer::Declined(cause) => {
-            console::word(stdout, b"NO", cause as u64);
+            console::word(stdout, b"NO", u64::from(cause));
             console::end(stdout);
         }
     }
@@ -40,6 +41,7 @@ fn one(stdout: Stdout, bytes: &[u8]) {
 // All records.
 fn all(stdout: Stdout, input: &[u8]) {
     let mut at: usize = 0;
+    // A `while`, since each turn moves on by the length of the record that it read, as no range does.
     while 2 <= input.len() - at {
         let bytes = console::record_at(input, at);
         at += 2 + bytes.len();
