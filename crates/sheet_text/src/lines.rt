@@ -1,4 +1,5 @@
-// The lines of a sheet put into a lent slice: each function answers the place after its line.
+// The lines of a sheet put into a lent slice: each function answers the place after its line. A year or a class number is widened by `as`:
+// there is no `From` between `usize` and `u64`.
 ghost use Rattle.std.specs.Prelude.{◌+◌, ◌<◌, ◌++◌};
 ghost use Rattle.sheet_spec.specs.Text.{field, newline};
 ghost use Rattle.sheet_spec.specs.Sheet.{scheme_line, class_line, premium_line, total_line, refused_line};
@@ -29,10 +30,10 @@ pub fn scheme_line(
     ensures { Put out.old at (scheme_line classes columns start horizon) out.new result }
 {
     let a = text::put_word(out, at, b"SCHEME");
-    let b = text::put_field(out, a, classes as u64);
-    let c = text::put_field(out, b, columns as u64);
-    let d = text::put_field(out, c, start as u64);
-    let e = text::put_field(out, d, horizon as u64);
+    let b = text::put_field(out, a, u64::from(classes));
+    let c = text::put_field(out, b, u64::from(columns));
+    let d = text::put_field(out, c, u64::from(start));
+    let e = text::put_field(out, d, u64::from(horizon));
     text::put_newline(out, e)
 }
 
@@ -74,6 +75,6 @@ pub fn refused_line(out: &mut [u8], at: usize, number: u8) -> usize
     ensures { Put out.old at (refused_line number) out.new result }
 {
     let a = text::put_word(out, at, b"REFUSED");
-    let b = text::put_field(out, a, number as u64);
+    let b = text::put_field(out, a, u64::from(number));
     text::put_newline(out, b)
 }

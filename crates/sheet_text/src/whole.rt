@@ -13,8 +13,8 @@ pub fn whole(out: &mut [u8], at: usize, scheme: Scheme, low: &[u64], high: &[u64
     requires { Space out.old at (sheet_of scheme) × SizeFits scheme × (low.now ≡ low_table scheme) × (high.now ≡ high_table scheme) }
     ensures { Put out.old at (sheet_of scheme) out.new result }
 {
-    let s = scheme.classes as usize;
-    let n = (scheme.horizon as usize) + 1;
+    let s = usize::from(scheme.classes);
+    let n = usize::from(scheme.horizon) + 1;
     let a = lines::scheme_line(
         out,
         at,

@@ -16,38 +16,45 @@ pub put_field-b-requires : goal.put_field-b-requires
 unfolding scheme_line
 put_field-b-requires c =
     let given = c.args in
-    space_next c.put_word-a.ensures (space_first (field given.columns) (space_first (field given.start) (space_first (field given.horizon) (space_first newline c.requires))))
+    rw c.from.ensures
+    (space_next c.put_word-a.ensures (space_first (field given.columns) (space_first (field given.start) (space_first (field given.horizon) (space_first newline c.requires)))))
 
 pub put_field-c-requires : goal.put_field-c-requires
 unfolding scheme_line
 put_field-c-requires c =
     let given = c.args in
-    space_next (put_then c.put_word-a.ensures c.put_field-b.ensures)
-    (space_first (field given.start) (space_first (field given.horizon) (space_first newline c.requires)))
+    rw c.from-2.ensures
+    (space_next (put_then c.put_word-a.ensures (rw c.from.ensures at c.put_field-b.ensures))
+    (space_first (field given.start) (space_first (field given.horizon) (space_first newline c.requires))))
 
 pub put_field-d-requires : goal.put_field-d-requires
 unfolding scheme_line
 put_field-d-requires c =
     let given = c.args in
-    space_next (put_then (put_then c.put_word-a.ensures c.put_field-b.ensures) c.put_field-c.ensures)
-    (space_first (field given.horizon) (space_first newline c.requires))
+    rw c.from-3.ensures
+    (space_next
+    (put_then (put_then c.put_word-a.ensures (rw c.from.ensures at c.put_field-b.ensures)) (rw c.from-2.ensures at c.put_field-c.ensures))
+    (space_first (field given.horizon) (space_first newline c.requires)))
 
 pub put_field-e-requires : goal.put_field-e-requires
 unfolding scheme_line
 put_field-e-requires c =
-    space_next
-    (put_then (put_then (put_then c.put_word-a.ensures c.put_field-b.ensures) c.put_field-c.ensures)
-    c.put_field-d.ensures)
-    (space_first newline c.requires)
+    rw c.from-4.ensures
+    (space_next
+    (put_then
+    (put_then (put_then c.put_word-a.ensures (rw c.from.ensures at c.put_field-b.ensures)) (rw c.from-2.ensures at c.put_field-c.ensures))
+    (rw c.from-3.ensures at c.put_field-d.ensures))
+    (space_first newline c.requires))
 
 pub put_newline-requires : goal.put_newline-requires
 unfolding scheme_line
 put_newline-requires c =
     space_next
     (put_then
-    (put_then (put_then (put_then c.put_word-a.ensures c.put_field-b.ensures) c.put_field-c.ensures)
-    c.put_field-d.ensures)
-    c.put_field-e.ensures)
+    (put_then
+    (put_then (put_then c.put_word-a.ensures (rw c.from.ensures at c.put_field-b.ensures)) (rw c.from-2.ensures at c.put_field-c.ensures))
+    (rw c.from-3.ensures at c.put_field-d.ensures))
+    (rw c.from-4.ensures at c.put_field-e.ensures))
     c.requires
 
 pub returns : goal.returns
@@ -55,7 +62,8 @@ unfolding scheme_line
 returns c =
     put_then
     (put_then
-    (put_then (put_then (put_then c.put_word-a.ensures c.put_field-b.ensures) c.put_field-c.ensures)
-    c.put_field-d.ensures)
-    c.put_field-e.ensures)
+    (put_then
+    (put_then (put_then c.put_word-a.ensures (rw c.from.ensures at c.put_field-b.ensures)) (rw c.from-2.ensures at c.put_field-c.ensures))
+    (rw c.from-3.ensures at c.put_field-d.ensures))
+    (rw c.from-4.ensures at c.put_field-e.ensures))
     c.put_newline.ensures

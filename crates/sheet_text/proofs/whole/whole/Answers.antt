@@ -15,7 +15,7 @@ scheme_line-a-requires c =
     (sheet_space _ c.requires.2 c.requires.3 c.requires.0))
 
 pub all_years-b-requires : goal.all_years-b-requires
-all_years-b-requires c = (
+all_years-b-requires c = rw (c.from-n.ensures, c.from-s.ensures) (
   space_next c.scheme_line-a.ensures
       (space_first (total_text c.args.low.now c.args.high.now (c.args.scheme.horizon + 1) c.args.scheme.classes)
       (sheet_space _ c.requires.2 c.requires.3 c.requires.0)),
@@ -25,13 +25,19 @@ all_years-b-requires c = (
 )
 
 pub bounds-low-last : goal.bounds-low-last
-bounds-low-last c = omega (arith, table_size_lem false c.args.scheme c.requires.2, table_size_lem true c.args.scheme c.requires.3)
+bounds-low-last c = rw (c.from-n.ensures, c.from-s.ensures) (omega (arith, table_size_lem false c.args.scheme c.requires.2))
 
 pub bounds-high-last : goal.bounds-high-last
-bounds-high-last c = omega (arith, table_size_lem false c.args.scheme c.requires.2, table_size_lem true c.args.scheme c.requires.3)
+bounds-high-last c = rw (c.from-n.ensures, c.from-s.ensures) (omega (arith, table_size_lem true c.args.scheme c.requires.3))
 
 pub total_line-requires : goal.total_line-requires
-total_line-requires c = space_next (put_then c.scheme_line-a.ensures c.all_years-b.ensures) (sheet_space c.args.scheme c.requires.2 c.requires.3 c.requires.0)
+total_line-requires c =
+    let years = rw (c.from-n.ensures, c.from-s.ensures) at c.all_years-b.ensures in
+    rw (c.from-n.ensures, c.from-s.ensures)
+    (space_next (put_then c.scheme_line-a.ensures years) (sheet_space c.args.scheme c.requires.2 c.requires.3 c.requires.0))
 
 pub returns : goal.returns
-returns c = sheet_put c.args.scheme c.requires.2 c.requires.3 (put_then (put_then c.scheme_line-a.ensures c.all_years-b.ensures) c.total_line.ensures)
+returns c =
+    let years = rw (c.from-n.ensures, c.from-s.ensures) at c.all_years-b.ensures in
+    let total = rw (c.from-n.ensures, c.from-s.ensures) at c.total_line.ensures in
+    sheet_put c.args.scheme c.requires.2 c.requires.3 (put_then (put_then c.scheme_line-a.ensures years) total)
