@@ -3,9 +3,10 @@
 
 ghost use Rattle.std.specs.Prelude.{◌≡◌};
 ghost use Rattle.setchain.specs.Sums.{at};
-ghost use Rattle.book_spec.specs.Book.{book_cause, join_answer};
+ghost use Rattle.scheme.specs.Number.{number_in};
+ghost use Rattle.book_spec.specs.Book.{book_cause, join_answer_of, join_answer};
 
-pub use book_spec::JoinAnswer;
+use scheme::Cause;
 
 // The count at a place of a book, or 0 past its end.
 pub fn count_at(book: &[u32], place: usize) -> u32
@@ -14,38 +15,35 @@ pub fn count_at(book: &[u32], place: usize) -> u32
     book.get(place).copied().unwrap_or(0)
 }
 
-// The first cause for which the counts of the first classes are not pooled, or 0.
-pub fn cause(book: [u32; 32], classes: u8) -> u8
-    ensures { result ≡ book_cause classes book }
+// The first cause for which the counts of the first classes are not pooled.
+pub fn check(book: [u32; 32], classes: u8) -> Result<(), Cause>
+    ensures { number_in result ≡ book_cause classes book }
 {
     let mut chambers: u64 = 0;
     for i in 0..usize::from(classes) {
         let count = u64::from(count_at(&book, i));
         if book_spec::MOST_COUNT < count {
-            return book_spec::COUNT_OUT;
+            return Err(Cause::Count);
         }
         chambers += count;
     }
     if chambers == 0 {
-        return book_spec::NO_CHAMBER;
+        return Err(Cause::NoChamber);
     }
-    0
+    Ok(())
 }
 
 // All 32 counts of two books added, or the cause.
-pub fn join(first: [u32; 32], second: [u32; 32]) -> JoinAnswer
-    ensures { result ≡ join_answer first second }
+pub fn join(first: [u32; 32], second: [u32; 32]) -> Result<[u32; 32], Cause>
+    ensures { join_answer_of result ≡ join_answer first second }
 {
     let mut book = [0u32; 32];
     for i in 0..book.len() {
         let chambers = u64::from(first[i]) + u64::from(second[i]);
         if book_spec::MOST_COUNT < chambers {
-            return JoinAnswer {
-                number: book_spec::COUNT_OUT,
-                book: [0u32; 32],
-            };
+            return Err(Cause::Count);
         }
         book[i] = chambers as u32;
     }
-    JoinAnswer { number: 0, book }
+    Ok(book)
 }

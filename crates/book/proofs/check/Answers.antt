@@ -1,8 +1,8 @@
--- `cause` meets its contract: the counts before i are within the limit, and summed.
+-- `check` meets its contract: the counts before i are within the limit, and summed.
 -- Assumes nothing.
 use Rattle.std.proofs.Common.{◌∙◌, arith}
 use Rattle.book.proofs.BookLaws.{counted_none, counted_most, counted_more, counted_out, counted_empty, counted_all}
-use Rattle.book.proofs.cause.Goals as goal
+use Rattle.book.proofs.check.Goals as goal
 
 pub loop-i-init : goal.loop-i-init
 loop-i-init c = counted_none
