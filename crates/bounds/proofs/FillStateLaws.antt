@@ -140,6 +140,14 @@ module _ {entries : List ℕ} {first end payoff : ℕ} {left sums : List ℕ} (a
             ∙ w.filled.more k l
             ∙ ap (λ x. at sums k + x * payoff) (sym t)
 
+    -- The same of the parts that the row gets with this entry, its lower end and what is given.
+    module _ {parts : ℕ} (are : parts ≡ at entries (lower_ends + e) + given) where
+      pub parts_fit : at sums' i + parts * payoff ≤ MOST_PAYOFF * ONE
+      parts_fit = rw are entry_fits
+
+      pub parts_more : EntriesTaken entries first end payoff left sums (set left' i (at left' i - given)) (set sums' i (at sums' i + parts * payoff)) (e + 1)
+      parts_more = rw are entries_more
+
   pub entries_all : {left' sums' : List ℕ} {e : ℕ} → end ≤ e → EntriesTaken entries first end payoff left sums left' sums' e
       → FillStatePost entries first end payoff left sums left' sums'
   entries_all {e = e} h w = let g : e ≡ end = omega (arith, w.inside) in rw g at w.filled

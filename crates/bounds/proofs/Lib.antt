@@ -1,5 +1,6 @@
 -- Laws over plain lists, which the functions' proofs cite.
 pub mod FrontLaws
+pub mod ZipLaws
 pub mod AddRowLaws
 pub mod ListRowLaws
 pub mod ListRowsLaws

@@ -23,7 +23,7 @@ fn class_cause(classes: u8, class: u64) -> u8
 fn year_cause(horizon: u8, year: u64) -> u8
     ensures { result ≡ 12 when ltb horizon year }
 {
-    if (horizon as u64) < year {
+    if u64::from(horizon) < year {
         return scheme::YEAR_OUT;
     }
     0
@@ -54,7 +54,7 @@ pub fn sheet_cause(scheme: Scheme, year: u64, low: usize, high: usize) -> u8
     ensures { result ≡ sheet_lengths_cause scheme year low high }
 {
     let money = money_cause(scheme, year);
-    let slices = slices_cause(scheme.classes as usize, low, high);
+    let slices = slices_cause(usize::from(scheme.classes), low, high);
     or_else(money, slices)
 }
 
@@ -72,7 +72,7 @@ pub fn pooled_sheet_cause(scheme: Scheme, book: [u32; 32], year: u64, low: usize
 {
     let money = money_cause(scheme, year);
     let counts = book::cause(book, scheme.classes);
-    let lent = slices_cause(scheme.classes as usize, low, high);
+    let lent = slices_cause(usize::from(scheme.classes), low, high);
     let rest = or_else(counts, lent);
     or_else(money, rest)
 }

@@ -25,19 +25,15 @@ fn add_row(lower: &[u64], upper: &[u64], i: usize, entries: &mut [u32; 3104])
     requires { (length lower.now ≡ length upper.now) × AddRowPre (length upper.now) (lists_row lower.now upper.now) i entries.old }
     ensures { AddRowPost (length upper.now) (lists_row lower.now upper.now) i entries.old entries.new }
 {
-    let mut j: usize = 0;
-    while j < upper.len() {
-        let high = upper[j];
-        if 0 < high {
-            let low = lower[j];
+    for (j, (low, high)) in lower.iter().zip(upper).enumerate() {
+        if 0 < *high {
             let count = entries[COUNTS + j];
             let place = j * 32 + count as usize;
             entries[place] = i as u32;
-            entries[LOWER_ENDS + place] = low as u32;
-            entries[CAPACITIES + place] = (high - low) as u32;
+            entries[LOWER_ENDS + place] = *low as u32;
+            entries[CAPACITIES + place] = (*high - *low) as u32;
             entries[COUNTS + j] = count + 1;
         }
-        j += 1;
     }
 }
 
@@ -75,14 +71,12 @@ fn list_rows<'a>(
     requires { ListRowsPre n m rules.now lowers.now uppers.now entries.old slack.old }
     ensures { ListRowsPost (rules_chain n m rules.now lowers.now uppers.now) entries.new slack.new }
 {
-    let mut i: usize = 0;
-    while i < n {
+    for i in 0..n {
         let first = i * scheme::CELL_STRIDE;
         let end = first + m;
         let lower = class_bands(lowers, m, i);
         let upper = class_bands(uppers, m, i);
         slack[i] = list_row(&rules[first..end], lower, upper, n, i, entries);
-        i += 1;
     }
 }
 

@@ -139,8 +139,8 @@ pub fn pooled_share_sheet(
 pub fn table_size(scheme: Scheme) -> usize
     ensures { result ≡ table_size scheme }
 {
-    let years = scheme.horizon as usize + 1;
-    let row = scheme.classes as usize + 1;
+    let years = usize::from(scheme.horizon) + 1;
+    let row = usize::from(scheme.classes) + 1;
     years * row + 1
 }
 

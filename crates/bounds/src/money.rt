@@ -8,13 +8,7 @@ use crate::Bounds;
 pub fn in_tenths(premiums: [u32; 32]) -> [u64; 32]
     ensures { TenthsPost premiums result }
 {
-    let mut out = [0u64; 32];
-    let mut i: usize = 0;
-    while i < 32 {
-        out[i] = scheme::wide(premiums[i]) * setchain::CENT;
-        i += 1;
-    }
-    out
+    premiums.map(|premium| u64::from(premium) * setchain::CENT)
 }
 
 // Low and high in tenths as low and high in cents, rounded outward.
@@ -39,9 +33,7 @@ pub fn round_means(high: bool, stride: usize, means: &mut [u64])
     requires { RoundMeansPre stride }
     ensures { RoundMeansPost high stride means.old means.new }
 {
-    let mut place: usize = 0;
-    while place < means.len() {
+    for place in (0..means.len()).step_by(stride) {
         means[place] = rounding::round(means[place], setchain::CENT, high);
-        place += stride;
     }
 }

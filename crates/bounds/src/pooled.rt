@@ -21,12 +21,10 @@ fn pool(book: [u32; 32], figures: [u64; 32], classes: u8, units: u64, high: bool
 {
     let mut sum: u64 = 0;
     let mut chambers: u64 = 0;
-    let mut i: usize = 0;
-    while i < classes as usize {
-        let count = scheme::wide(book[i]);
+    for i in 0..usize::from(classes) {
+        let count = u64::from(book[i]);
         sum += count * figures[i];
         chambers += count;
-        i += 1;
     }
     rounding::round(sum, units * chambers, high)
 }
@@ -86,10 +84,8 @@ pub fn write_pooled(scheme: Scheme, book: [u32; 32], year: u64, high: bool, out:
     let mut slack = [0u32; 32];
     list_scheme(scheme, &mut entries, &mut slack);
     let gain = [0u64; 32];
-    let mut j: usize = 0;
-    while j < out.len() {
+    for (j, share) in out.iter_mut().enumerate() {
         let payoff = share_payoff((j + 1) as u64);
-        out[j] = pooled_figure(scheme, &entries, &slack, book, 1, gain, high, payoff, year);
-        j += 1;
+        *share = pooled_figure(scheme, &entries, &slack, book, 1, gain, high, payoff, year);
     }
 }

@@ -17,13 +17,11 @@ pub fn write_shares(scheme: Scheme, year: u64, high: bool, out: &mut [u64])
     let mut slack = [0u32; 32];
     list_scheme(scheme, &mut entries, &mut slack);
     let gain = [0u64; 32];
-    let mut j: usize = 0;
-    while j < out.len() {
+    for (j, share) in out.iter_mut().enumerate() {
         let payoff = share_payoff((j + 1) as u64);
         let mut none: [u64; 0] = [];
-        out[j] = series(
+        *share = series(
             scheme, &entries, &slack, gain, high, payoff, year, 1, &mut none,
         );
-        j += 1;
     }
 }

@@ -26,8 +26,7 @@ fn share_columns(
     let gain = [0u64; 32];
     let classes = scheme.classes as usize;
     let years = scheme.horizon as u64;
-    let mut j: usize = 0;
-    while j < classes {
+    for j in 0..classes {
         let payoff = share_payoff((j + 1) as u64);
         series(
             scheme,
@@ -40,7 +39,6 @@ fn share_columns(
             classes + 1,
             &mut out[j..],
         );
-        j += 1;
     }
 }
 

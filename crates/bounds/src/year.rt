@@ -1,5 +1,5 @@
 // One year: the figures of all classes from those of the year before (document 01, "Years").
-ghost use Rattle.std.specs.Prelude.{◌≡◌, min, length};
+ghost use Rattle.std.specs.Prelude.{◌≡◌, length};
 ghost use Rattle.order.specs.Order.{Permutation, along};
 ghost use Rattle.bounds.specs.Entries.{chain_listed};
 ghost use Rattle.bounds.specs.Fill.{FillStatePre, FillStatePost, RoundSumsPre, RoundSumsPost, FillStatesPre, FillStatesPost};
@@ -7,13 +7,6 @@ ghost use Rattle.bounds.specs.Years.{YearPost, YearPre};
 
 use crate::entries::{CAPACITIES, COUNTS, LOWER_ENDS};
 use order::{class_at, rank_again, state};
-
-// The smaller of two numbers of parts.
-fn smaller(a: u32, b: u32) -> u32
-    ensures { result ≡ min a b }
-{
-    if a < b { a } else { b }
-}
 
 // Fills one state by the entries that lead to it, listed from place `first` to `end`: each row gives its lower parts and, as far as it has slack left, parts of it.
 fn fill_state(
@@ -27,14 +20,12 @@ fn fill_state(
     requires { FillStatePre entries.now first end payoff left.old sums.old }
     ensures { FillStatePost entries.now first end payoff left.old sums.old left.new sums.new }
 {
-    let mut e = first;
-    while e < end {
+    for e in first..end {
         let i = entries[e] as usize;
         let had = left[i];
-        let given = smaller(entries[CAPACITIES + e], had);
+        let given = entries[CAPACITIES + e].min(had);
         left[i] = had - given;
-        sums[i] += (entries[LOWER_ENDS + e] + given) as u64 * payoff;
-        e += 1;
+        sums[i] += u64::from(entries[LOWER_ENDS + e] + given) * payoff;
     }
 }
 
@@ -50,8 +41,7 @@ fn fill_states(
     requires { FillStatesPre entries.now payoff.now (along high order.now) left.old sums.old }
     ensures { FillStatesPost entries.now payoff.now (along high order.now) left.old sums.new }
 {
-    let mut k: usize = 0;
-    while k < order.len() {
+    for k in 0..order.len() {
         let j = state(class_at(order, k, high));
         let first = j * 32;
         fill_state(
@@ -62,7 +52,6 @@ fn fill_states(
             left,
             sums,
         );
-        k += 1;
     }
 }
 
@@ -71,10 +60,8 @@ fn round_sums(gain: &[u64], high: bool, sums: &mut [u64])
     requires { RoundSumsPre gain.now sums.old }
     ensures { RoundSumsPost gain.now high sums.old sums.new }
 {
-    let mut i: usize = 0;
-    while i < gain.len() {
-        sums[i] = gain[i] + rounding::round(sums[i], setchain::ONE, high);
-        i += 1;
+    for (i, sum) in sums.iter_mut().enumerate() {
+        *sum = gain[i] + rounding::round(*sum, setchain::ONE, high);
     }
 }
 

@@ -1,15 +1,18 @@
 -- `add_row` stores one entry in the list of each state that it leads to.
 -- Assumes nothing.
 use native.Mathlib.Omega.{arith}
-use Rattle.bounds.proofs.AddRowLaws.{adding_skip, adding_more, adding_as}
+use lib.ListN.{length-append}
+use Rattle.std.proofs.Common.{rules}
+use Rattle.bounds.proofs.AddRowLaws.{adding_skip, adding_more}
+use Rattle.bounds.proofs.ZipLaws.{counted_turn}
 use Rattle.bounds.proofs.entries.add_row.Goals as goal
-use Rattle.bounds.proofs.entries.add_row.Goals.{then-high-gt0, else-high-gt0}
+
+pub loop-j-preserved-then-high-gt0 : goal.loop-j-preserved-then-high-gt0
+loop-j-preserved-then-high-gt0 c =
+    let turn = counted_turn c.args.lower.now c.args.upper.now c.loop-j.yielded _ _ c.next.new.self _ (search rules) (search rules) (search rules) c.loop-j.yielded_by _ c.in-Some.is c.next.ensures.steps in
+    simp length-append (rw (turn.0, turn.2, turn.3) (adding_more c.requires.1 c.loop-j.invariant turn.1))
 
 pub loop-j-preserved : goal.loop-j-preserved
 loop-j-preserved c =
-    let p = c.requires.1 in
-    let v = c.loop-j.invariant in
-    elim c.if-high-gt0.branch [
-      | then-high-gt0 w ↦ adding_as w.entries-is (adding_more p v (omega arith))
-      | else-high-gt0 w ↦ adding_as w.entries-is (adding_skip p v (omega arith) (omega (arith, w.if-high-gt0.false)))
-    ]
+    let turn = counted_turn c.args.lower.now c.args.upper.now c.loop-j.yielded _ _ c.next.new.self _ (search rules) (search rules) (search rules) c.loop-j.yielded_by _ c.in-Some.is c.next.ensures.steps in
+    simp length-append (adding_skip c.requires.1 c.loop-j.invariant turn.1 (omega (arith, turn.3, c.if-high-gt0.false)))

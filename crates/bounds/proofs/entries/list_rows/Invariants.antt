@@ -1,12 +1,8 @@
 -- `list_rows` lists each row in turn: the invariant says so of the rows passed.
 -- Assumes nothing.
-use Prim.Native.Nat.{◌-◌}
 use Rattle.bounds.specs.Entries.{rules_chain}
 use Rattle.bounds.proofs.ListRowsLaws.{Listing}
 use Rattle.bounds.proofs.entries.list_rows.Given as goal
 
 abbrev pub invariant-loop-i : goal.invariant-loop-i
 invariant-loop-i l = Listing (rules_chain l.n l.m l.rules l.lowers l.uppers) l.entries l.slack l.i
-
-abbrev pub decreases-loop-i : goal.decreases-loop-i
-decreases-loop-i l = l.n - l.i

@@ -9,3 +9,9 @@ loop-place-preserved c = rounded_more c.round.result c.requires.apart (omega ari
 
 pub returns : goal.returns
 returns c = rounded_all (omega arith) c.loop-place.invariant
+
+-- Where no further place is in the slice.
+pub returns-2 : goal.returns-2
+returns-2 c =
+    let w = rounded_more c.round.result c.requires.apart (omega arith) c.round.ensures c.loop-place.invariant in
+    rounded_all (omega (arith, w.size)) w

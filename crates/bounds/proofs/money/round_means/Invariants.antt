@@ -1,12 +1,7 @@
 -- `round_means` rounds place after place: the invariant says so of the years passed.
 -- Assumes nothing.
-use Prim.Native.Nat.{◌-◌}
-use lib.ListN.{length}
 use Rattle.bounds.proofs.MoneyLaws.{Rounded}
 use Rattle.bounds.proofs.money.round_means.Given as goal
 
 abbrev pub invariant-loop-place : goal.invariant-loop-place
 invariant-loop-place l = Rounded l.high l.stride l.initial.means l.means l.place
-
-abbrev pub decreases-loop-place : goal.decreases-loop-place
-decreases-loop-place l = length l.means - l.place

@@ -1,11 +1,7 @@
 -- `share_columns` writes the shares class by class.
 -- Assumes nothing.
-use Prim.Native.Nat.{◌-◌}
 use Rattle.bounds.specs.Sheets.{ShareColumnsPost}
 use Rattle.bounds.proofs.table.share_columns.Given as goal
 
 abbrev pub invariant-loop-j : goal.invariant-loop-j
 invariant-loop-j l = ShareColumnsPost l.high l.scheme l.out l.j
-
-abbrev pub decreases-loop-j : goal.decreases-loop-j
-decreases-loop-j l = l.classes - l.j

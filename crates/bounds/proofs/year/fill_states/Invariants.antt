@@ -1,6 +1,5 @@
 -- `fill_states` fills the states in turn, along the order.
 -- Assumes nothing.
-use Prim.Native.Nat.{◌-◌}
 use lib.ListN.{length}
 use Rattle.bounds.proofs.YearLaws.{StatesFilled}
 use Rattle.order.specs.Order.{along}
@@ -8,6 +7,3 @@ use Rattle.bounds.proofs.year.fill_states.Given as goal
 
 abbrev pub invariant-loop-k : goal.invariant-loop-k
 invariant-loop-k l = StatesFilled l.entries l.payoff (along l.high l.order) l.initial.left l.left l.sums l.k
-
-abbrev pub decreases-loop-k : goal.decreases-loop-k
-decreases-loop-k l = length l.payoff - l.k
