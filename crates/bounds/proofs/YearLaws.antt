@@ -15,7 +15,9 @@ use Rattle.setchain.specs.Rounding.{rounded}
 use Rattle.setchain.specs.Step.{capacity, step_figure}
 use Rattle.order.specs.Order.{along, Permutation, SortedPermutation}
 use Rattle.order.proofs.Laws.Written.{Rewritten}
-use Rattle.order.proofs.Laws.Along.{along_permutation}
+use Rattle.order.proofs.Laws.Along.{along_length, along_permutation}
+use Rattle.order.proofs.Laws.Numbers.{state_of_lem}
+use Rattle.order.specs.States.{state_of}
 use Rattle.setchain.specs.Sums.{at}
 use Rattle.step_spec.specs.StepAnswer.{MOST_PAYOFF}
 use Rattle.bounds.specs.Entries.{lower_ends, capacities, counts, sum_of, list_sum, listed_row, chain_listed, SoundLists}
@@ -130,6 +132,14 @@ module _ {entries payoff order left sums₀ : List ℕ} (able : FillStatesPre en
         each = s;
         fits = λ i l. omega (arith, s i l, fits i l (length payoff) (omega arith));
       }
+
+-- The order as the code reads it: it has a place for each state, and what it reads at a place is that state.
+module _ (high : Bool) (order : List ℕ) {entries payoff left sums : List ℕ} (able : FillStatesPre entries payoff (along high order) left sums) where
+  pub places : length order ≡ length payoff
+  places = sym (along_length high order) ∙ able.permutation.size
+
+  pub state_read : {k class j : ℕ} → k < length order → class ≡ at (along high order) k → j ≡ state_of class → j ≡ at (along high order) k - 1
+  state_read {k} inside read is = is ∙ ap state_of read ∙ state_of_lem _ (able.permutation.within k (omega (arith, places))).0
 
 -- A year of n states, where figures, slack and sums stand at the fronts of arrays.
 module _ {entries slack gain order before : List ℕ} (w : YearPre entries slack gain order before)
