@@ -85,8 +85,8 @@ pub fn list_scheme(scheme: Scheme, entries: &mut [u32; 3104], slack: &mut [u32; 
     requires { (Accepted scheme) × EmptyLists entries.old slack.old }
     ensures { ListRowsPost (chain_of scheme) entries.new slack.new }
 {
-    let m = scheme.columns as usize;
-    let n = scheme.classes as usize;
+    let m = usize::from(scheme.columns);
+    let n = usize::from(scheme.classes);
     list_rows(
         &scheme.rules,
         &scheme.lowers,

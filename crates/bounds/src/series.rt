@@ -27,7 +27,7 @@ pub fn class_figures(
     requires { (SeriesPre scheme gain payoff t stride) × ListRowsPost (chain_of scheme) entries.now slack.now }
     ensures { ClassFiguresPost high scheme gain payoff t stride out.old out.new result }
 {
-    let n = scheme.classes as usize;
+    let n = usize::from(scheme.classes);
     let mut order = [0u8; 32];
     let mut figures = payoff;
     rank(&figures[..n], &mut order[..n]);

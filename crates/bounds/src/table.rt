@@ -24,8 +24,8 @@ fn share_columns(
     ensures { ShareColumnsPost high scheme out.new scheme.classes }
 {
     let gain = [0u64; 32];
-    let classes = scheme.classes as usize;
-    let years = scheme.horizon as u64;
+    let classes = usize::from(scheme.classes);
+    let years = u64::from(scheme.horizon);
     for j in 0..classes {
         let payoff = share_payoff((j + 1) as u64);
         series(
@@ -55,8 +55,8 @@ fn mean_column(
     ensures { MeanColumnPost high scheme out.old out.new }
 {
     let none = [0u64; 32];
-    let stride = scheme.classes as usize + 1;
-    let years = scheme.horizon as u64;
+    let stride = usize::from(scheme.classes) + 1;
+    let years = u64::from(scheme.horizon);
     series(
         scheme, entries, slack, none, high, premiums, years, stride, out,
     );
@@ -74,10 +74,10 @@ pub fn write_table(scheme: Scheme, high: bool, out: &mut [u64])
     share_columns(scheme, &entries, &slack, high, out);
     let stored = scheme.premiums;
     let premiums = in_tenths(stored);
-    let mean = scheme.classes as usize;
+    let mean = usize::from(scheme.classes);
     mean_column(scheme, &entries, &slack, premiums, high, &mut out[mean..]);
     let none = [0u64; 32];
-    let years = scheme.horizon as u64;
+    let years = u64::from(scheme.horizon);
     let mut nowhere: [u64; 0] = [];
     let total = series(
         scheme,

@@ -4,7 +4,9 @@ use Rattle.bounds.proofs.TableLaws.{mean_ready, means_made}
 use Rattle.bounds.proofs.table.mean_column.Goals as goal
 
 pub series-requires : goal.series-requires
-series-requires c = (mean_ready c.args.scheme c.requires.0.accepted c.requires.0.tenths, c.requires.1)
+series-requires c = rw (c.from-stride.ensures, c.from-years.ensures) (mean_ready c.args.scheme c.requires.0.accepted c.requires.0.tenths, c.requires.1)
 
 pub returns : goal.returns
-returns c = means_made c.args.scheme c.requires.0.accepted c.requires.0.tenths c.series.ensures.series c.round_means.ensures
+returns c =
+    means_made c.args.scheme c.requires.0.accepted c.requires.0.tenths
+    (rw (c.from-stride.ensures, c.from-years.ensures) at c.series.ensures.series) (rw c.from-stride.ensures at c.round_means.ensures)

@@ -5,9 +5,12 @@ use Rattle.bounds.proofs.TableLaws.{column_stored, share_ready, columns_more}
 use Rattle.bounds.proofs.table.share_columns.Goals as goal
 
 pub series-requires : goal.series-requires
-series-requires c = (share_ready c.args.scheme c.requires.0.accepted c.loop-j.invariant (omega arith) c.share_payoff-payoff.ensures, c.requires.1)
+series-requires c =
+    rw (c.from-classes.ensures, c.from-years.ensures)
+    (share_ready c.args.scheme c.requires.0.accepted c.loop-j.invariant (omega arith) c.share_payoff-payoff.ensures, c.requires.1)
 
 pub loop-j-preserved : goal.loop-j-preserved
 loop-j-preserved c =
     columns_more c.args.scheme c.requires.0.accepted c.loop-j.invariant (omega arith) c.share_payoff-payoff.ensures
-    (column_stored c.args.scheme c.loop-j.j c.loop-j.out _ (omega arith) c.loop-j.invariant.size c.series.ensures.series)
+    (column_stored c.args.scheme c.loop-j.j c.loop-j.out _ (omega arith) c.loop-j.invariant.size
+    (rw (c.from-classes.ensures, c.from-years.ensures) at c.series.ensures.series))

@@ -16,7 +16,7 @@ pub list_scheme-requires : goal.list_scheme-requires
 list_scheme-requires c = (c.requires.accepted, lists_empty)
 
 pub series-total-requires : goal.series-total-requires
-series-total-requires c = (total_ready c.args.scheme c.requires.accepted c.in_tenths-premiums.ensures, c.list_scheme.ensures)
+series-total-requires c = rw c.from-years.ensures (total_ready c.args.scheme c.requires.accepted c.in_tenths-premiums.ensures, c.list_scheme.ensures)
 
 pub returns : goal.returns
 returns c =
@@ -25,6 +25,7 @@ returns c =
     take n shares ++ (c.mean_column.new.out ++ drop (length shares - n) (drop n shares)) in
     let column : let s = c.args.scheme in
     ColumnStored s (λ t. mean_figure c.args.high (chain_of s) (premium_at s) t (start_of s)) s.classes shares table = column_stored c.args.scheme c.args.scheme.classes shares _ (omega arith)
-    c.share_columns.ensures.size c.mean_column.ensures in
-    table_made c.args.scheme c.requires.accepted c.in_tenths-premiums.ensures c.share_columns.ensures column
-    c.round.result c.series-total.ensures.figure c.round.ensures
+    c.share_columns.ensures.size (rw c.from-mean.ensures at c.mean_column.ensures) in
+    rw c.from-mean.ensures
+    (table_made c.args.scheme c.requires.accepted c.in_tenths-premiums.ensures c.share_columns.ensures column
+    c.round.result (rw c.from-years.ensures at c.series-total.ensures.figure) c.round.ensures)
