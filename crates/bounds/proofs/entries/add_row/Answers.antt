@@ -9,10 +9,14 @@ use Rattle.bounds.proofs.entries.add_row.Goals as goal
 
 pub loop-j-preserved-then-high-gt0 : goal.loop-j-preserved-then-high-gt0
 loop-j-preserved-then-high-gt0 c =
-    let turn = counted_turn c.args.lower.now c.args.upper.now c.loop-j.yielded _ _ c.next.new.self _ (search rules) (search rules) (search rules) c.loop-j.yielded_by _ c.in-Some.is c.next.ensures.steps in
+    let turn =
+    counted_turn c.args.lower.now c.args.upper.now c.loop-j.yielded _ _ c.next.new.self _ (search rules) (search rules) (search rules)
+    c.loop-j.yielded_by _ c.in-Some.is c.next.ensures.steps in
     simp length-append (rw (turn.0, turn.2, turn.3) (adding_more c.requires.1 c.loop-j.invariant turn.1))
 
 pub loop-j-preserved : goal.loop-j-preserved
 loop-j-preserved c =
-    let turn = counted_turn c.args.lower.now c.args.upper.now c.loop-j.yielded _ _ c.next.new.self _ (search rules) (search rules) (search rules) c.loop-j.yielded_by _ c.in-Some.is c.next.ensures.steps in
+    let turn =
+    counted_turn c.args.lower.now c.args.upper.now c.loop-j.yielded _ _ c.next.new.self _ (search rules) (search rules) (search rules)
+    c.loop-j.yielded_by _ c.in-Some.is c.next.ensures.steps in
     simp length-append (adding_skip c.requires.1 c.loop-j.invariant turn.1 (omega (arith, turn.3, c.if-high-gt0.false)))

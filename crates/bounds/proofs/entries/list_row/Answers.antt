@@ -10,18 +10,10 @@ add_row-requires c =
 
 pub returns-clause-entries : goal.returns-clause-entries
 returns-clause-entries c =
-    let r = c.args.rules.now in
-    let l = c.args.lowers.now in
-    let u = c.args.uppers.now in
-    let lower = c.sum_by_target.ensures in
-    let upper = c.sum_by_target-2.ensures in
-    row_added r l u _ _ c.requires lower upper c.add_row.ensures
+    row_added c.args.rules.now c.args.lowers.now c.args.uppers.now _ _
+    c.requires c.sum_by_target.ensures c.sum_by_target-2.ensures c.add_row.ensures
 
 pub returns-clause-slack : goal.returns-clause-slack
 returns-clause-slack c =
-    let r = c.args.rules.now in
-    let l = c.args.lowers.now in
-    let u = c.args.uppers.now in
-    let lower = c.sum_by_target.ensures in
-    let upper = c.sum_by_target-2.ensures in
-    row_slack r l u _ _ c.requires lower upper c.slack.ensures
+    row_slack c.args.rules.now c.args.lowers.now c.args.uppers.now _ _
+    c.requires c.sum_by_target.ensures c.sum_by_target-2.ensures c.slack.ensures

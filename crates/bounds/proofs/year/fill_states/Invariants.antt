@@ -1,6 +1,5 @@
 -- `fill_states` fills the states in turn, along the order.
 -- Assumes nothing.
-use lib.ListN.{length}
 use Rattle.bounds.proofs.YearLaws.{StatesFilled}
 use Rattle.order.specs.Order.{along}
 use Rattle.bounds.proofs.year.fill_states.Given as goal
