@@ -2,7 +2,7 @@
 // Where the bytes do not hold them, 0 is read, and what is to be put or copied leaves the bytes as they were.
 #![tactic(auto)]
 
-ghost use Rattle.std.specs.Prelude.{◌≡◌, ◌+◌, ◌<◌, ◌%◌, leb};
+ghost use Rattle.std.specs.Prelude.{◌≡◌, ◌+◌, leb};
 ghost use Rattle.big_endian_spec.specs.Numbers.{number_at, number_put, part_put};
 
 // The most bytes of a number that is read: those of 32 bits.
@@ -18,13 +18,6 @@ pub fn holds(length: usize, at: usize, width: usize) -> bool
     at <= length - width
 }
 
-// A byte as a digit.
-fn digit(x: u8) -> u32
-    ensures { (result ≡ x) × (result < 256) }
-{
-    x as u32
-}
-
 // The number in `width` bytes, or 0.
 pub fn number_at(bytes: &[u8], at: usize, width: usize) -> u32
     ensures { result ≡ number_at width bytes.now at }
@@ -36,19 +29,10 @@ pub fn number_at(bytes: &[u8], at: usize, width: usize) -> u32
         return 0;
     }
     let mut number: u32 = 0;
-    let mut k: usize = 0;
-    while k < width {
-        number = number * 256 + digit(bytes[at + k]);
-        k += 1;
+    for byte in &bytes[at..at + width] {
+        number = number * 256 + u32::from(*byte);
     }
     number
-}
-
-// The low byte of a number.
-fn low(x: u32) -> u8
-    ensures { result ≡ x % 256 }
-{
-    (x % 256) as u8
 }
 
 // Puts the low `width` bytes of x, the last one first, or leaves the bytes as they were.
@@ -59,11 +43,9 @@ pub fn put_number(out: &mut [u8], at: usize, width: usize, x: u32)
         return;
     }
     let mut rest = x;
-    let mut k = width;
-    while 0 < k {
-        k -= 1;
-        out[at + k] = low(rest);
-        rest = rest / 256;
+    for k in (0..width).rev() {
+        out[at + k] = (rest % 256) as u8;
+        rest /= 256;
     }
 }
 
@@ -77,9 +59,5 @@ pub fn copy(from: &[u8], at: usize, out: &mut [u8], to: usize, n: usize)
     if !holds(out.len(), to, n) {
         return;
     }
-    let mut k: usize = 0;
-    while k < n {
-        out[to + k] = from[at + k];
-        k += 1;
-    }
+    out[to..to + n].copy_from_slice(&from[at..at + n]);
 }
