@@ -62,8 +62,8 @@ pub fn premium_width(version: u64) -> usize
 pub fn length_of(version: u64, classes: u8, columns: u8) -> usize
     ensures { result ≡ length_of (layout_of version) classes columns }
 {
-    let s = classes as usize;
-    let m = columns as usize;
+    let s = usize::from(classes);
+    let m = usize::from(columns);
     let header = header_length(version);
     let width = premium_width(version);
     header + s * m + record_spec::BAND_WIDTH * m + width * s

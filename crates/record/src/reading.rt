@@ -31,6 +31,7 @@ fn check_length_field(bytes: &[u8]) -> Result<(), Cause>
     if bytes.len() < HEADER {
         return Err(Cause::LengthField);
     }
+    // `as`: `usize` has no `From<u32>`.
     if (big_endian::number_at(bytes, 1, 2) as usize) != bytes.len() {
         return Err(Cause::LengthField);
     }
@@ -79,14 +80,8 @@ fn rules(bytes: &[u8], from: usize, s: usize, m: usize) -> [u8; 256]
     ensures { result ≡ tab CELL_PLACES (rules_up_to s m (λ i k. get_or bytes.now (from + i * m + k) 0)) }
 {
     let mut rules = [0u8; 256];
-    let mut i: usize = 0;
-    let mut at = from;
-    let mut to: usize = 0;
-    while i < s {
-        big_endian::copy(bytes, at, &mut rules, to, m);
-        at += m;
-        to += scheme::CELL_STRIDE;
-        i += 1;
+    for i in 0..s {
+        big_endian::copy(bytes, from + i * m, &mut rules, i * scheme::CELL_STRIDE, m);
     }
     rules
 }
@@ -96,12 +91,8 @@ fn read_numbers(bytes: &[u8], from: usize, width: usize, stride: usize, out: &mu
     requires { (from + n * stride + width ≤ length bytes.now + stride) × (width ≤ 4) × (stride ≤ 8) × (n ≤ length out.old) × (out.old ≡ replicate (length out.old) 0) }
     ensures { out.new ≡ tab (length out.old) (up_to n (λ k. be_at width bytes.now (from + k * stride))) }
 {
-    let mut k: usize = 0;
-    let mut at = from;
-    while k < n {
-        out[k] = big_endian::number_at(bytes, at, width);
-        at += stride;
-        k += 1;
+    for k in 0..n {
+        out[k] = big_endian::number_at(bytes, from + k * stride, width);
     }
 }
 
@@ -114,9 +105,9 @@ pub fn parsed(bytes: &[u8]) -> Scheme
     let columns = bytes[4];
     let start = bytes[5];
     let horizon = bytes[6];
-    let s = classes as usize;
-    let m = columns as usize;
-    let version = bytes[0] as u64;
+    let s = usize::from(classes);
+    let m = usize::from(columns);
+    let version = u64::from(bytes[0]);
     let header = header_length(version);
     let width = premium_width(version);
     let bands = header + s * m;

@@ -1,6 +1,6 @@
 -- `reading::parsed` meets its contract: the parts stand where the layout says.
 use Prim.Native.Nat.{ℕ, ◌+◌, ◌*◌, ◌≤◌}
-use mathlib.Core.Path.{◌≡◌, refl, ap, ap₂, sym, ◌∙◌}
+use mathlib.Core.Path.{◌≡◌, refl, ap}
 use mathlib.Core.List.{List}
 use native.Mathlib.Omega.{arith}
 use native.Mathlib.Nat.{mul-le-mul}
@@ -10,7 +10,8 @@ use Rattle.scheme.specs.declared.Scheme.{Scheme}
 use Rattle.scheme.specs.Tables.{tab}
 use Rattle.big_endian_spec.specs.Numbers.{be_at}
 use Rattle.scheme.specs.Stored.{up_to, rules_up_to, scheme_of}
-use Rattle.record_spec.specs.Layout.{version_in, layout_in, header_length, classes_in, columns_in, scheme_in, END_WIDTH, BAND_WIDTH}
+use Rattle.record_spec.specs.Layout.{version_in, layout_of, header_length, classes_in, columns_in, scheme_in, END_WIDTH, BAND_WIDTH}
+use Rattle.record_spec.specs.Frame.{Framed}
 use Rattle.record_spec.proofs.Laws.Layout.{further_most, width_most}
 use Rattle.scheme.proofs.Laws.Tab.{tab_eq}
 use Rattle.scheme.proofs.Laws.Stored.{up_to_eq}
@@ -23,38 +24,38 @@ upper-places bytes p n =
     tab_eq 0 BAND_PLACES _ _ (λ k lt. up_to_eq n _ _ k (λ less. let e : p + END_WIDTH + k * BAND_WIDTH ≡ p + k * BAND_WIDTH + END_WIDTH = omega arith in ap (be_at END_WIDTH bytes) e))
 
 -- The scheme of the parts that were read.
-made : (bytes : List ℕ) {header width : ℕ} {rules lowers uppers premiums : List ℕ} → header ≡ header_length (layout_in bytes) → width ≡ (layout_in bytes).width
-    → rules ≡ tab CELL_PLACES (rules_up_to (classes_in bytes) (columns_in bytes) (λ i k. get_or bytes (header + i * columns_in bytes + k) 0))
-    → lowers ≡ tab BAND_PLACES (up_to (columns_in bytes) (λ k. be_at END_WIDTH bytes (header + classes_in bytes * columns_in bytes + k * BAND_WIDTH)))
-    → uppers ≡ tab BAND_PLACES (up_to (columns_in bytes) (λ k. be_at END_WIDTH bytes (header + classes_in bytes * columns_in bytes + END_WIDTH + k * BAND_WIDTH)))
-    → premiums ≡ tab 32 (up_to (classes_in bytes) (λ i. be_at width bytes (header + classes_in bytes * columns_in bytes + columns_in bytes * BAND_WIDTH + i * width)))
+made : (bytes : List ℕ) {s m version header width : ℕ} {rules lowers uppers premiums : List ℕ} → s ≡ classes_in bytes → m ≡ columns_in bytes → version ≡ version_in bytes
+    → header ≡ header_length (layout_of version) → width ≡ (layout_of version).width
+    → rules ≡ tab CELL_PLACES (rules_up_to s m (λ i k. get_or bytes (header + i * m + k) 0))
+    → lowers ≡ tab BAND_PLACES (up_to m (λ k. be_at END_WIDTH bytes (header + s * m + k * BAND_WIDTH)))
+    → uppers ≡ tab BAND_PLACES (up_to m (λ k. be_at END_WIDTH bytes (header + s * m + END_WIDTH + k * BAND_WIDTH)))
+    → premiums ≡ tab 32 (up_to s (λ i. be_at width bytes (header + s * m + m * BAND_WIDTH + i * width)))
     → ◌≡◌ {A = Scheme}
     record { classes = classes_in bytes; columns = columns_in bytes; start = get_or bytes 5 0; horizon = get_or bytes 6 0; rules = rules; lowers = lowers; uppers = uppers; premiums = premiums }
     (scheme_in bytes)
 unfolding scheme_of
-made bytes {header} h w r l u p = rw (r, l, u, upper-places bytes (header + classes_in bytes * columns_in bytes) (columns_in bytes), p, h, w)
+made bytes {s} {m} {header = header} rows columns is h w r l u p = rw (r, l, u, upper-places bytes (header + s * m) m, p, h, w, is, rows, columns)
+
+-- Where the premiums stand, by the record's length.
+placed : (bytes : List ℕ) {s m version header width : ℕ} → Framed bytes → s ≡ classes_in bytes → m ≡ columns_in bytes → version ≡ version_in bytes
+    → header ≡ header_length (layout_of version) → width ≡ (layout_of version).width
+    → (s * m ≤ 32 * 8) × (s ≤ 32) × (header ≤ 8) × (width ≤ 4) × (length bytes ≡ header + s * m + BAND_WIDTH * m + width * s)
+placed bytes {version = version} framed rows columns is h w = (
+  rw (rows, columns) (mul-le-mul framed.classes framed.columns),
+  rw rows framed.classes,
+  omega (arith, h, further_most version),
+  omega (arith, w, width_most version),
+  rw (h, w, is, rows, columns) framed.whole,
+)
 
 pub read_numbers-requires-3 : goal.read_numbers-requires-3
 read_numbers-requires-3 c =
-    let places : let bytes = c.args.bytes.now in
-    let header = c.header_length-header.result in
-    let width = c.premium_width-width.result in
-    (classes_in bytes * columns_in bytes ≤ 32 * 8) × (header ≤ 8) × (width ≤ 4)
-    × (length bytes ≡ header + classes_in bytes * columns_in bytes + BAND_WIDTH * columns_in bytes + width * classes_in bytes) = let bytes = c.args.bytes.now in
-    let framed = c.requires in
-    let header : c.header_length-header.result ≡ header_length (layout_in bytes) = c.header_length-header.ensures in
-    let width : c.premium_width-width.result ≡ (layout_in bytes).width = c.premium_width-width.ensures in (
-      mul-le-mul framed.classes framed.columns,
-      omega (arith, header, further_most (version_in bytes)),
-      omega (arith, width, width_most (version_in bytes)),
-      framed.whole ∙ sym (ap₂ (λ h w. h + classes_in bytes * columns_in bytes + BAND_WIDTH * columns_in bytes + w * classes_in bytes) header width),
-    ) in
-    let room = places in
-    (omega arith, omega arith, omega arith, omega (arith, c.requires.classes), refl)
+    let places = placed c.args.bytes.now c.requires c.from-s.ensures c.from-m.ensures c.from-version.ensures c.header_length-header.ensures c.premium_width-width.ensures in
+    (omega (arith, places), omega (arith, places), omega (arith, places), omega (arith, places), refl)
 
 pub returns : goal.returns
 returns c =
-    made c.args.bytes.now
+    made c.args.bytes.now c.from-s.ensures c.from-m.ensures c.from-version.ensures
     c.header_length-header.ensures c.premium_width-width.ensures
     c.rules-rules.ensures c.read_numbers.ensures c.read_numbers-2.ensures
     c.read_numbers-3.ensures

@@ -1,5 +1,5 @@
--- `reading::read_numbers` meets its contract: k numbers are read at the head of the loop.
-use Prim.Native.Nat.{suc, ◌≤◌, ◌+◌}
+-- `reading::read_numbers` meets its contract: the numbers passed are read at the head of the loop.
+use Prim.Native.Nat.{suc, ◌≤◌, ◌+◌, ◌*◌}
 use mathlib.Core.Path.{◌∙◌}
 use native.Mathlib.Omega.{arith}
 use native.Mathlib.Nat.{mul-le-mul_right}
@@ -9,18 +9,14 @@ use Rattle.scheme.proofs.Laws.Stored.{stored_none, stored_more}
 use Rattle.record.proofs.reading.read_numbers.Goals as goal
 
 pub loop-k-init : goal.loop-k-init
-loop-k-init c = (omega arith, omega arith, c.requires.4 ∙ stored_none _ _)
+loop-k-init c = c.requires.4 ∙ stored_none _ _
 
 pub loop-k-preserved : goal.loop-k-preserved
 loop-k-preserved c =
-    let room : c.loop-k.at + c.args.width ≤ length c.args.bytes.now = let start = c.args in
-    let more : suc c.loop-k.k ≤ start.n = omega arith in
-    omega (arith, mul-le-mul_right start.stride more) in
     let start = c.args in
     let turn = c.loop-k in
-    let held = read_held start.width start.bytes.now turn.at (omega arith) (omega (arith, room)) in (
-      omega arith,
-      omega arith,
-      stored_more (length start.out.now) turn.k _ turn.out c.number_at.result (omega arith) turn.invariant.2
-          (rw (← turn.invariant.1) (c.number_at.ensures ∙ held)),
-    )
+    let at = start.from + turn.k * start.stride in
+    let room : at + start.width ≤ length start.bytes.now = let more : suc turn.k ≤ start.n = omega arith in
+    omega (arith, mul-le-mul_right start.stride more) in
+    stored_more (length start.out.now) turn.k _ turn.out c.number_at.result (omega arith) turn.invariant
+    (c.number_at.ensures ∙ read_held start.width start.bytes.now at (omega arith) room)

