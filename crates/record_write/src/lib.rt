@@ -45,6 +45,7 @@ pub fn written_length(answer: WriteAnswer) -> u64
     ensures { result ≡ written_length answer }
 {
     match answer {
+        // `as`: `u64` has no `From<usize>`.
         WriteAnswer::Written(length) => length as u64,
         WriteAnswer::Declined(_) => 0,
     }

@@ -34,14 +34,8 @@ fn rules(out: &mut [u8], from: usize, rules: &[u8], s: usize, m: usize)
     requires { (from + s * m ≤ length out.old) × (s * CELL_STRIDE ≤ length rules.now) × (m ≤ CELL_STRIDE) }
     ensures { out.new ≡ sets out.old from (joined s (λ i. tab m (λ k. get_or rules.now (i * CELL_STRIDE + k) 0))) }
 {
-    let mut i: usize = 0;
-    let mut at: usize = 0;
-    let mut to = from;
-    while i < s {
-        big_endian::copy(rules, at, out, to, m);
-        at += scheme::CELL_STRIDE;
-        to += m;
-        i += 1;
+    for i in 0..s {
+        big_endian::copy(rules, i * scheme::CELL_STRIDE, out, from + i * m, m);
     }
 }
 
@@ -59,12 +53,8 @@ fn bands<'a>(out: &mut [u8], from: usize, lowers: &'a [u32], uppers: &'a [u32], 
     requires { (from + m * BAND_WIDTH ≤ length out.old) × (m ≤ length lowers.now) × (m ≤ length uppers.now) }
     ensures { out.new ≡ sets out.old from (joined m (λ k. band_bytes (get_or lowers.now k 0) (get_or uppers.now k 0))) }
 {
-    let mut k: usize = 0;
-    let mut to = from;
-    while k < m {
-        put_band(out, to, lowers[k], uppers[k]);
-        to += BAND_WIDTH;
-        k += 1;
+    for k in 0..m {
+        put_band(out, from + k * BAND_WIDTH, lowers[k], uppers[k]);
     }
 }
 
@@ -73,12 +63,8 @@ fn premiums(out: &mut [u8], from: usize, width: usize, premiums: &[u32], s: usiz
     requires { (from + s * width ≤ length out.old) × (s ≤ length premiums.now) }
     ensures { out.new ≡ sets out.old from (joined s (λ i. be_bytes width (get_or premiums.now i 0))) }
 {
-    let mut j: usize = 0;
-    let mut to = from;
-    while j < s {
-        big_endian::put_number(out, to, width, premiums[j]);
-        to += width;
-        j += 1;
+    for (j, premium) in premiums[..s].iter().enumerate() {
+        big_endian::put_number(out, from + j * width, width, *premium);
     }
 }
 
@@ -87,8 +73,8 @@ pub fn whole(scheme: Scheme, version: u64, out: &mut [u8], size: usize)
     requires { SizeFits scheme × (other_version version ≡ false) × (size ≡ record_length scheme version) × (size ≤ length out.old) }
     ensures { out.new ≡ record_of scheme version ++ drop size out.old }
 {
-    let s = scheme.classes as usize;
-    let m = scheme.columns as usize;
+    let s = usize::from(scheme.classes);
+    let m = usize::from(scheme.columns);
     header(
         out,
         version,

