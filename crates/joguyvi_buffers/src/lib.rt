@@ -11,9 +11,5 @@ pub fn copy_front(from: &[u32], out: &mut [u32])
     if from.len() < out.len() {
         return;
     }
-    let mut k: usize = 0;
-    while k < out.len() {
-        out[k] = from[k];
-        k += 1;
-    }
+    out.copy_from_slice(&from[..out.len()]);
 }
