@@ -4,7 +4,6 @@
 ghost use Rattle.joguyvi_spec.specs.Rows.{BandsCall, RowCall, RuleRowCall};
 ghost use Rattle.joguyvi_spec.specs.Mixing.{MixingCall};
 
-mod copies;
 mod row_buffers;
 
 // The tight row of a class, in parts, into two buffers of 32 numbers, with 0 beyond the classes.

@@ -3,7 +3,6 @@ ghost use Rattle.std.specs.Prelude.{◌≤◌};
 ghost use Rattle.joguyvi_spec.specs.Rows.{BandsPost, PartPost, RowPost};
 ghost use Rattle.joguyvi_spec.specs.Mixing.{PutCountPost};
 
-use crate::copies;
 use mixing::MixingAnswer;
 use scheme::{RowAnswer, Scheme, or_else};
 
@@ -16,10 +15,8 @@ pub fn put_row(answer: RowAnswer, lower: &mut [u64], upper: &mut [u64]) -> u8
     if number != 0 {
         return number;
     }
-    let lowers = answer.lower;
-    let uppers = answer.upper;
-    rows::copy_row(&lowers, lower);
-    rows::copy_row(&uppers, upper);
+    lower.copy_from_slice(&answer.lower);
+    upper.copy_from_slice(&answer.upper);
     0
 }
 
@@ -27,13 +24,13 @@ pub fn put_row(answer: RowAnswer, lower: &mut [u64], upper: &mut [u64]) -> u8
 pub fn put_part(part: &[u8], out: &mut [u8]) -> u8
     ensures { PartPost part.now out.old result out.new }
 {
-    if part.len() == 0 {
+    if part.is_empty() {
         return scheme::CLASS_OUT;
     }
     if out.len() != part.len() {
         return scheme::SLICE_OUT;
     }
-    big_endian::copy(part, 0, out, 0, part.len());
+    out.copy_from_slice(part);
     0
 }
 
@@ -42,13 +39,13 @@ pub fn put_bands(scheme: Scheme, lower: &mut [u32], upper: &mut [u32]) -> u8
     requires { scheme.columns ≤ 8 }
     ensures { BandsPost scheme lower.old upper.old result lower.new upper.new }
 {
-    let columns = scheme.columns as usize;
+    let columns = usize::from(scheme.columns);
     let number = scheme::slices_cause(columns, lower.len(), upper.len());
     if number != 0 {
         return number;
     }
-    copies::copy_ends(&scheme.lowers, lower);
-    copies::copy_ends(&scheme.uppers, upper);
+    lower.copy_from_slice(&scheme.lowers[..columns]);
+    upper.copy_from_slice(&scheme.uppers[..columns]);
     0
 }
 
