@@ -1,5 +1,5 @@
 // The one-year step's payoff from a lent buffer, and its answer put into lent buffers.
-ghost use Rattle.std.specs.Prelude.{◌≡◌, get_or};
+ghost use Rattle.std.specs.Prelude.{◌≡◌};
 ghost use Rattle.scheme.specs.FirstCause.{or_else};
 ghost use Rattle.scheme.specs.Cause.{slice_cause};
 ghost use Rattle.step_spec.specs.StepAnswer.{StepAnswered};
@@ -9,26 +9,13 @@ ghost use Rattle.joguyvi_spec.specs.Steps.{StepCall, StepBuffersPost};
 use scheme::{Scheme, or_else, slice_cause};
 use step::StepAnswer;
 
-// The number at a place of a buffer, or 0 past its end.
-fn number_at(numbers: &[u64], place: usize) -> u64
-    ensures { result ≡ get_or numbers.now place 0 }
-{
-    if place < numbers.len() {
-        return numbers[place];
-    }
-    0
-}
-
 // A payoff of 32 numbers: what is missing counts as 0, and what lies beyond 32 is ignored.
 fn payoff_of(numbers: &[u64]) -> [u64; 32]
     ensures { result ≡ first32 numbers.now }
 {
     let mut out = [0u64; 32];
-    let mut k: usize = 0;
-    while k < 32 {
-        out[k] = number_at(numbers, k);
-        k += 1;
-    }
+    let count = numbers.len().min(32);
+    out[..count].copy_from_slice(&numbers[..count]);
     out
 }
 
@@ -50,8 +37,7 @@ fn put_step(answer: StepAnswer, payoff: &[u64], figure: &mut [u64], row: &mut [u
         return number;
     }
     figure[0] = answer.figure;
-    let parts = answer.row;
-    rows::copy_row(&parts, row);
+    row.copy_from_slice(&answer.row);
     0
 }
 
