@@ -14,8 +14,8 @@ fn payoff_of(numbers: &[u64]) -> [u64; 32]
     ensures { result ≡ first32 numbers.now }
 {
     let mut out = [0u64; 32];
-    let count = numbers.len().min(32);
-    out[..count].copy_from_slice(&numbers[..count]);
+    let length = numbers.len().min(32);
+    out[..length].copy_from_slice(&numbers[..length]);
     out
 }
 

@@ -1,5 +1,5 @@
 // Lent books: their counts by value, an answer over one, and the counts of a joined one put into a lent buffer.
-ghost use Rattle.std.specs.Prelude.{◌≡◌, [], length};
+ghost use Rattle.std.specs.Prelude.{◌≡◌, []};
 ghost use Rattle.bounds_spec.specs.Pooled.{pooled_sheet_cause};
 ghost use Rattle.joguyvi_spec.specs.Buffers.{BufferPost, first32};
 ghost use Rattle.joguyvi_spec.specs.Books.{lent_answer, put_book_number};
@@ -13,11 +13,8 @@ pub fn counts_of(counts: &[u32]) -> [u32; 32]
     ensures { result ≡ first32 counts.now }
 {
     let mut out = [0u32; 32];
-    let mut k: usize = 0;
-    while k < 32 {
-        out[k] = book::count_at(counts, k);
-        k += 1;
-    }
+    let length = counts.len().min(32);
+    out[..length].copy_from_slice(&counts[..length]);
     out
 }
 
@@ -45,18 +42,6 @@ pub fn empty_sheet(scheme: Scheme, counts: [u32; 32], year: u64) -> u8
     bounds::pooled_share_sheet(scheme, counts, year, &mut low, &mut high)
 }
 
-// Copies a book into a buffer of 32 counts.
-fn copy_counts(counts: [u32; 32], out: &mut [u32])
-    requires { length out.old ≡ 32 }
-    ensures { out.new ≡ counts }
-{
-    let mut k: usize = 0;
-    while k < 32 {
-        out[k] = counts[k];
-        k += 1;
-    }
-}
-
 // Puts a joined book into a buffer of 32 counts, and answers the cause, or 0; the books were lent in buffers of two lengths.
 pub fn put_book(answer: JoinAnswer, first: usize, second: usize, out: &mut [u32]) -> u8
     ensures { BufferPost (put_book_number answer first second out.old) answer.book out.old result out.new }
@@ -68,7 +53,6 @@ pub fn put_book(answer: JoinAnswer, first: usize, second: usize, out: &mut [u32]
     if number != 0 {
         return number;
     }
-    let counts = answer.book;
-    copy_counts(counts, out);
+    out.copy_from_slice(&answer.book);
     0
 }

@@ -15,30 +15,30 @@ use Rattle.joguyvi_spec.specs.Buffers.{first32}
 use Rattle.joguyvi_steps.proofs.steps.payoff_of.Goals as goal
 
 -- The front of a list over 32 places of 0.
-module _ (numbers : List ℕ) {count : ℕ} (few : count ≤ 32) (held : count ≤ length numbers) (all : count < 32 → length numbers ≤ count) where
+module _ (numbers : List ℕ) {many : ℕ} (few : many ≤ 32) (held : many ≤ length numbers) (all : many < 32 → length numbers ≤ many) where
   abbrev zeros : List ℕ
   zeros = replicate 32 0
 
   abbrev rest : List ℕ
-  rest = drop count zeros
+  rest = drop many zeros
 
   abbrev whole : List ℕ
-  whole = take count numbers ++ rest
+  whole = take many numbers ++ rest
 
-  size : length (take count numbers) ≡ count
-  size = length-take-le count numbers held
+  size : length (take many numbers) ≡ many
+  size = length-take-le many numbers held
 
-  entry : (k : ℕ) → k < 32 → Dec (k < count) → get_or whole k 0 ≡ get_or numbers k 0
-  entry k lt (yes h) = get_or-append (take count numbers) rest 0 k (omega (arith, size)) ∙ get_or-take count numbers k 0 h
+  entry : (k : ℕ) → k < 32 → Dec (k < many) → get_or whole k 0 ≡ get_or numbers k 0
+  entry k lt (yes h) = get_or-append (take many numbers) rest 0 k (omega (arith, size)) ∙ get_or-take many numbers k 0 h
   entry k lt (no h) =
-      let place : k ≡ length (take count numbers) + (k - count) = omega (arith, size) in
-      ap (λ j. get_or whole j 0) place ∙ get_or-append-add (take count numbers) rest (k - count) 0
-      ∙ get_or-drop count zeros (k - count) 0 ∙ get_or-replicate 32 (count + (k - count)) 0 0 (omega arith)
+      let place : k ≡ length (take many numbers) + (k - many) = omega (arith, size) in
+      ap (λ j. get_or whole j 0) place ∙ get_or-append-add (take many numbers) rest (k - many) 0
+      ∙ get_or-drop many zeros (k - many) 0 ∙ get_or-replicate 32 (many + (k - many)) 0 0 (omega arith)
       ∙ sym (get_or-eq_default numbers 0 {n = k} (omega (arith, all (omega arith))))
 
-  front : {part : List ℕ} → part ≡ take count numbers → part ++ rest ≡ first32 numbers
+  front : {part : List ℕ} → part ≡ take many numbers → part ++ rest ≡ first32 numbers
   unfolding first32
-  front is = rw is (as_tab 0 whole 32 (λ k. get_or numbers k 0) (omega (arith, size, length-append (take count numbers) rest, length-drop count zeros)) (λ k lt. entry k lt (dec_lt k count)))
+  front is = rw is (as_tab 0 whole 32 (λ k. get_or numbers k 0) (omega (arith, size, length-append (take many numbers) rest, length-drop many zeros)) (λ k lt. entry k lt (dec_lt k many)))
 
 pub returns : goal.returns
 returns c = front c.args.numbers.now (omega arith) (omega arith) (λ less. omega arith) c.copy_from_slice.ensures.after
