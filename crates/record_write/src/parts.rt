@@ -13,19 +13,19 @@ ghost use Rattle.record_spec.specs.Write.{record_of, record_length};
 use record_spec::{BAND_WIDTH, END_WIDTH};
 use scheme::Scheme;
 
-// Puts the header of a version.
-fn header(out: &mut [u8], version: u64, size: usize, s: u8, m: u8, start: u8, horizon: u8)
-    requires { (other_version version ≡ false) × (header_length (layout_of version) ≤ length out.old) × (size ≤ 455) × (1 ≤ m) }
-    ensures { out.new ≡ sets out.old 0 (header_bytes (layout_of version) size s m start horizon) }
+// Puts the header of a scheme in a version.
+fn header(out: &mut [u8], version: u64, size: usize, scheme: &Scheme)
+    requires { (other_version version ≡ false) × (header_length (layout_of version) ≤ length out.old) × (size ≤ 455) × (1 ≤ scheme.now.columns) }
+    ensures { out.new ≡ sets out.old 0 (header_bytes (layout_of version) size scheme.now.classes scheme.now.columns scheme.now.start scheme.now.horizon) }
 {
     out[0] = version as u8;
     big_endian::put_number(out, 1, 2, size as u32);
-    out[3] = s;
-    out[4] = m;
-    out[5] = start;
-    out[6] = horizon;
+    out[3] = scheme.classes;
+    out[4] = scheme.columns;
+    out[5] = scheme.start;
+    out[6] = scheme.horizon;
     if version == 2 {
-        out[7] = m - 1;
+        out[7] = scheme.columns - 1;
     }
 }
 
@@ -75,15 +75,7 @@ pub fn whole(scheme: Scheme, version: u64, out: &mut [u8], size: usize)
 {
     let s = usize::from(scheme.classes);
     let m = usize::from(scheme.columns);
-    header(
-        out,
-        version,
-        size,
-        scheme.classes,
-        scheme.columns,
-        scheme.start,
-        scheme.horizon,
-    );
+    header(out, version, size, &scheme);
     let header_length = record::header_length(version);
     let width = record::premium_width(version);
     rules(out, header_length, &scheme.rules, s, m);

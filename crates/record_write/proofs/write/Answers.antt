@@ -1,84 +1,45 @@
 -- `write` meets its contract: the version's cause, the scheme's, the slice's, or the record.
-use mathlib.Core.Path.{◌≡◌, sym, ◌∙◌}
-use mathlib.Core.Bool.{false}
-use native.Mathlib.Omega.{arith}
-use Rattle.scheme.specs.Cause.{cause_of}
+use Rattle.std.proofs.Common.{◌≡◌, false, ap, sym, ◌∙◌, arith}
 use Rattle.scheme.proofs.Laws.Judged.{accepted_cause}
+use Rattle.scheme.proofs.Laws.Number.{cause_some, passed_whole}
 use Rattle.record_spec.specs.Layout.{other_version}
+use Rattle.record_spec.specs.Write.{write_answer_of}
 use Rattle.record_write.specs.Agreement.{keeps}
 use Rattle.record_write.specs.Laws.Write.{declined, by_version, by_scheme, by_slice, written}
 use Rattle.record_write.proofs.write.Goals as goal
 
-pub returns-then-other_version-clause-answer : goal.returns-then-other_version-clause-answer
-returns-then-other_version-clause-answer c =
-    (let start = c.args in
-    keeps start.scheme start.version start.out.now
-    (declined _ _ _ (by_version start.scheme start.version start.out.now (sym c.other_version.ensures ∙ c.if-other_version.true)) (λ e. omega arith))).0
+pub returns-then-other_version : goal.returns-then-other_version
+returns-then-other_version c =
+    let a = c.args in
+    let all = keeps a.scheme a.version a.out.now
+    (declined _ _ _ (by_version a.scheme a.version a.out.now (sym c.other_version.ensures ∙ c.if-other_version.true)) (λ e. omega arith)) in
+    record { answer = all.0; leaves = all.1.0; promise = all.1.1 }
 
-pub returns-then-other_version-clause-leaves : goal.returns-then-other_version-clause-leaves
-returns-then-other_version-clause-leaves c =
-    (let start = c.args in
-    keeps start.scheme start.version start.out.now
-    (declined _ _ _ (by_version start.scheme start.version start.out.now (sym c.other_version.ensures ∙ c.if-other_version.true)) (λ e. omega arith))).1.0
+pub returns-in_err-check : goal.returns-in_err-check
+returns-in_err-check c =
+    let a = c.args in
+    let known : other_version a.version ≡ false = sym c.other_version.ensures ∙ c.if-other_version.false in
+    let none = declined _ _ _ (by_scheme a.scheme a.version a.out.now known c.in_err-check.ensures (cause_some _)) (cause_some _) in
+    let all = keeps a.scheme a.version a.out.now (ap write_answer_of (passed_whole _ _ c.from_residual.ensures) ∙ none.0, none.1) in
+    record { answer = all.0; leaves = all.1.0; promise = all.1.1 }
 
-pub returns-then-number-ne0-clause-answer : goal.returns-then-number-ne0-clause-answer
-returns-then-number-ne0-clause-answer c =
-    (let known : other_version c.args.version ≡ false = sym c.other_version.ensures ∙ c.if-other_version.false in
-    let start = c.args in
-    keeps start.scheme start.version start.out.now
-    (declined _ _ _ (by_scheme start.scheme start.version start.out.now known c.cause-number.ensures c.if-number-ne0.true) c.if-number-ne0.true)).0
-
-pub returns-then-number-ne0-clause-leaves : goal.returns-then-number-ne0-clause-leaves
-returns-then-number-ne0-clause-leaves c =
-    (let known : other_version c.args.version ≡ false = sym c.other_version.ensures ∙ c.if-other_version.false in
-    let start = c.args in
-    keeps start.scheme start.version start.out.now
-    (declined _ _ _ (by_scheme start.scheme start.version start.out.now known c.cause-number.ensures c.if-number-ne0.true) c.if-number-ne0.true)).1.0
-
-pub returns-then-out-size-clause-answer : goal.returns-then-out-size-clause-answer
-returns-then-out-size-clause-answer c =
-    (let known : other_version c.args.version ≡ false = sym c.other_version.ensures ∙ c.if-other_version.false in
-    let accepted : cause_of c.args.scheme ≡ 0 = sym c.cause-number.ensures ∙ c.if-number-ne0.false in
-    let start = c.args in
-    keeps start.scheme start.version start.out.now
+pub returns-then-out-size : goal.returns-then-out-size
+returns-then-out-size c =
+    let a = c.args in
+    let known : other_version a.version ≡ false = sym c.other_version.ensures ∙ c.if-other_version.false in
+    let all = keeps a.scheme a.version a.out.now
     (declined _ _ _
-    (by_slice start.scheme start.version start.out.now known accepted (rw (← c.length_of-size.ensures) c.if-out-size.true)) (λ e. omega arith))).0
-
-pub returns-then-out-size-clause-leaves : goal.returns-then-out-size-clause-leaves
-returns-then-out-size-clause-leaves c =
-    (let known : other_version c.args.version ≡ false = sym c.other_version.ensures ∙ c.if-other_version.false in
-    let accepted : cause_of c.args.scheme ≡ 0 = sym c.cause-number.ensures ∙ c.if-number-ne0.false in
-    let start = c.args in
-    keeps start.scheme start.version start.out.now
-    (declined _ _ _
-    (by_slice start.scheme start.version start.out.now known accepted (rw (← c.length_of-size.ensures) c.if-out-size.true)) (λ e. omega arith))).1.0
-
-pub returns-clause-answer : goal.returns-clause-answer
-returns-clause-answer c =
-    (let known : other_version c.args.version ≡ false = sym c.other_version.ensures ∙ c.if-other_version.false in
-    let accepted : cause_of c.args.scheme ≡ 0 = sym c.cause-number.ensures ∙ c.if-number-ne0.false in
-    let start = c.args in
-    keeps start.scheme start.version start.out.now
-    (written start.scheme start.version start.out.now known accepted c.length_of-size.ensures (omega arith) c.whole.ensures)).0
-
-pub returns-clause-leaves : goal.returns-clause-leaves
-returns-clause-leaves c =
-    (let known : other_version c.args.version ≡ false = sym c.other_version.ensures ∙ c.if-other_version.false in
-    let accepted : cause_of c.args.scheme ≡ 0 = sym c.cause-number.ensures ∙ c.if-number-ne0.false in
-    let start = c.args in
-    keeps start.scheme start.version start.out.now
-    (written start.scheme start.version start.out.now known accepted c.length_of-size.ensures (omega arith) c.whole.ensures)).1.0
-
-pub returns-clause-promise : goal.returns-clause-promise
-returns-clause-promise c =
-    (let known : other_version c.args.version ≡ false = sym c.other_version.ensures ∙ c.if-other_version.false in
-    let accepted : cause_of c.args.scheme ≡ 0 = sym c.cause-number.ensures ∙ c.if-number-ne0.false in
-    let start = c.args in
-    keeps start.scheme start.version start.out.now
-    (written start.scheme start.version start.out.now known accepted c.length_of-size.ensures (omega arith) c.whole.ensures)).1.1
+    (by_slice a.scheme a.version a.out.now known (sym c.in_ok-check.ensures) (rw (← c.length_of-size.ensures) c.if-out-size.true)) (λ e. omega arith)) in
+    record { answer = all.0; leaves = all.1.0; promise = all.1.1 }
 
 pub whole-requires : goal.whole-requires
 whole-requires c =
-    let known : other_version c.args.version ≡ false = sym c.other_version.ensures ∙ c.if-other_version.false in
-    let accepted : cause_of c.args.scheme ≡ 0 = sym c.cause-number.ensures ∙ c.if-number-ne0.false in
-    ((accepted_cause _ accepted).size, known, c.length_of-size.ensures, omega arith)
+    ((accepted_cause _ (sym c.in_ok-check.ensures)).size, sym c.other_version.ensures ∙ c.if-other_version.false, c.length_of-size.ensures, omega arith)
+
+pub returns : goal.returns
+returns c =
+    let a = c.args in
+    let known : other_version a.version ≡ false = sym c.other_version.ensures ∙ c.if-other_version.false in
+    let all = keeps a.scheme a.version a.out.now
+    (written a.scheme a.version a.out.now known (sym c.in_ok-check.ensures) c.length_of-size.ensures (omega arith) c.whole.ensures) in
+    record { answer = all.0; leaves = all.1.0; promise = all.1.1 }
