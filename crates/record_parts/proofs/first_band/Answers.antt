@@ -7,6 +7,6 @@ use Rattle.record_parts.proofs.first_band.Goals as goal
 pub returns : goal.returns
 returns c =
     let bytes = c.args.bytes.now in
-    let opened = c.open-opened.ensures in
+    let opened = c.open.ensures in
     band_answered bytes 0
-    (c.next.ensures.0.answer ∙ ap (λ l. band_at l c.open-opened.result.reader.at) opened.1 ∙ ap (band_at (open_part bytes)) opened.3 ∙ part_answer bytes 0)
+    (c.next.ensures.steps.0.answer ∙ ap (λ l. band_at l c.open.result.reader.at) opened.1 ∙ ap (band_at (open_part bytes)) opened.3 ∙ part_answer bytes 0)

@@ -1,60 +1,45 @@
 -- `rule_row` meets its contract: an empty part, or the row that lies within the bytes.
-use Prim.Native.Nat.{◌+◌, ◌-◌, ◌*◌, ◌<◌}
-use mathlib.Core.Path.{◌≡◌, ap, sym, ◌∙◌}
-use native.Mathlib.Omega.{arith}
-use lib.ListN.{length}
-use Rattle.record_spec.specs.Layout.{layout_in, row_place, columns_in}
+use Rattle.std.specs.Prelude.{ℕ, ◌+◌, ◌-◌, ◌*◌, ◌<◌, ◌≡◌, List, length}
+use Rattle.std.proofs.Common.{refl, sym, ◌∙◌, arith}
+use Rattle.record_spec.specs.Layout.{version_in, layout_of, layout_in, header_length, row_place, columns_in}
 use Rattle.record_spec.specs.Frame.{Framed}
 use Rattle.record_spec.specs.RuleRow.{rule_row_cause}
+use Rattle.record_parts.specs.Laws.Checked.{passed_none, declined_some}
 use Rattle.record_parts.specs.Laws.RuleRow.{row_empty, row_framed, row_within, row_shown}
 use Rattle.record_parts.proofs.rule_row.Goals as goal
 
-pub returns-then-rule_row_cause-ne0 : goal.returns-then-rule_row_cause-ne0
-returns-then-rule_row_cause-ne0 c = row_empty _ _ c.rule_row_cause.ensures c.if-rule_row_cause-ne0.true
+-- Where the row of a class that is shown stands, and that it lies within the bytes.
+placed : (bytes : List ℕ) (class : ℕ) {version header columns : ℕ} → rule_row_cause bytes class ≡ 0
+    → version ≡ version_in bytes → header ≡ header_length (layout_of version) → columns ≡ columns_in bytes
+    → let place = row_place (layout_in bytes) (columns_in bytes) (class - 1) in
+    (header + (class - 1) * columns ≡ place) × (place + columns < length bytes)
+placed bytes class shown v h m = (rw (h, v, m), rw m (row_within bytes class shown))
+
+pub returns-then-is_err : goal.returns-then-is_err
+returns-then-is_err c = row_empty _ _ c.check_rule_row.ensures (declined_some _ c.if-is_err.ensures.negation)
 
 pub bounds-bytes-4 : goal.bounds-bytes-4
 bounds-bytes-4 c =
-    let shown : rule_row_cause c.args.bytes.now c.args.class ≡ 0 = sym c.rule_row_cause.ensures ∙ c.if-rule_row_cause-ne0.false in
-    let framed : Framed c.args.bytes.now = row_framed _ c.args.class shown in
+    let framed : Framed c.args.bytes.now = row_framed _ c.args.class (sym c.check_rule_row.ensures ∙ passed_none _ c.if-is_err.ensures.negation) in
     omega (arith, framed.header)
 
 pub overflow_add-start : goal.overflow_add-start
 overflow_add-start c =
-    let shown : rule_row_cause c.args.bytes.now c.args.class ≡ 0 = sym c.rule_row_cause.ensures ∙ c.if-rule_row_cause-ne0.false in
-    let placed : let start = c.args in
-    let bytes = start.bytes.now in
-    (c.header_length-header.result + (start.class - 1) * columns_in bytes ≡ row_place (layout_in bytes) (columns_in bytes) (start.class - 1))
-    × (row_place (layout_in bytes) (columns_in bytes) (start.class - 1) + columns_in bytes < length bytes) = let start = c.args in
-    (ap (λ h. h + (start.class - 1) * columns_in start.bytes.now) c.header_length-header.ensures, row_within start.bytes.now start.class shown) in
-    omega (arith, placed)
+    let shown = sym c.check_rule_row.ensures ∙ passed_none _ c.if-is_err.ensures.negation in
+    omega (arith, placed c.args.bytes.now c.args.class shown c.from.ensures c.header_length-header.ensures c.from-columns.ensures)
 
 pub overflow_add-result : goal.overflow_add-result
 overflow_add-result c =
-    let shown : rule_row_cause c.args.bytes.now c.args.class ≡ 0 = sym c.rule_row_cause.ensures ∙ c.if-rule_row_cause-ne0.false in
-    let placed : let start = c.args in
-    let bytes = start.bytes.now in
-    (c.header_length-header.result + (start.class - 1) * columns_in bytes ≡ row_place (layout_in bytes) (columns_in bytes) (start.class - 1))
-    × (row_place (layout_in bytes) (columns_in bytes) (start.class - 1) + columns_in bytes < length bytes) = let start = c.args in
-    (ap (λ h. h + (start.class - 1) * columns_in start.bytes.now) c.header_length-header.ensures, row_within start.bytes.now start.class shown) in
-    omega (arith, placed)
-
-pub returns : goal.returns
-returns c =
-    let shown : rule_row_cause c.args.bytes.now c.args.class ≡ 0 = sym c.rule_row_cause.ensures ∙ c.if-rule_row_cause-ne0.false in
-    let placed : let start = c.args in
-    let bytes = start.bytes.now in
-    (c.header_length-header.result + (start.class - 1) * columns_in bytes ≡ row_place (layout_in bytes) (columns_in bytes) (start.class - 1))
-    × (row_place (layout_in bytes) (columns_in bytes) (start.class - 1) + columns_in bytes < length bytes) = let start = c.args in
-    (ap (λ h. h + (start.class - 1) * columns_in start.bytes.now) c.header_length-header.ensures, row_within start.bytes.now start.class shown) in
-    let start = c.args in
-    row_shown start.bytes.now start.class placed.0 shown
+    let shown = sym c.check_rule_row.ensures ∙ passed_none _ c.if-is_err.ensures.negation in
+    omega (arith, placed c.args.bytes.now c.args.class shown c.from.ensures c.header_length-header.ensures c.from-columns.ensures)
 
 pub slice_bounds-result-end-2 : goal.slice_bounds-result-end-2
 slice_bounds-result-end-2 c =
-    let shown : rule_row_cause c.args.bytes.now c.args.class ≡ 0 = sym c.rule_row_cause.ensures ∙ c.if-rule_row_cause-ne0.false in
-    let placed : let start = c.args in
-    let bytes = start.bytes.now in
-    (c.header_length-header.result + (start.class - 1) * columns_in bytes ≡ row_place (layout_in bytes) (columns_in bytes) (start.class - 1))
-    × (row_place (layout_in bytes) (columns_in bytes) (start.class - 1) + columns_in bytes < length bytes) = let start = c.args in
-    (ap (λ h. h + (start.class - 1) * columns_in start.bytes.now) c.header_length-header.ensures, row_within start.bytes.now start.class shown) in
-    omega (arith, placed)
+    let shown = sym c.check_rule_row.ensures ∙ passed_none _ c.if-is_err.ensures.negation in
+    omega (arith, placed c.args.bytes.now c.args.class shown c.from.ensures c.header_length-header.ensures c.from-columns.ensures)
+
+pub returns : goal.returns
+returns c =
+    let shown = sym c.check_rule_row.ensures ∙ passed_none _ c.if-is_err.ensures.negation in
+    rw c.from-columns.ensures
+    (row_shown c.args.bytes.now c.args.class (placed c.args.bytes.now c.args.class shown c.from.ensures c.header_length-header.ensures refl).0 shown)
