@@ -44,16 +44,6 @@ fn stored(bytes: &[u8], column: usize) -> bool
     record::check(bytes).is_ok() && column < usize::from(bytes[4])
 }
 
-// The lent bytes where they are accepted, and an empty part of them where they are declined.
-fn kept(bytes: &[u8]) -> &[u8]
-    ensures { (result.now ≡ open_part bytes.now) × (read_cause bytes.now ≡ 0 → result ≡ bytes.entry) }
-{
-    if record::check(bytes).is_err() {
-        return &bytes[..0];
-    }
-    bytes
-}
-
 // The band of a column, or no more: what a reader at that column answers, with no reader.
 pub fn band_at(bytes: &[u8], column: usize) -> Option<Band>
     ensures { BandAnswered bytes.now column (band_answer_of result) }
@@ -77,8 +67,7 @@ pub struct Reader<'a> {
     pub at: usize,
 }
 
-// What opening a reader answers: whether the record is accepted, and a reader over it, or over an empty part where it is declined.
-// It is no Result, as document 01 asks for the cause's number beside a reader that hands out no band.
+// What opening a reader answers: the record's check and, since document 01 asks for a reader beside the cause's number, one over an empty part where it declines.
 #[derive(Clone, Copy)]
 pub struct Opened<'a> {
     pub checked: Result<(), Cause>,
@@ -91,12 +80,11 @@ impl<'a> Reader<'a> {
         ensures { (number_in result.checked ≡ read_cause bytes.now) × (result.reader.bytes.now ≡ open_part bytes.now)
             × (read_cause bytes.now ≡ 0 → result.reader.bytes ≡ bytes.entry) × (result.reader.at ≡ 0) }
     {
+        let checked = record::check(bytes);
+        let part = if checked.is_ok() { bytes } else { &bytes[..0] };
         Opened {
-            checked: record::check(bytes),
-            reader: Reader {
-                bytes: kept(bytes),
-                at: 0,
-            },
+            checked,
+            reader: Reader { bytes: part, at: 0 },
         }
     }
 }

@@ -7,4 +7,3 @@ use Rattle.record_parts.proofs.ReaderIterator.next.Goals as goal
 pub overflow_add-self : goal.overflow_add-self
 overflow_add-self c =
     omega (arith, ap handed_out c.in_ok-band.ensures.answer, after_within c.args.self.now.bytes.now c.args.self.now.at)
-
