@@ -29,7 +29,7 @@ pub fn word(out: Stdout, text: &[u8], x: u64) {
 pub fn wide(x: u8) -> u64
     ensures { result ≡ x }
 {
-    x as u64
+    u64::from(x)
 }
 
 // The end of a line.
@@ -47,13 +47,6 @@ pub fn complain(err: Stderr, text: &[u8]) {
 pub struct Input {
     pub length: usize,
     pub failed: bool,
-}
-
-// The smaller of two lengths.
-fn smaller(a: usize, b: usize) -> usize
-    ensures { (result ≤ a) × (result ≤ b) }
-{
-    if a < b { a } else { b }
 }
 
 // One read: what came, from the front of the chunk on.
@@ -77,7 +70,7 @@ fn more(input: Stdin, buffer: &mut [u8], done: usize) -> Input
 {
     let mut chunk = [0u8; 4096];
     let read = fetch(input, &mut chunk);
-    let length = smaller(read.length, buffer.len() - done);
+    let length = read.length.min(buffer.len() - done);
     big_endian::copy(&chunk, 0, buffer, done, length);
     Input {
         length,
@@ -136,6 +129,7 @@ pub fn record_at(input: &[u8], at: usize) -> &[u8]
     if !big_endian::holds(input.len(), at, 2) {
         return &input[0..0];
     }
+    // `as`: `usize` has no `From<u32>`.
     let length = big_endian::number_at(input, at, 2) as usize;
     front(&input[at + 2..], length)
 }
@@ -151,11 +145,5 @@ pub fn add(sum: u64, x: u64) -> u64
 pub fn checksum(text: &[u8]) -> u64
     ensures { result ≡ checksum_from 0 text.now }
 {
-    let mut sum: u64 = 0;
-    let mut i: usize = 0;
-    while i < text.len() {
-        sum = add(sum, wide(text[i]));
-        i += 1;
-    }
-    sum
+    text.iter().fold(0, |sum, byte| add(sum, u64::from(*byte)))
 }

@@ -1,15 +1,19 @@
--- `checksum` meets its contract: the checksum of the rest, from the sum so far, is that of the whole text.
+-- `checksum` meets its contract: the bytes folded are the checksum's recursion.
 -- Assumes nothing.
-use mathlib.Core.Path.{ap, ◌∙◌}
-use borrow.Author.Rules.{rules}
-use Rattle.console.specs.Checksum.{added}
-use Rattle.console.proofs.RecordLaws.{checksum_more, checksum_all}
+use Prim.Native.Nat.{ℕ}
+use mathlib.Core.Path.{◌≡◌, refl, ◌∙◌}
+use mathlib.Core.List.{List, [], ◌∷◌}
+use Rattle.std.specs.Prelude.{fold}
+use Rattle.std.proofs.Common.{rules}
+use Rattle.console.specs.Checksum.{added, checksum_from}
 use Rattle.console.proofs.checksum.Goals as goal
 
-pub loop-i-preserved : goal.loop-i-preserved
-loop-i-preserved c =
-    let added-wide = c.add-sum.ensures ∙ ap (added c.loop-i.sum) c.wide.ensures in
-    (search rules, checksum_more c.args.text.now c.loop-i.i c.loop-i.sum (search rules) added-wide c.loop-i.invariant.1)
+folded : (sum : ℕ) (bytes : List ℕ) → fold added sum bytes ≡ checksum_from sum bytes
+unfolding checksum_from
+folded sum [] = refl
+folded sum (byte ∷ bytes) = folded (added sum byte) bytes
 
 pub returns : goal.returns
-returns c = checksum_all c.args.text.now c.loop-i.i c.loop-i.sum (search rules) c.loop-i.invariant.1
+returns c =
+    let ran : c.fold.result ≡ fold added 0 c.args.text.now = search rules in
+    ran ∙ folded 0 c.args.text.now
