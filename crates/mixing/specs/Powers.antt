@@ -1,5 +1,5 @@
 -- Matrices of 1, 2, 4 years and so on, and the last count of years that does not mix.
-use Rattle.std.specs.Prelude.{ℕ, suc, ◌+◌, ◌^◌, ◌≤◌, ◌<◌, ◌≡◌, true, false, List, [], length, get_or}
+use Rattle.std.specs.Prelude.{ℕ, zero, suc, ◌+◌, ◌^◌, ◌≤◌, ◌<◌, ◌≡◌, true, false, List, [], length, get_or, Option, Some, None}
 use Rattle.setchain.specs.Mixing.{path, mixes}
 use Rattle.mixing.specs.Bits.{all_bits, bit_edges, Holds}
 
@@ -50,3 +50,8 @@ pub record LastPost (n : ℕ) (base : List ℕ) (count : ℕ) : Type 0 where
   pub below : count < 1024
   pub fails : mixes n (bit_edges base) count ≡ false
   pub mixing : mixes n (bit_edges base) (suc count) ≡ true
+
+-- The first count that mixes, where 0 says that none does.
+abbrev pub counted : ℕ → Option ℕ
+counted zero = None
+counted (suc before) = Some (suc before)

@@ -32,9 +32,10 @@ fn class_edges(scheme: Scheme, class: u64) -> u32
     ensures { result ≡ bits_of scheme.classes (scheme_edges scheme (class - 1)) }
 {
     let n = usize::from(scheme.classes);
-    let answer = rows::row(scheme, class);
-    let lower = answer.lower;
-    entries_above_zero(&lower[..n])
+    let Ok(row) = rows::row(scheme, class) else {
+        unreachable!()
+    };
+    entries_above_zero(&row.lower[..n])
 }
 
 // The edges of all classes, a row of bits for each.

@@ -3,7 +3,7 @@ ghost use Rattle.std.specs.Prelude.{◌≡◌, ◌≤◌, [], get_or};
 ghost use Rattle.setchain.specs.Tests.{first_from};
 ghost use Rattle.setchain.specs.Mixing.{mixes};
 ghost use Rattle.mixing.specs.Bits.{bit_edges, Holds};
-ghost use Rattle.mixing.specs.Powers.{LastPost, LastPre, SquaresPost, SquaresPre};
+ghost use Rattle.mixing.specs.Powers.{counted, LastPost, LastPre, SquaresPost, SquaresPre};
 
 use crate::matrix;
 
@@ -49,20 +49,20 @@ fn last_not_mixing(squares: &[[u32; 32]], levels: usize, n: usize, full: u32) ->
     count
 }
 
-// The first count of years, 1 to 1,024, that mixes a matrix of edges, or 0.
-pub fn first_count(edges: [u32; 32], n: usize) -> u64
+// The first count of years, 1 to 1,024, that mixes a matrix of edges, if any does.
+pub fn first_count(edges: [u32; 32], n: usize) -> Option<u64>
     requires { (n ≤ 32) × Holds n edges (bit_edges edges) }
-    ensures { result ≡ first_from 1024 1 (mixes n (bit_edges edges)) }
+    ensures { result ≡ counted (first_from 1024 1 (mixes n (bit_edges edges))) }
 {
     let full = matrix::all_bits(n);
     let mut squares = [[0u32; 32]; LAST + 1];
     squares[0] = edges;
     let levels = store_squares(&mut squares, n, full);
     if levels == 0 {
-        return 1;
+        return Some(1);
     }
     if LAST < levels {
-        return 0;
+        return None;
     }
-    last_not_mixing(&squares, levels, n, full) + 1
+    Some(last_not_mixing(&squares, levels, n, full) + 1)
 }

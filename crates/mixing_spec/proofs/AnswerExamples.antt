@@ -1,5 +1,5 @@
 -- What the mixing check answers for schemes of which no count mixes, and of which some does.
-use Rattle.std.specs.Prelude.{ℕ, zero, suc, ◌%◌, ◌<◌, ◌≡◌, Bool, true, false}
+use Rattle.std.specs.Prelude.{ℕ, zero, suc, ◌%◌, ◌<◌, ◌≡◌, Bool, true, false, Ok, Err}
 use Rattle.std.proofs.Math.Path.{refl}
 use Rattle.std.proofs.Common.{ap, sym, ◌∙◌, subst, true≢false, arith}
 use Rattle.std.specs.Bool.{beq}
@@ -12,13 +12,21 @@ use Rattle.setchain.proofs.Cycle.{cycle_first}
 use Rattle.setchain.proofs.Laws.Tests.{all_true, first_eq}
 use Rattle.setchain.proofs.Laws.Mixing.{mixes_agrees, no_path_within}
 use Rattle.scheme.specs.declared.Scheme.{Scheme}
+use Rattle.scheme.specs.declared.Cause.TheVariants.{NotMixing}
 use Rattle.scheme.specs.Tables.{tab}
 use Rattle.scheme.specs.Cause.{size_out, start_out, horizon_out, rule_out, band_out, sum_out, premium_out, cause_of}
 use Rattle.scheme.proofs.Examples.{scheme_a}
-use Rattle.mixing_spec.specs.MixingAnswer.{scheme_edges, mixes_scheme, first_count, mixing_answer}
+use Rattle.mixing_spec.specs.MixingAnswer.{scheme_edges, mixes_scheme, first_count, mixing_answer_of, mixing_answer}
 use Rattle.mixing_spec.proofs.Examples.{one_class, both, one_way, cycle, never_entered, cycle_and_chord, first_counts}
 use Rattle.mixing_spec.proofs.Theorems.{MixingAnswered, ShortestCount, first_shortest, mixing_answered}
 use Rattle.mixing_spec.proofs.Laws.{none_to_last, answer_not_mixing, answer_count}
+
+-- A count is answered as it is, and a cause with its number and no count.
+count_is : mixing_answer_of (Ok 7) ≡ record { number = 0; count = 7 }
+count_is = refl
+
+no_count : mixing_answer_of (Err NotMixing) ≡ record { number = 16; count = 0 }
+no_count = refl
 
 -- Class 1 is not left along the edges: Example A, and where class 2 is never entered.
 module _ (s : Scheme) (two : s.classes ≡ 2) (closed : scheme_edges s 0 1 ≡ false) where

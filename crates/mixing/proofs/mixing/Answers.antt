@@ -1,25 +1,25 @@
 -- `mixing` meets its contract: declined, no count, or the first.
-use mathlib.Core.Path.{◌≡◌, sym, ◌∙◌}
+use Rattle.std.proofs.Common.{◌≡◌, refl, ap, sym, ◌∙◌}
 use Rattle.scheme.specs.Cause.{cause_of}
-use Rattle.mixing_spec.specs.MixingAnswer.{first_count}
-use Rattle.mixing_spec.proofs.Laws.{answer_not_mixing, answer_count}
+use Rattle.scheme.proofs.Laws.Number.{cause_some, passed_whole}
+use Rattle.mixing_spec.specs.MixingAnswer.{mixing_answer_of}
+use Rattle.mixing_spec.proofs.Laws.{scheme_declined}
+use Rattle.mixing.specs.Powers.{counted}
 use Rattle.mixing.specs.Laws.Edges.{classes_few}
-use Rattle.mixing.specs.Laws.Powers.{bits_held, scheme_first}
+use Rattle.mixing.specs.Laws.Powers.{bits_held, scheme_first, counted_answer}
 use Rattle.mixing.proofs.mixing.Goals as goal
 
-pub first_count-count-requires : goal.first_count-count-requires
-first_count-count-requires c =
-    let accepted : cause_of c.args.scheme ≡ 0 = sym c.cause-number.ensures ∙ c.if-number-ne0.false in
-    (rw c.from-n.ensures (classes_few c.args.scheme accepted), rw c.from-n.ensures (bits_held c.edges.ensures))
+pub returns-in_err-check : goal.returns-in_err-check
+returns-in_err-check c =
+    ap mixing_answer_of (passed_whole _ _ c.from_residual.ensures) ∙ scheme_declined c.args.scheme c.in_err-check.ensures (cause_some _)
 
-pub returns-then-count-eq0 : goal.returns-then-count-eq0
-returns-then-count-eq0 c =
-    let accepted : cause_of c.args.scheme ≡ 0 = sym c.cause-number.ensures ∙ c.if-number-ne0.false in
-    let counted : c.first_count-count.result ≡ first_count c.args.scheme = scheme_first c.args.scheme c.edges.ensures (rw c.from-n.ensures at c.first_count-count.ensures) in
-    answer_not_mixing c.args.scheme accepted counted c.if-count-eq0.true
+pub first_count-requires : goal.first_count-requires
+first_count-requires c =
+    let accepted : cause_of c.args.scheme ≡ 0 = sym c.in_ok-check.ensures in
+    (rw c.from-n.ensures (classes_few c.args.scheme accepted), rw c.from-n.ensures (bits_held c.edges.ensures))
 
 pub returns : goal.returns
 returns c =
-    let accepted : cause_of c.args.scheme ≡ 0 = sym c.cause-number.ensures ∙ c.if-number-ne0.false in
-    let counted : c.first_count-count.result ≡ first_count c.args.scheme = scheme_first c.args.scheme c.edges.ensures (rw c.from-n.ensures at c.first_count-count.ensures) in
-    answer_count c.args.scheme accepted counted c.if-count-eq0.false
+    let first = scheme_first c.args.scheme c.edges.ensures refl in
+    ap mixing_answer_of c.ok_or.ensures.value
+    ∙ counted_answer c.args.scheme (sym c.in_ok-check.ensures) ((rw c.from-n.ensures at c.first_count.ensures) ∙ ap counted first)

@@ -7,7 +7,7 @@ use Rattle.scheme.specs.declared.Scheme.{Scheme}
 use Rattle.scheme.specs.RowAnswer.{RowAnswer}
 use Rattle.scheme.specs.Cause.{cause_of, class_cause}
 use Rattle.scheme.specs.Rows.{chain_of}
-use Rattle.scheme.specs.RowAnswer.{row_cause, row_refused, row_answer, row_at}
+use Rattle.scheme.specs.RowAnswer.{row_cause, row_refused, row_answered, row_answer, row_at}
 use Rattle.scheme.proofs.Laws.Cause.{inside_outside}
 use Rattle.scheme.proofs.Laws.FirstCause.{answered, second_cause, cond_false}
 use Rattle.scheme.proofs.Laws.Judged.{accepted_cause}
@@ -26,6 +26,11 @@ module _ (s : Scheme) (class : ℕ) (ok : cause_of s ≡ 0) (low : 1 ≤ class) 
   row_answered_lem =
       is ∙ answered (row_cause s class) (row_at s (class - 1)) (row_refused (row_cause s class))
       (second_cause (cause_of s) (class_cause s class) ok ∙ cond_false _ 11 0 (inside_outside s.classes class low high))
+
+  -- So it is not refused.
+  pub row_given : answer.number ≡ 0
+  unfolding row_answered
+  row_given = ap (λ r. r.number) row_answered_lem
 
   pub row_size : length answer.lower ≡ 32
   row_size = ap (λ r. length r.lower) row_answered_lem ∙ (answered_size s.classes (tight_row s.classes ((chain_of s).row (class - 1)))).0

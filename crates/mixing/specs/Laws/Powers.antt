@@ -1,5 +1,5 @@
 -- Products of matrices of bits, the paths that they hold, and the search for the first count that mixes.
-use Rattle.std.specs.Prelude.{ℕ, suc, ◌+◌, ◌-◌, ◌^◌, ◌≤◌, ◌<◌, ◌≡◌, refl, Bool, true, false, List, [], eqb, get_or, set}
+use Rattle.std.specs.Prelude.{ℕ, zero, suc, ◌+◌, ◌-◌, ◌^◌, ◌≤◌, ◌<◌, ◌≡◌, refl, Bool, true, false, List, [], eqb, get_or, set, Option, Some, ok_or}
 use Rattle.std.proofs.Common.{ap, ap₂, sym, ◌∙◌, subst, arith, pow-suc, eq-or-lt_of_le, le_of_suc-le-suc, ⊎_elim, add-one, length-set, get_or-set_same, get_or-set_other}
 use Rattle.setchain.specs.Sums.{at}
 use Rattle.setchain.specs.Tests.{all_below, first_from}
@@ -8,10 +8,13 @@ use Rattle.setchain.proofs.Mixed.{first_mixing, none_mixing}
 use Rattle.setchain.proofs.Laws.Tests.{all_eq, first_eq}
 use Rattle.setchain.proofs.Laws.Mixing.{path_sum, path_one, mixes_agrees}
 use Rattle.scheme.specs.declared.Scheme.{Scheme}
+use Rattle.scheme.specs.declared.Cause.TheVariants.{NotMixing}
+use Rattle.scheme.specs.Cause.{cause_of}
 use Rattle.scheme.proofs.Laws.Filled.{Filled}
-use Rattle.mixing_spec.specs.MixingAnswer.{scheme_edges, mixes_scheme, first_count}
+use Rattle.mixing_spec.specs.MixingAnswer.{scheme_edges, mixes_scheme, first_count, mixing_answer_of, mixing_answer}
+use Rattle.mixing_spec.proofs.Laws.{answer_not_mixing, answer_count}
 use Rattle.mixing.specs.Bits.{bits_of, all_bits, has_bit, union_of, Holds, bit_edges}
-use Rattle.mixing.specs.Powers.{Squares, SquaresPre, Squaring, SquaresPost, LastPre, Halving, LastPost}
+use Rattle.mixing.specs.Powers.{counted, Squares, SquaresPre, Squaring, SquaresPost, LastPre, Halving, LastPost}
 use Rattle.mixing.specs.Laws.Bits.{pow_most, bits_eq, bit_of, bits_full, union_holds}
 
 module _ {n : ℕ} {base : List ℕ} {related : ℕ → ℕ → Bool} (held : Holds n base related) where
@@ -201,3 +204,16 @@ pub scheme_first : (s : Scheme) {matrix : List ℕ} {count : ℕ}
     → Holds s.classes matrix (scheme_edges s) → count ≡ first_from 1024 1 (mixes s.classes (bit_edges matrix)) → count ≡ first_count s
 unfolding first_count mixes_scheme
 scheme_first s held is = is ∙ first_held held
+
+-- A count above 0 is told as such.
+pub counted_some : {count first : ℕ} → 0 < count → count ≡ first → Some count ≡ counted first
+counted_some {first = zero} some is = absurd (omega (arith, some, is))
+counted_some {first = suc before} some is = ap Some is
+
+-- The answer of an accepted scheme, by its first count.
+pub counted_answer : (s : Scheme) → cause_of s ≡ 0 → {r : Option ℕ} → r ≡ counted (first_count s) → mixing_answer_of (ok_or r NotMixing) ≡ mixing_answer s
+counted_answer s ok is = ap (λ r. mixing_answer_of (ok_or r NotMixing)) is ∙ by (first_count s) refl
+  where
+    by : (count : ℕ) → count ≡ first_count s → mixing_answer_of (ok_or (counted count) NotMixing) ≡ mixing_answer s
+    by zero none = answer_not_mixing s ok none refl
+    by (suc before) some = answer_count s ok some (λ z. omega (arith, z))
