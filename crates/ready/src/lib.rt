@@ -4,14 +4,14 @@
 ghost use Rattle.std.specs.Prelude.{◌≡◌, ◌/◌, ◌≤◌, ◌<◌};
 ghost use Rattle.scheme.specs.Access.{CELL_PLACES};
 ghost use Rattle.scheme.specs.Tables.{tab};
-ghost use Rattle.ready_spec.specs.Scales.{chosen, classes_of, factor_of, tenths_of, premium_of};
+ghost use Rattle.ready_spec.specs.Scales.{classes_of, factor_of, tenths_of, premium_of};
 ghost use Rattle.ready_spec.specs.Moves.{held, moved_class, Movable};
 ghost use Rattle.ready_spec.specs.Ready.{ready_rule, ready_scheme};
 ghost use Rattle.scheme.specs.Stored.{up_to, rules_up_to};
-ghost use Rattle.ready_spec.specs.Answer.{number_cause, base_cause, ready_cause, ready_answer};
+ghost use Rattle.scheme.specs.Number.{number_in};
+ghost use Rattle.ready_spec.specs.Answer.{number_cause, base_cause, ready_answer_of, ready_answer};
 
-pub use ready_spec::ReadyAnswer;
-use scheme::{Scheme, or_else};
+use scheme::{Cause, Scheme};
 
 // The whole of a share, in parts.
 const ONE: u32 = 1000000000;
@@ -27,12 +27,6 @@ const HORIZON: u8 = 40;
 
 // The largest base, in cents.
 const BASE_MOST: u64 = 2500000;
-
-// Cause: the ready scheme is not 1 to 3.
-const NOT_READY: u8 = 14;
-
-// Cause: the base is above its limit.
-const BASE_ABOVE: u8 = 15;
 
 // The tenths of a percent of each class of ready scheme 1.
 const SCALE_1: [u32; 18] = [
@@ -52,31 +46,24 @@ const SCALE_3: [u32; 24] = [
     2416, 2609, 2837, 3111, 3148, 3435, 3953,
 ];
 
-// The first, the second or the third number, by the ready scheme's number.
-fn chosen_of(number: u64, first: u64, second: u64, third: u64) -> u64
-    ensures { result ≡ chosen number first second third }
-{
-    if number == 1 {
-        return first;
-    }
-    if number == 2 {
-        return second;
-    }
-    third
-}
-
 // s, the number of classes.
 fn classes_of(number: u64) -> u64
     ensures { result ≡ classes_of number }
 {
-    chosen_of(number, 18, 18, 24)
+    match number {
+        1 | 2 => 18,
+        _ => 24,
+    }
 }
 
 // c, by which a claim raises the class.
 fn factor_of(number: u64) -> u64
     ensures { result ≡ factor_of number }
 {
-    chosen_of(number, 3, 4, 4)
+    match number {
+        1 => 3,
+        _ => 4,
+    }
 }
 
 // The class held to 1 to s.
@@ -131,13 +118,11 @@ fn tenths(number: u64, i: usize) -> u64
     requires { i < classes_of number }
     ensures { result ≡ tenths_of number i }
 {
-    if number == 1 {
-        return u64::from(SCALE_1[i]);
+    match number {
+        1 => u64::from(SCALE_1[i]),
+        2 => u64::from(SCALE_2[i]),
+        _ => u64::from(SCALE_3[i]),
     }
-    if number == 2 {
-        return u64::from(SCALE_2[i]);
-    }
-    u64::from(SCALE_3[i])
 }
 
 // A thousandth, rounded down.
@@ -185,60 +170,38 @@ fn made(number: u64, base: u64) -> Scheme
         columns: COLUMNS,
         start: START,
         horizon: HORIZON,
-        rules: rules,
+        rules,
         lowers: [0; 8],
         uppers: [ONE, ONE, ONE, ONE, ONE, 0, 0, 0],
-        premiums: premiums,
+        premiums,
     }
 }
 
-// The cause of a number that is not 1 to 3, or 0.
-fn number_cause(number: u64) -> u8
-    ensures { result ≡ number_cause number }
+// Cause 14: the ready scheme is not 1 to 3.
+fn check_number(number: u64) -> Result<(), Cause>
+    ensures { number_in result ≡ number_cause number }
 {
-    if number == 0 {
-        return NOT_READY;
+    if !(1..=3).contains(&number) {
+        return Err(Cause::Ready);
     }
-    if 3 < number {
-        return NOT_READY;
-    }
-    0
+    Ok(())
 }
 
-// The cause of a base above its limit, or 0.
-fn base_cause(base: u64) -> u8
-    ensures { result ≡ base_cause base }
+// Cause 15: the base is above its limit.
+fn check_base(base: u64) -> Result<(), Cause>
+    ensures { number_in result ≡ base_cause base }
 {
     if BASE_MOST < base {
-        return BASE_ABOVE;
+        return Err(Cause::Base);
     }
-    0
-}
-
-// The first cause that applies, or 0.
-fn cause(number: u64, base: u64) -> u8
-    ensures { result ≡ ready_cause number base }
-{
-    let by_number = number_cause(number);
-    let by_base = base_cause(base);
-    or_else(by_number, by_base)
+    Ok(())
 }
 
 // The ready scheme of a number, 1 to 3, with premiums from a base of 0 to 2,500,000 cents.
-pub fn ready(number: u64, base: u64) -> ReadyAnswer
-    ensures { result ≡ ready_answer number base }
+pub fn ready(number: u64, base: u64) -> Result<Scheme, Cause>
+    ensures { ready_answer_of result ≡ ready_answer number base }
 {
-    let refused = cause(number, base);
-    if refused == 0 {
-        let scheme = made(number, base);
-        return ReadyAnswer {
-            number: 0,
-            scheme: scheme,
-        };
-    }
-    let scheme = scheme::no_scheme();
-    ReadyAnswer {
-        number: refused,
-        scheme: scheme,
-    }
+    check_number(number)?;
+    check_base(base)?;
+    Ok(made(number, base))
 }

@@ -1,13 +1,15 @@
 -- Document 01's examples of the ready schemes, computed, and further ones that pin the scales, the premiums and the causes.
-use Rattle.std.specs.Prelude.{ℕ, ◌≡◌, refl, [], ◌∷◌}
+use Rattle.std.specs.Prelude.{ℕ, ◌≡◌, refl, [], ◌∷◌, Ok, Err}
 use Rattle.setchain.specs.Sums.{sum_to}
 use Rattle.setchain.specs.Rows.{ONE}
+use Rattle.scheme.specs.declared.Cause.TheVariants.{Ready}
 use Rattle.scheme.specs.Tables.{tab}
 use Rattle.scheme.specs.Access.{rule_at, premium_at}
-use Rattle.scheme.specs.Stored.{up_to, scheme_of}
+use Rattle.scheme.specs.Stored.{up_to, scheme_of, no_scheme}
+use Rattle.scheme.proofs.Examples.{scheme_a}
 use Rattle.ready_spec.specs.Scales.{classes_of, premium_of, scale1, scale2, scale3, tenths_of}
 use Rattle.ready_spec.specs.Ready.{ready_scheme}
-use Rattle.ready_spec.specs.Answer.{ready_cause}
+use Rattle.ready_spec.specs.Answer.{ready_answer_of, ready_cause}
 
 -- "Scheme 1: class 10 with 3 or 4 claims to 18".
 pub three_claims : (base : ℕ) → rule_at (ready_scheme 1 base) 9 3 ≡ 18
@@ -81,3 +83,11 @@ premiums_down = (refl, refl)
 -- "Tests run in number order": ready scheme 0 at a base above its limit, scheme 3 at the limit and above it.
 pub causes : (ready_cause 0 2500001 ≡ 14) × (ready_cause 3 2500000 ≡ 0) × (ready_cause 3 2500001 ≡ 15) × (ready_cause 4 0 ≡ 14)
 causes = (refl, refl, refl, refl)
+
+-- A scheme is answered as it is, and a cause with its number and no scheme.
+pub scheme_is : ready_answer_of (Ok scheme_a) ≡ record { number = 0; scheme = scheme_a }
+unfolding no_scheme
+scheme_is = refl
+
+pub none_is : ready_answer_of (Err Ready) ≡ record { number = 14; scheme = no_scheme }
+none_is = refl
