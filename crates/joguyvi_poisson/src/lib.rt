@@ -1,9 +1,10 @@
-// The bands of two claim frequencies, for C and for Rust: 0 or the cause's number, and the lent buffers filled only where it is 0.
+// The bands of two claim frequencies, for C: 0 or the cause's number, and the lent buffers filled only where it is 0.
 #![tactic(auto)]
 
 ghost use Rattle.joguyvi_spec.specs.Poisson.{PoissonCall};
 
-use scheme::or_else;
+use poisson::Bands;
+use scheme::{Cause, number_in};
 
 // The bands of two frequencies in thousandths, 0 to 1,000, the smaller first, for 2 to 8 columns, in parts, into two buffers of 8 numbers, with 0 beyond the columns.
 #[unsafe(no_mangle)]
@@ -16,15 +17,24 @@ pub extern "C" fn joguyvi_poisson(
 ) -> u8
     ensures { PoissonCall first second columns lower.old upper.old result lower.new upper.new }
 {
-    let answer = poisson::bands(first, second, columns);
-    let sizes = scheme::slices_cause(8, lower.len(), upper.len());
-    let number = or_else(answer.number, sizes);
-    if number != 0 {
-        return number;
-    }
-    let lowers = answer.lower;
-    let uppers = answer.upper;
-    joguyvi_buffers::copy_front(&lowers, lower);
-    joguyvi_buffers::copy_front(&uppers, upper);
-    0
+    number_in(put_bands(
+        poisson::bands(first, second, columns),
+        lower,
+        upper,
+    ))
+}
+
+// Puts bands into two buffers of 8 numbers.
+fn put_bands(
+    answer: Result<Bands, Cause>,
+    lower: &mut [u32],
+    upper: &mut [u32],
+) -> Result<(), Cause>
+    ensures { BuffersPost (put_bands_number (bands_answer_of answer) lower.old upper.old) (bands_answer_of answer).lower (bands_answer_of answer).upper lower.old upper.old (number_in result) lower.new upper.new }
+{
+    let bands = answer?;
+    scheme::check_slices(8, lower.len(), upper.len())?;
+    lower.copy_from_slice(&bands.lower);
+    upper.copy_from_slice(&bands.upper);
+    Ok(())
 }

@@ -1,8 +1,10 @@
-// Tight rows, rule rows and bands of a record, and its mixing check, for C and for Rust: each function answers 0 or the cause's number, and fills the lent buffers only where it answers 0.
+// Tight rows, rule rows and bands of a record, and its mixing check, for C: each function answers 0 or the cause's number, and fills the lent buffers only where it answers 0.
 #![tactic(auto)]
 
 ghost use Rattle.joguyvi_spec.specs.Rows.{BandsCall, RowCall, RuleRowCall};
 ghost use Rattle.joguyvi_spec.specs.Mixing.{MixingCall};
+
+use scheme::number_in;
 
 mod row_buffers;
 
@@ -11,12 +13,7 @@ mod row_buffers;
 pub extern "C" fn joguyvi_row(bytes: &[u8], class: u64, lower: &mut [u64], upper: &mut [u64]) -> u8
     ensures { RowCall bytes.now class lower.old upper.old result lower.new upper.new }
 {
-    let answer = record::read(bytes);
-    let number = answer.number;
-    if number != 0 {
-        return number;
-    }
-    row_buffers::put_row(rows::row(answer.scheme, class), lower, upper)
+    number_in(row_buffers::row(bytes, class, lower, upper))
 }
 
 // The rule row of a class, as the record shows it, into a buffer of as many bytes as there are columns.
@@ -24,11 +21,7 @@ pub extern "C" fn joguyvi_row(bytes: &[u8], class: u64, lower: &mut [u64], upper
 pub extern "C" fn joguyvi_rule_row(bytes: &[u8], class: u64, out: &mut [u8]) -> u8
     ensures { RuleRowCall bytes.now class out.old result out.new }
 {
-    let number = record::cause(bytes);
-    if number != 0 {
-        return number;
-    }
-    row_buffers::put_part(record_parts::rule_row(bytes, class), out)
+    number_in(row_buffers::rule_row(bytes, class, out))
 }
 
 // The bands of all columns, in parts, into two buffers of as many numbers as there are columns.
@@ -36,12 +29,7 @@ pub extern "C" fn joguyvi_rule_row(bytes: &[u8], class: u64, out: &mut [u8]) -> 
 pub extern "C" fn joguyvi_bands(bytes: &[u8], lower: &mut [u32], upper: &mut [u32]) -> u8
     ensures { BandsCall bytes.now lower.old upper.old result lower.new upper.new }
 {
-    let answer = record::read(bytes);
-    let number = answer.number;
-    if number != 0 {
-        return number;
-    }
-    row_buffers::put_bands(answer.scheme, lower, upper)
+    number_in(row_buffers::bands(bytes, lower, upper))
 }
 
 // The first count of years, 1 to 1,024, in which every class can go to every class, into a buffer of 1 number.
@@ -49,10 +37,5 @@ pub extern "C" fn joguyvi_bands(bytes: &[u8], lower: &mut [u32], upper: &mut [u3
 pub extern "C" fn joguyvi_mixing(bytes: &[u8], count: &mut [u64]) -> u8
     ensures { MixingCall bytes.now count.old result count.new }
 {
-    let answer = record::read(bytes);
-    let number = answer.number;
-    if number != 0 {
-        return number;
-    }
-    row_buffers::put_count(mixing::mixing(answer.scheme), count)
+    number_in(row_buffers::mixing(bytes, count))
 }

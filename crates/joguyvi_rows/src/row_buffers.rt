@@ -1,63 +1,88 @@
-// Rows, bands and counts put into lent buffers.
+// Rows, bands and counts of a record put into lent buffers.
 ghost use Rattle.std.specs.Prelude.{◌≤◌};
-ghost use Rattle.joguyvi_spec.specs.Rows.{BandsPost, PartPost, RowPost};
-ghost use Rattle.joguyvi_spec.specs.Mixing.{PutCountPost};
+ghost use Rattle.scheme.specs.Number.{number_in};
+ghost use Rattle.scheme.specs.RowAnswer.{row_answer_of};
+ghost use Rattle.mixing_spec.specs.MixingAnswer.{mixing_answer_of};
+ghost use Rattle.joguyvi_spec.specs.Rows.{BandsCall, BandsPost, PartPost, RowCall, RowPost, RuleRowCall};
+ghost use Rattle.joguyvi_spec.specs.Mixing.{MixingCall, PutCountPost};
 
-use mixing::MixingAnswer;
-use scheme::{RowAnswer, Scheme, or_else};
+use scheme::{Cause, Row, Scheme};
 
-// Puts a row into two buffers of 32 numbers, and answers the cause, or 0.
-pub fn put_row(answer: RowAnswer, lower: &mut [u64], upper: &mut [u64]) -> u8
-    ensures { RowPost answer lower.old upper.old result lower.new upper.new }
+// The tight row of a class of a record, in parts, into two buffers of 32 numbers.
+pub fn row(
+    bytes: &[u8],
+    class: u64,
+    lower: &mut [u64],
+    upper: &mut [u64],
+) -> Result<(), Cause>
+    ensures { RowCall bytes.now class lower.old upper.old (number_in result) lower.new upper.new }
 {
-    let sizes = scheme::slices_cause(32, lower.len(), upper.len());
-    let number = or_else(answer.number, sizes);
-    if number != 0 {
-        return number;
-    }
-    lower.copy_from_slice(&answer.lower);
-    upper.copy_from_slice(&answer.upper);
-    0
+    put_row(rows::row(record::read(bytes)?, class), lower, upper)
 }
 
-// Puts a part of a record that is shown into a buffer of as many bytes, and answers the cause, or 0; an empty part is cause 11.
-pub fn put_part(part: &[u8], out: &mut [u8]) -> u8
-    ensures { PartPost part.now out.old result out.new }
+// Puts a row into two buffers of 32 numbers.
+fn put_row(answer: Result<Row, Cause>, lower: &mut [u64], upper: &mut [u64]) -> Result<(), Cause>
+    ensures { RowPost (row_answer_of answer) lower.old upper.old (number_in result) lower.new upper.new }
+{
+    let row = answer?;
+    scheme::check_slices(32, lower.len(), upper.len())?;
+    lower.copy_from_slice(&row.lower);
+    upper.copy_from_slice(&row.upper);
+    Ok(())
+}
+
+// The rule row of a class of a record into a buffer of as many bytes as there are columns.
+pub fn rule_row(bytes: &[u8], class: u64, out: &mut [u8]) -> Result<(), Cause>
+    ensures { RuleRowCall bytes.now class out.old (number_in result) out.new }
+{
+    record::check(bytes)?;
+    put_part(record_parts::rule_row(bytes, class), out)
+}
+
+// Puts a part of a record that is shown into a buffer of as many bytes; an empty part is cause 11.
+fn put_part(part: &[u8], out: &mut [u8]) -> Result<(), Cause>
+    ensures { PartPost part.now out.old (number_in result) out.new }
 {
     if part.is_empty() {
-        return scheme::CLASS_OUT;
+        return Err(Cause::Class);
     }
-    if out.len() != part.len() {
-        return scheme::SLICE_OUT;
-    }
+    scheme::check_slice(part.len(), out.len())?;
     out.copy_from_slice(part);
-    0
+    Ok(())
 }
 
-// Puts the bands of all columns into two buffers, and answers cause 13, or 0.
-pub fn put_bands(scheme: Scheme, lower: &mut [u32], upper: &mut [u32]) -> u8
+// The bands of all columns of a record into two buffers of as many numbers as there are columns.
+pub fn bands(bytes: &[u8], lower: &mut [u32], upper: &mut [u32]) -> Result<(), Cause>
+    ensures { BandsCall bytes.now lower.old upper.old (number_in result) lower.new upper.new }
+{
+    put_bands(record::read(bytes)?, lower, upper)
+}
+
+// Puts the bands of all columns into two buffers.
+fn put_bands(scheme: Scheme, lower: &mut [u32], upper: &mut [u32]) -> Result<(), Cause>
     requires { scheme.columns ≤ 8 }
-    ensures { BandsPost scheme lower.old upper.old result lower.new upper.new }
+    ensures { BandsPost scheme lower.old upper.old (number_in result) lower.new upper.new }
 {
     let columns = usize::from(scheme.columns);
-    let number = scheme::slices_cause(columns, lower.len(), upper.len());
-    if number != 0 {
-        return number;
-    }
+    scheme::check_slices(columns, lower.len(), upper.len())?;
     lower.copy_from_slice(&scheme.lowers[..columns]);
     upper.copy_from_slice(&scheme.uppers[..columns]);
-    0
+    Ok(())
 }
 
-// Puts a count of years into a buffer of 1 number, and answers the cause, or 0.
-pub fn put_count(answer: MixingAnswer, out: &mut [u64]) -> u8
-    ensures { PutCountPost answer out.old result out.new }
+// The first count of years that mixes a record's scheme into a buffer of 1 number.
+pub fn mixing(bytes: &[u8], count: &mut [u64]) -> Result<(), Cause>
+    ensures { MixingCall bytes.now count.old (number_in result) count.new }
 {
-    let size = scheme::slice_cause(1, out.len());
-    let number = or_else(answer.number, size);
-    if number != 0 {
-        return number;
-    }
-    out[0] = answer.count;
-    0
+    put_count(mixing::mixing(record::read(bytes)?), count)
+}
+
+// Puts a count of years into a buffer of 1 number.
+fn put_count(answer: Result<u64, Cause>, out: &mut [u64]) -> Result<(), Cause>
+    ensures { PutCountPost (mixing_answer_of answer) out.old (number_in result) out.new }
+{
+    let count = answer?;
+    scheme::check_slice(1, out.len())?;
+    out[0] = count;
+    Ok(())
 }

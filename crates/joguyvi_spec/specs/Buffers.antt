@@ -1,5 +1,5 @@
 -- Lent buffers: cause 13 by their length, filled where the number is 0, and left as they were otherwise; ' marks a buffer after a call.
-use Rattle.std.specs.Prelude.{ℕ, ◌≡◌, cond, List, eqb, leb, length}
+use Rattle.std.specs.Prelude.{ℕ, ◌-◌, ◌≡◌, cond, List, ◌++◌, eqb, leb, length, take, replicate}
 use Rattle.setchain.specs.Sums.{at}
 use Rattle.scheme.specs.Tables.{tab}
 use Rattle.scheme.specs.Cause.{slice_cause, slices_cause}
@@ -7,6 +7,10 @@ use Rattle.scheme.specs.Cause.{slice_cause, slices_cause}
 -- 32 numbers of a lent payoff or book: what is missing counts as 0, and what lies beyond 32 is ignored.
 unfoldable pub first32 : List ℕ → List ℕ
 first32 numbers = tab 32 (at numbers)
+
+-- The first 32 of a list, with one value for what is missing.
+abbrev pub padded32 : {A : Type 0} → A → List A → List A
+padded32 missing l = take 32 l ++ replicate (32 - length l) missing
 
 -- Cause 13: a buffer that is not of so many numbers.
 abbrev pub buffer_cause : ℕ → List ℕ → ℕ

@@ -1,8 +1,10 @@
-// The one-year step of a class of a record, for C and for Rust: each function answers 0 or the cause's number, and fills the lent buffers only where it answers 0.
+// The one-year step of a class of a record, for C: each function answers 0 or the cause's number, and fills the lent buffers only where it answers 0.
 #![tactic(auto)]
 
 ghost use Rattle.std.specs.Prelude.{false, true};
 ghost use Rattle.joguyvi_spec.specs.Steps.{StepCall};
+
+use scheme::number_in;
 
 mod steps;
 
@@ -17,7 +19,7 @@ pub extern "C" fn joguyvi_low_step(
 ) -> u8
     ensures { StepCall false bytes.now payoff.now class figure.old row.old result figure.new row.new }
 {
-    steps::step(bytes, payoff, class, false, figure, row)
+    number_in(steps::step(bytes, payoff, class, false, figure, row))
 }
 
 // The high step of a class: its figure into a buffer of 1 number, and a row that reaches it into one of 32; the payoff is of 32 numbers.
@@ -31,5 +33,5 @@ pub extern "C" fn joguyvi_high_step(
 ) -> u8
     ensures { StepCall true bytes.now payoff.now class figure.old row.old result figure.new row.new }
 {
-    steps::step(bytes, payoff, class, true, figure, row)
+    number_in(steps::step(bytes, payoff, class, true, figure, row))
 }

@@ -1,15 +1,18 @@
-// Lent books: their counts by value, an answer over one, and the counts of a joined one put into a lent buffer.
+// Figures of a record pooled over a lent book, and two lent books joined.
 ghost use Rattle.std.specs.Prelude.{◌≡◌, []};
-ghost use Rattle.bounds_spec.specs.Pooled.{pooled_sheet_cause};
+ghost use Rattle.scheme.specs.Number.{number_in};
+ghost use Rattle.book_spec.specs.Book.{join_answer_of};
+ghost use Rattle.bounds_spec.specs.Answers.{bounds_answer_of};
+ghost use Rattle.bounds_spec.specs.Pooled.{Figure, pooled_sheet_cause};
 ghost use Rattle.joguyvi_spec.specs.Buffers.{BufferPost, first32};
-ghost use Rattle.joguyvi_spec.specs.Books.{lent_answer, put_book_number};
+ghost use Rattle.joguyvi_spec.specs.Books.{JoinCall, lent_answer, PooledCall, PooledSheetCall, put_book_number};
 
-use book::JoinAnswer;
+use crate::figures::put_bounds;
 use bounds::Bounds;
-use scheme::{Scheme, or_else, slice_cause};
+use scheme::{Cause, Scheme, check_slice};
 
 // A book of 32 counts: what is missing counts as 0, and what lies beyond 32 is ignored.
-pub fn counts_of(counts: &[u32]) -> [u32; 32]
+fn counts_of(counts: &[u32]) -> [u32; 32]
     ensures { result ≡ first32 counts.now }
 {
     let mut out = [0u32; 32];
@@ -19,40 +22,89 @@ pub fn counts_of(counts: &[u32]) -> [u32; 32]
 }
 
 // An answer over a lent book: 13 where the book is not of 32 counts, after the answer's own causes.
-pub fn lent_answer(book: &[u32], answer: Bounds) -> Bounds
-    ensures { result ≡ lent_answer book.now answer }
+fn lent_answer(book: &[u32], answer: Result<Bounds, Cause>) -> Result<Bounds, Cause>
+    ensures { bounds_answer_of result ≡ lent_answer book.now (bounds_answer_of answer) }
 {
-    match answer {
-        Bounds::Answered { low, high } => {
-            if book.len() != 32 {
-                return Bounds::Refused(scheme::SLICE_OUT);
-            }
-            Bounds::Answered { low, high }
-        }
-        Bounds::Refused(number) => Bounds::Refused(number),
-    }
+    let bounds = answer?;
+    check_slice(32, book.len())?;
+    Ok(bounds)
 }
 
-// The number for a pooled share sheet into slices that no scheme has: the sheet's own causes, or 13.
-pub fn empty_sheet(scheme: Scheme, counts: [u32; 32], year: u64) -> u8
-    ensures { result ≡ pooled_sheet_cause scheme counts year [] [] }
+// The pooled share of a class after a number of years, in parts, into a buffer of 2 numbers.
+pub fn pooled_share(
+    bytes: &[u8],
+    book: &[u32],
+    class: u64,
+    year: u64,
+    out: &mut [u64],
+) -> Result<(), Cause>
+    ensures { PooledCall (Figure.share class) bytes.now book.now year out.old (number_in result) out.new }
 {
-    let mut low: [u64; 0] = [];
-    let mut high: [u64; 0] = [];
-    bounds::pooled_share_sheet(scheme, counts, year, &mut low, &mut high)
+    let pooled = bounds::pooled_share(record::read(bytes)?, counts_of(book), class, year);
+    put_bounds(lent_answer(book, pooled), out)
 }
 
-// Puts a joined book into a buffer of 32 counts, and answers the cause, or 0; the books were lent in buffers of two lengths.
-pub fn put_book(answer: JoinAnswer, first: usize, second: usize, out: &mut [u32]) -> u8
-    ensures { BufferPost (put_book_number answer first second out.old) answer.book out.old result out.new }
+// The pooled mean premium of a year, in cents, into a buffer of 2 numbers.
+pub fn pooled_mean(bytes: &[u8], book: &[u32], year: u64, out: &mut [u64]) -> Result<(), Cause>
+    ensures { PooledCall Figure.mean bytes.now book.now year out.old (number_in result) out.new }
 {
-    let buffer = slice_cause(32, out.len());
-    let lent = scheme::slices_cause(32, first, second);
-    let sizes = or_else(lent, buffer);
-    let number = or_else(answer.number, sizes);
-    if number != 0 {
-        return number;
+    let pooled = bounds::pooled_mean(record::read(bytes)?, counts_of(book), year);
+    put_bounds(lent_answer(book, pooled), out)
+}
+
+// The pooled total of as many premiums as there are years, in cents, into a buffer of 2 numbers.
+pub fn pooled_total(bytes: &[u8], book: &[u32], year: u64, out: &mut [u64]) -> Result<(), Cause>
+    ensures { PooledCall Figure.total bytes.now book.now year out.old (number_in result) out.new }
+{
+    let pooled = bounds::pooled_total(record::read(bytes)?, counts_of(book), year);
+    put_bounds(lent_answer(book, pooled), out)
+}
+
+// The causes of a pooled share sheet into slices that no scheme has: the sheet's own, or 13.
+fn check_empty_sheet(scheme: Scheme, counts: [u32; 32], year: u64) -> Result<(), Cause>
+    ensures { number_in result ≡ pooled_sheet_cause scheme counts year [] [] }
+{
+    bounds::pooled_share_sheet(scheme, counts, year, &mut [], &mut [])
+}
+
+// The pooled shares of all classes after a number of years, in parts, into two buffers of as many numbers as there are classes.
+pub fn pooled_share_sheet(
+    bytes: &[u8],
+    book: &[u32],
+    year: u64,
+    low: &mut [u64],
+    high: &mut [u64],
+) -> Result<(), Cause>
+    ensures { PooledSheetCall bytes.now book.now year low.old high.old (number_in result) low.new high.new }
+{
+    let scheme = record::read(bytes)?;
+    let counts = counts_of(book);
+    if book.len() != 32 {
+        return check_empty_sheet(scheme, counts, year);
     }
-    out.copy_from_slice(&answer.book);
-    0
+    bounds::pooled_share_sheet(scheme, counts, year, low, high)
+}
+
+// Two books of 32 counts joined, all counts added, into a buffer of 32.
+pub fn join(first: &[u32], second: &[u32], out: &mut [u32]) -> Result<(), Cause>
+    ensures { JoinCall first.now second.now out.old (number_in result) out.new }
+{
+    let joined = book::join(counts_of(first), counts_of(second));
+    put_book(joined, first.len(), second.len(), out)
+}
+
+// Puts a joined book into a buffer of 32 counts; the books were lent in buffers of two lengths.
+fn put_book(
+    answer: Result<[u32; 32], Cause>,
+    first: usize,
+    second: usize,
+    out: &mut [u32],
+) -> Result<(), Cause>
+    ensures { BufferPost (put_book_number (join_answer_of answer) first second out.old) (join_answer_of answer).book out.old (number_in result) out.new }
+{
+    let book = answer?;
+    scheme::check_slices(32, first, second)?;
+    check_slice(32, out.len())?;
+    out.copy_from_slice(&book);
+    Ok(())
 }

@@ -1,52 +1,59 @@
-// The low and the high figure of an answer put into a lent buffer.
-ghost use Rattle.std.specs.Prelude.{◌≡◌};
-ghost use Rattle.bounds_spec.specs.Answers.{high_of, low_of, number_of};
-ghost use Rattle.joguyvi_spec.specs.Figures.{BoundsPost};
+// The low and the high figure of a record put into a lent buffer, and those of all classes into two.
+ghost use Rattle.scheme.specs.Number.{number_in};
+ghost use Rattle.bounds_spec.specs.Answers.{bounds_answer_of};
+ghost use Rattle.joguyvi_spec.specs.Figures.{BoundsPost, MeanCall, ReachedCall, ShareCall, TotalCall};
+ghost use Rattle.joguyvi_spec.specs.Shares.{ShareSheetCall};
 
 use bounds::Bounds;
+use scheme::Cause;
 
-// The cause in an answer, or 0.
-fn number_of(b: Bounds) -> u8
-    ensures { result ≡ number_of b }
+// The share of a class after a number of years, in parts, into a buffer of 2 numbers.
+pub fn share(bytes: &[u8], class: u64, year: u64, out: &mut [u64]) -> Result<(), Cause>
+    ensures { ShareCall bytes.now class year out.old (number_in result) out.new }
 {
-    match b {
-        Bounds::Answered { low, high } => 0,
-        Bounds::Refused(number) => number,
-    }
+    put_bounds(bounds::share(record::read(bytes)?, class, year), out)
 }
 
-// The low figure in an answer.
-fn low_of(b: Bounds) -> u64
-    ensures { result ≡ low_of b }
+// The chance of having reached a class by a year, in parts, into a buffer of 2 numbers.
+pub fn reached(bytes: &[u8], class: u64, year: u64, out: &mut [u64]) -> Result<(), Cause>
+    ensures { ReachedCall bytes.now class year out.old (number_in result) out.new }
 {
-    match b {
-        Bounds::Answered { low, high } => low,
-        Bounds::Refused(number) => 0,
-    }
+    put_bounds(reached::reached(record::read(bytes)?, class, year), out)
 }
 
-// The high figure in an answer.
-fn high_of(b: Bounds) -> u64
-    ensures { result ≡ high_of b }
+// The mean premium of a year, in cents, into a buffer of 2 numbers.
+pub fn mean(bytes: &[u8], year: u64, out: &mut [u64]) -> Result<(), Cause>
+    ensures { MeanCall bytes.now year out.old (number_in result) out.new }
 {
-    match b {
-        Bounds::Answered { low, high } => high,
-        Bounds::Refused(number) => 0,
-    }
+    put_bounds(bounds::mean(record::read(bytes)?, year), out)
 }
 
-// Puts low and high into a buffer of 2 numbers, and answers the cause, or 0.
-pub fn put_bounds(out: &mut [u64], b: Bounds) -> u8
-    ensures { BoundsPost b out.old result out.new }
+// The total of as many premiums as there are years, in cents, into a buffer of 2 numbers.
+pub fn total(bytes: &[u8], year: u64, out: &mut [u64]) -> Result<(), Cause>
+    ensures { TotalCall bytes.now year out.old (number_in result) out.new }
 {
-    let number = number_of(b);
-    if number != 0 {
-        return number;
-    }
-    if out.len() != 2 {
-        return scheme::SLICE_OUT;
-    }
-    out[0] = low_of(b);
-    out[1] = high_of(b);
-    0
+    put_bounds(bounds::total(record::read(bytes)?, year), out)
+}
+
+// Puts low and high into a buffer of 2 numbers.
+pub fn put_bounds(answer: Result<Bounds, Cause>, out: &mut [u64]) -> Result<(), Cause>
+    ensures { BoundsPost (bounds_answer_of answer) out.old (number_in result) out.new }
+{
+    let bounds = answer?;
+    scheme::check_slice(2, out.len())?;
+    out[0] = bounds.low;
+    out[1] = bounds.high;
+    Ok(())
+}
+
+// The shares of all classes after a number of years, in parts, into two buffers of as many numbers as there are classes.
+pub fn share_sheet(
+    bytes: &[u8],
+    year: u64,
+    low: &mut [u64],
+    high: &mut [u64],
+) -> Result<(), Cause>
+    ensures { ShareSheetCall bytes.now year low.old high.old (number_in result) low.new high.new }
+{
+    bounds::share_sheet(record::read(bytes)?, year, low, high)
 }

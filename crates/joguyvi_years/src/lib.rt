@@ -1,5 +1,5 @@
 // Shares, means, totals, share sheets, the same pooled over a book, chances of having reached a class, and whole sheets of a record,
-// for C and for Rust, and two books joined: each function answers 0 or the cause's number, and fills the lent buffers only where it answers 0.
+// for C, and two books joined: each function answers 0 or the cause's number, and fills the lent buffers only where it answers 0.
 #![tactic(auto)]
 
 ghost use Rattle.joguyvi_spec.specs.Figures.{MeanCall, ReachedCall, ShareCall, TotalCall};
@@ -8,20 +8,18 @@ ghost use Rattle.joguyvi_spec.specs.Books.{JoinCall, PooledCall, PooledSheetCall
 ghost use Rattle.joguyvi_spec.specs.Shares.{ShareSheetCall};
 ghost use Rattle.joguyvi_spec.specs.Texts.{SheetCall};
 
+use scheme::number_in;
+
 mod books;
 mod figures;
+mod texts;
 
 // The low and the high share of a class after a number of years, in parts, into a buffer of 2 numbers.
 #[unsafe(no_mangle)]
 pub extern "C" fn joguyvi_share(bytes: &[u8], class: u64, year: u64, out: &mut [u64]) -> u8
     ensures { ShareCall bytes.now class year out.old result out.new }
 {
-    let answer = record::read(bytes);
-    let number = answer.number;
-    if number != 0 {
-        return number;
-    }
-    figures::put_bounds(out, bounds::share(answer.scheme, class, year))
+    number_in(figures::share(bytes, class, year, out))
 }
 
 // The low and the high chance of having reached a class by a year, in parts, into a buffer of 2 numbers.
@@ -29,12 +27,7 @@ pub extern "C" fn joguyvi_share(bytes: &[u8], class: u64, year: u64, out: &mut [
 pub extern "C" fn joguyvi_reached(bytes: &[u8], class: u64, year: u64, out: &mut [u64]) -> u8
     ensures { ReachedCall bytes.now class year out.old result out.new }
 {
-    let answer = record::read(bytes);
-    let number = answer.number;
-    if number != 0 {
-        return number;
-    }
-    figures::put_bounds(out, reached::reached(answer.scheme, class, year))
+    number_in(figures::reached(bytes, class, year, out))
 }
 
 // The low and the high mean premium of a year, in cents, into a buffer of 2 numbers.
@@ -42,12 +35,7 @@ pub extern "C" fn joguyvi_reached(bytes: &[u8], class: u64, year: u64, out: &mut
 pub extern "C" fn joguyvi_mean(bytes: &[u8], year: u64, out: &mut [u64]) -> u8
     ensures { MeanCall bytes.now year out.old result out.new }
 {
-    let answer = record::read(bytes);
-    let number = answer.number;
-    if number != 0 {
-        return number;
-    }
-    figures::put_bounds(out, bounds::mean(answer.scheme, year))
+    number_in(figures::mean(bytes, year, out))
 }
 
 // The low and the high total of as many premiums as there are years, in cents, into a buffer of 2 numbers.
@@ -55,12 +43,7 @@ pub extern "C" fn joguyvi_mean(bytes: &[u8], year: u64, out: &mut [u64]) -> u8
 pub extern "C" fn joguyvi_total(bytes: &[u8], year: u64, out: &mut [u64]) -> u8
     ensures { TotalCall bytes.now year out.old result out.new }
 {
-    let answer = record::read(bytes);
-    let number = answer.number;
-    if number != 0 {
-        return number;
-    }
-    figures::put_bounds(out, bounds::total(answer.scheme, year))
+    number_in(figures::total(bytes, year, out))
 }
 
 // The low and the high shares of all classes after a number of years, in parts, into two buffers of as many numbers as there are classes.
@@ -73,12 +56,7 @@ pub extern "C" fn joguyvi_share_sheet(
 ) -> u8
     ensures { ShareSheetCall bytes.now year low.old high.old result low.new high.new }
 {
-    let answer = record::read(bytes);
-    let number = answer.number;
-    if number != 0 {
-        return number;
-    }
-    bounds::share_sheet(answer.scheme, year, low, high)
+    number_in(figures::share_sheet(bytes, year, low, high))
 }
 
 // The low and the high share of a class after a number of years, in parts, pooled over a book of 32 counts, into a buffer of 2 numbers.
@@ -92,14 +70,7 @@ pub extern "C" fn joguyvi_pooled_share(
 ) -> u8
     ensures { PooledCall (Figure.share class) bytes.now book.now year out.old result out.new }
 {
-    let answer = record::read(bytes);
-    let number = answer.number;
-    if number != 0 {
-        return number;
-    }
-    let counts = books::counts_of(book);
-    let pooled = bounds::pooled_share(answer.scheme, counts, class, year);
-    figures::put_bounds(out, books::lent_answer(book, pooled))
+    number_in(books::pooled_share(bytes, book, class, year, out))
 }
 
 // The low and the high mean premium of a year, in cents, pooled over a book of 32 counts, into a buffer of 2 numbers.
@@ -107,14 +78,7 @@ pub extern "C" fn joguyvi_pooled_share(
 pub extern "C" fn joguyvi_pooled_mean(bytes: &[u8], book: &[u32], year: u64, out: &mut [u64]) -> u8
     ensures { PooledCall Figure.mean bytes.now book.now year out.old result out.new }
 {
-    let answer = record::read(bytes);
-    let number = answer.number;
-    if number != 0 {
-        return number;
-    }
-    let counts = books::counts_of(book);
-    let pooled = bounds::pooled_mean(answer.scheme, counts, year);
-    figures::put_bounds(out, books::lent_answer(book, pooled))
+    number_in(books::pooled_mean(bytes, book, year, out))
 }
 
 // The low and the high total of as many premiums as there are years, in cents, pooled over a book of 32 counts, into a buffer of 2 numbers.
@@ -122,14 +86,7 @@ pub extern "C" fn joguyvi_pooled_mean(bytes: &[u8], book: &[u32], year: u64, out
 pub extern "C" fn joguyvi_pooled_total(bytes: &[u8], book: &[u32], year: u64, out: &mut [u64]) -> u8
     ensures { PooledCall Figure.total bytes.now book.now year out.old result out.new }
 {
-    let answer = record::read(bytes);
-    let number = answer.number;
-    if number != 0 {
-        return number;
-    }
-    let counts = books::counts_of(book);
-    let pooled = bounds::pooled_total(answer.scheme, counts, year);
-    figures::put_bounds(out, books::lent_answer(book, pooled))
+    number_in(books::pooled_total(bytes, book, year, out))
 }
 
 // The low and the high shares of all classes after a number of years, in parts, pooled over a book of 32 counts,
@@ -144,16 +101,7 @@ pub extern "C" fn joguyvi_pooled_share_sheet(
 ) -> u8
     ensures { PooledSheetCall bytes.now book.now year low.old high.old result low.new high.new }
 {
-    let answer = record::read(bytes);
-    let number = answer.number;
-    if number != 0 {
-        return number;
-    }
-    let counts = books::counts_of(book);
-    if book.len() != 32 {
-        return books::empty_sheet(answer.scheme, counts, year);
-    }
-    bounds::pooled_share_sheet(answer.scheme, counts, year, low, high)
+    number_in(books::pooled_share_sheet(bytes, book, year, low, high))
 }
 
 // Two books of 32 counts joined, all counts added, into a buffer of 32.
@@ -161,10 +109,7 @@ pub extern "C" fn joguyvi_pooled_share_sheet(
 pub extern "C" fn joguyvi_join(first: &[u32], second: &[u32], out: &mut [u32]) -> u8
     ensures { JoinCall first.now second.now out.old result out.new }
 {
-    let one = books::counts_of(first);
-    let other = books::counts_of(second);
-    let joined = book::join(one, other);
-    books::put_book(joined, first.len(), second.len(), out)
+    number_in(books::join(first, second, out))
 }
 
 // The sheet's text of any bytes, REFUSED line and all, and its length into a buffer of 1 number.
@@ -172,14 +117,5 @@ pub extern "C" fn joguyvi_join(first: &[u32], second: &[u32], out: &mut [u32]) -
 pub extern "C" fn joguyvi_sheet(bytes: &[u8], out: &mut [u8], length: &mut [u64]) -> u8
     ensures { SheetCall bytes.now out.old length.old result out.new length.new }
 {
-    if length.len() != 1 {
-        return scheme::SLICE_OUT;
-    }
-    let answer = sheet_text::sheet(bytes, out);
-    let number = record_write::write_number(answer);
-    if number != 0 {
-        return number;
-    }
-    length[0] = record_write::written_length(answer);
-    0
+    number_in(texts::sheet(bytes, out, length))
 }

@@ -1,14 +1,16 @@
 -- Buffers of the size asked for and of another, and buffers that are left as they were.
 -- Assumes nothing.
-use Rattle.std.specs.Prelude.{ℕ, ◌≤◌, ◌<◌, ◌≡◌, refl, cond, List, [], ◌∷◌, length, set}
-use Rattle.std.proofs.Common.{ap, sym, ◌∙◌, arith, eq-eqb, ne_eqb, le-leb}
-use Rattle.std.proofs.Math.Decide.{ℕ_discrete}
+use Rattle.std.specs.Prelude.{ℕ, ◌+◌, ◌-◌, ◌≤◌, ◌<◌, ◌≡◌, refl, cond, List, [], ◌∷◌, length, set, get_or, take, replicate}
+use Rattle.std.proofs.Common.{ap, sym, ◌∙◌, arith, eq-eqb, ne_eqb, le-leb, get_or-append-add}
+use Rattle.std.proofs.Math.Decide.{ℕ_discrete, dec_lt}
 use Rattle.std.proofs.lemmas.Bool.{lt-leb}
+use Rattle.std.proofs.Math.ListN.{length-append, get_or-append, get_or-eq_default}
+use Rattle.std.proofs.lemmas.List.{length-take, length-replicate, get_or-take, get_or-replicate}
 use Rattle.setchain.specs.Sums.{at}
 use Rattle.scheme.specs.Tables.{tab}
 use Rattle.scheme.proofs.Laws.Tab.{as_tab}
 use Rattle.scheme.proofs.Laws.FirstCause.{declined, first_none, second_none}
-use Rattle.joguyvi_spec.specs.Buffers.{buffer_cause, buffers_cause, filled_where, copied_front}
+use Rattle.joguyvi_spec.specs.Buffers.{buffer_cause, buffers_cause, filled_where, copied_front, first32, padded32}
 
 -- A buffer of another length, and one that fits.
 pub buffer_out : (size : ℕ) (out : List ℕ) → (length out ≡ size → ⊥) → buffer_cause size out ≡ 13
@@ -53,3 +55,21 @@ pub one : (size : List ℕ) (v : ℕ) → length size ≡ 1 → set size 0 v ≡
 one [] v e = absurd (omega arith)
 one (x ∷ []) v e = refl
 one (x ∷ y ∷ l) v e = absurd (omega arith)
+
+-- The first 32 of a list, with 0 for what is missing, are its first 32 numbers.
+module _ (l : List ℕ) where
+  padded_size : length (padded32 0 l) ≡ 32
+  padded_size = omega (arith, length-append (take 32 l) (replicate (32 - length l) 0), length-take 32 l, length-replicate {A = ℕ} (32 - length l) 0)
+
+  padded_entry : (k : ℕ) → Dec (k < length (take 32 l)) → k < 32 → get_or (padded32 0 l) k 0 ≡ at l k
+  padded_entry k (yes h) lt = get_or-append (take 32 l) (replicate (32 - length l) 0) 0 k h ∙ get_or-take 32 l k 0 lt
+  padded_entry k (no h) lt =
+      let place : k ≡ length (take 32 l) + (k - length (take 32 l)) = omega arith in
+      ap (λ j. get_or (padded32 0 l) j 0) place
+      ∙ get_or-append-add (take 32 l) (replicate (32 - length l) 0) (k - length (take 32 l)) 0
+      ∙ get_or-replicate (32 - length l) (k - length (take 32 l)) 0 0 (omega (arith, length-take 32 l))
+      ∙ sym (get_or-eq_default l 0 {n = k} (omega (arith, length-take 32 l)))
+
+  pub padded_first : padded32 0 l ≡ first32 l
+  unfolding first32
+  padded_first = as_tab 0 (padded32 0 l) 32 (at l) padded_size (λ k lt. padded_entry k (dec_lt k (length (take 32 l))) lt)

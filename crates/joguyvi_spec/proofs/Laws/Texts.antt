@@ -1,7 +1,7 @@
 -- Texts and records put into a lent buffer, with their length in a buffer of 1 number, by cases.
 -- Assumes nothing.
 use Rattle.std.specs.Prelude.{ℕ, ◌≡◌, List, [], ◌∷◌, length, set}
-use Rattle.std.proofs.Common.{ap, sym, ◌∙◌}
+use Rattle.std.proofs.Common.{ap, sym, ◌∙◌, subst}
 use Rattle.std.proofs.Math.Decide.{ℕ_discrete}
 use Rattle.scheme.specs.FirstCause.{or_else}
 use Rattle.joguyvi_spec.specs.Buffers.{buffer_cause, BuffersPost}
@@ -25,6 +25,14 @@ module _ {n v : ℕ} {full out size : List ℕ} (only : (n ≡ 0 → ⊥) → n 
         filled = unfilled full out thirteen;
         other_filled = unfilled (v ∷ []) size thirteen;
       }
+
+  -- The same where the number is that of the buffer's test.
+  pub text_slice : {m : ℕ} → m ≡ buffer_cause 1 size → (m ≡ 0 → ⊥) → TextPost n v full out size m out size
+  text_slice {m} e some = by (ℕ_discrete (length size) 1)
+    where
+      by : Dec (length size ≡ 1) → TextPost n v full out size m out size
+      by (yes z) = absurd (some (e ∙ buffer_fits 1 size z))
+      by (no h) = subst (λ k. TextPost n v full out size k out size) (sym (e ∙ buffer_out 1 size h)) (text_out h)
 
   pub text_declined : {m : ℕ} {out' : List ℕ} → m ≡ n → (m ≡ 0 → ⊥) → out' ≡ full → TextPost n v full out size m out' size
   text_declined e some f =
