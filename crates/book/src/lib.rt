@@ -38,6 +38,7 @@ pub fn join(first: [u32; 32], second: [u32; 32]) -> Result<[u32; 32], Cause>
     ensures { join_answer_of result ≡ join_answer first second }
 {
     let mut book = [0u32; 32];
+    // By place: a loop over a zip with `iter_mut` was tried, and leaves no fact about the elements that it lent.
     for i in 0..book.len() {
         let chambers = u64::from(first[i]) + u64::from(second[i]);
         if book_spec::MOST_COUNT < chambers {

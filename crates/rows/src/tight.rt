@@ -31,6 +31,7 @@ fn tighten(lower: &mut [u64], upper: &mut [u64])
 {
     let lower_sum = total(lower);
     let upper_sum = total(upper);
+    // By place: a loop over a zip with `iter_mut` was tried, and leaves no fact about the elements that it lent.
     for j in 0..lower.len() {
         let least = lower[j];
         let most = upper[j];
