@@ -1,9 +1,8 @@
 // The interval rows of document 01, and the tight rows of document 02, item 2.
 #![tactic(auto)]
 
-ghost use Rattle.std.specs.Prelude.{◌≡◌, min, ◌+◌, ◌-◌, ◌≤◌, length, replicate};
+ghost use Rattle.std.specs.Prelude.{◌≡◌, length};
 ghost use Rattle.scheme.specs.RowAnswer.{row_answer_of, interval_answer, row_answer};
-ghost use Rattle.setchain.specs.Rows.{ONE};
 ghost use Rattle.rows.specs.Rows.{copied_into};
 ghost use Rattle.scheme.specs.Tables.{tab};
 ghost use Rattle.scheme.specs.SumByTarget.{sum_by_target, added_to_target, slack_of, Capped};

@@ -16,6 +16,11 @@ returns c =
     let lowers = c.args.lowers.now in
     let uppers = c.args.uppers.now in
     let bad : ℕ × ℕ → Bool = λ p. band_test p.0 p.1 in
-    any_from_yields_List bad c.any.new.self _ _ c.any.ensures.ran (YieldsList-from_take c.args.columns (YieldsList-at c.take.ensures.source (YieldsList-from_zip (YieldsList-at c.zip.ensures.first (YieldsList-from_slice lowers (search rules))) (YieldsList-from_slice uppers (search rules)))) (search rules)) (λ x b q k. search (rules, tests))
+    any_from_yields_List bad c.any.new.self _ _ c.any.ensures.ran
+    (YieldsList-from_take c.args.columns
+    (YieldsList-at c.take.ensures.source
+    (YieldsList-from_zip (YieldsList-at c.zip.ensures.first (YieldsList-from_slice lowers (search rules))) (YieldsList-from_slice uppers (search rules))))
+    (search rules))
+    (λ x b q k. search (rules, tests))
     ∙ any_front bad (0, 0) (zip lowers uppers) c.args.columns (omega (arith, c.requires.0, c.requires.1, length-zip lowers uppers))
     ∙ any_eq refl _ _ (λ k l. ap bad (get_or-zip lowers uppers k (0, 0) (omega (arith, c.requires.0)) (omega (arith, c.requires.1))))
