@@ -7,3 +7,4 @@ pub mod StateLaws
 pub mod StateExamples
 pub mod Examples
 pub mod Laws
+pub mod SortedLaws
