@@ -22,7 +22,7 @@ returns c =
     let lowers : length c.args.scheme.lowers ≡ 8 = search rules in
     let uppers : length c.args.scheme.uppers ≡ 8 = search rules in
     record {
-      answer = sym c.if-number-ne0.false ∙ rw c.from-columns.ensures at c.slices_cause-number.ensures;
+      answer = rw c.from-columns.ensures at c.in_ok-check_slices.ensures;
       filled = ends c.args.scheme.lowers c.from-columns.ensures (omega arith) c.copy_from_slice.ensures.after;
       other_filled = ends c.args.scheme.uppers c.from-columns.ensures (omega arith) c.copy_from_slice-2.ensures.after;
     }
