@@ -8,19 +8,24 @@ use mir.Syntax.{w64}
 use mir.Val.{Fits}
 use native.Mathlib.Omega.{arith}
 use lib.ListN.{length, set}
+use Rattle.std.specs.Prelude.{Result, IsErr, IsErrAnd}
 use Rattle.setchain.specs.Sums.{at}
 use Rattle.setchain.specs.Years.{CENT}
 use Rattle.setchain.specs.Pooled.{pooled_figure}
 use Rattle.setchain.proofs.Laws.Pooled.{pooled_agree}
 use Rattle.scheme.specs.declared.Scheme.{Scheme}
 use Rattle.scheme.specs.Accepted.{Accepted}
+use Rattle.scheme.specs.declared.Cause.{Cause}
 use Rattle.scheme.specs.FirstCause.{or_else}
-use Rattle.scheme.proofs.Laws.FirstCause.{first_none, second_none}
+use Rattle.scheme.specs.Number.{cause_number}
+use Rattle.scheme.proofs.Laws.FirstCause.{first_none, second_none, first_cause}
+use Rattle.scheme.proofs.Laws.Number.{cause_some}
 use Rattle.scheme.proofs.Laws.Tab.{as_tab}
 use Rattle.order.proofs.Laws.Written.{Written, written_more}
 use Rattle.book_spec.specs.Book.{book_cause}
 use Rattle.book_spec.proofs.Laws.{Pooled, pooled_book}
-use Rattle.bounds_spec.specs.Answers.{BoundsAnswer, answer_by}
+use Rattle.bounds_spec.specs.declared.Bounds.{Bounds}
+use Rattle.bounds_spec.specs.Answers.{BoundsAnswer, bounds_answer_of, answer_by}
 use Rattle.bounds_spec.specs.Causes.{share_cause, money_cause}
 use Rattle.bounds_spec.specs.Pooled.{Figure, pooled, figure_cause, pooled_cause, pooled_answer, pooled_lengths_cause, pooled_sheet_cause, pooled_shares, PooledPromise, PooledSheetPromise}
 use Rattle.bounds_spec.proofs.Laws.Pooled.{pooled_kept, pooled_sheet_kept, sheet_money, sheet_counts, sheet_slices_lem}
@@ -30,7 +35,7 @@ use Rattle.bounds.specs.Pooled.{PoolPre, PooledPre, pooled_years, WritePooledPre
 use Rattle.bounds.proofs.FrontLaws.{zeros}
 use Rattle.bounds.proofs.SeriesLaws.{class_figures_small}
 use Rattle.bounds.proofs.PayoffsLaws.{pooled_share_is, pooled_state_is, pooled_mean_is, pooled_total_is}
-use Rattle.bounds.proofs.StartBoundsLaws.{answer_same, with_promise, share_accepted, class_inside, share_ready, money_accepted, mean_ready, total_ready}
+use Rattle.bounds.proofs.StartBoundsLaws.{answer_same, refused, with_promise, share_accepted, class_inside, share_ready, money_accepted, mean_ready, total_ready}
 use Rattle.bounds.proofs.SheetLaws.{share_ready as state-ready}
 use Rattle.bounds.proofs.SlicesLaws.{slices_ready, SlicesLeft, slices_declined, slices_written}
 
@@ -64,6 +69,13 @@ module _ (s : Scheme) (book : List ℕ) (figure : Figure) (year : ℕ) {own n : 
   pooled_answer_lem lows highs b =
       with_promise (PooledPromise s book figure year) (pooled_kept s book figure year)
       (b ∙ answer_same is (λ z. lows (own_none z)) (λ z. highs (own_none z)))
+
+-- A pooled call to which `?` passed the cause of its figure on answers by that cause.
+pub pooled_refused : (s : Scheme) (book : List ℕ) (figure : Figure) (year : ℕ) (r : Result Bounds Cause) (cause : Cause)
+    → IsErr r × IsErrAnd r (λ e. e ≡ cause) → cause_number cause ≡ figure_cause s figure year → bounds_answer_of r ≡ pooled_answer s book figure year
+unfolding pooled_answer
+pooled_refused s book figure year r cause passed same =
+    refused r cause _ _ passed (same ∙ sym (first_cause (figure_cause s figure year) (book_cause s.classes book) (λ z. cause_some cause (same ∙ z))))
 
 -- The pooled share of a class.
 module _ (s : Scheme) (book : List ℕ) (class year : ℕ) {own n : ℕ} (e : own ≡ share_cause s class year) (c : n ≡ or_else own (book_cause s.classes book))

@@ -9,16 +9,21 @@ use mir.Val.{Fits}
 use native.Mathlib.Omega.{arith}
 use lib.Dec.{ltb}
 use borrow.Author.Tests.{ltb-false}
+use Rattle.std.specs.Prelude.{Result, IsErr, IsErrAnd}
 use Rattle.setchain.specs.Years.{share_figure}
+use Rattle.scheme.specs.declared.Cause.{Cause}
 use Rattle.scheme.specs.declared.Scheme.{Scheme}
 use Rattle.scheme.specs.Accepted.{Accepted}
 use Rattle.scheme.specs.FirstCause.{or_else}
+use Rattle.scheme.specs.Number.{cause_number}
 use Rattle.scheme.specs.Cause.{outside, cause_of, class_cause, year_cause}
 use Rattle.scheme.specs.Rows.{chain_of}
-use Rattle.scheme.proofs.Laws.FirstCause.{first_none, second_none, test_none, by_cause}
+use Rattle.scheme.proofs.Laws.FirstCause.{first_none, second_none, test_none, by_cause, declined}
 use Rattle.scheme.proofs.Laws.Cause.{outside_false}
 use Rattle.scheme.proofs.Laws.Judged.{accepted_cause}
-use Rattle.bounds_spec.specs.Answers.{BoundsAnswer, Answered, Refused, answer_by, start_of, share_answer, mean_answer, total_answer}
+use Rattle.scheme.proofs.Laws.Number.{cause_some, passed_whole}
+use Rattle.bounds_spec.specs.declared.Bounds.{Bounds}
+use Rattle.bounds_spec.specs.Answers.{BoundsAnswer, Answered, Refused, bounds_answer_of, answer_by, start_of, share_answer, mean_answer, total_answer}
 use Rattle.bounds_spec.specs.Promises.{SharePromise, MeanPromise, TotalPromise}
 use Rattle.bounds_spec.proofs.Laws.Kept.{share_kept, mean_kept, total_kept}
 use Rattle.bounds.specs.Series.{SharePayoffPost, start_figure, SeriesPre}
@@ -31,6 +36,13 @@ use Rattle.bounds_spec.specs.Causes.{share_cause, money_cause}
 -- Answers with the same cause are the same, where their figures are.
 pub answer_same : {n m low high low' high' : ℕ} → n ≡ m → (n ≡ 0 → low ≡ low') → (n ≡ 0 → high ≡ high') → answer_by n low high ≡ answer_by m low' high'
 answer_same e p q = by_cause e (λ z. ap₂ Answered (p z) (q z)) (ap Refused e)
+
+-- A call to which `?` passed a cause on answers by that cause.
+pub refused : (r : Result Bounds Cause) (cause : Cause) {n : ℕ} (low high : ℕ) → IsErr r × IsErrAnd r (λ e. e ≡ cause) → cause_number cause ≡ n
+    → bounds_answer_of r ≡ answer_by n low high
+refused r cause {n} low high passed same =
+    ap bounds_answer_of (passed_whole r cause passed) ∙ ap Refused same
+    ∙ sym (declined n (Answered low high) (Refused n) (λ z. cause_some cause (same ∙ z)))
 
 -- An answer keeps the promise that the definition's answer keeps.
 pub with_promise : (P : BoundsAnswer → Type 0) {a r : BoundsAnswer} → P a → r ≡ a → (r ≡ a) × P r

@@ -2,14 +2,15 @@
 #![tactic(auto)]
 
 ghost use Rattle.std.specs.Prelude.{◌≡◌, false, true};
-ghost use Rattle.bounds_spec.specs.Answers.{high_shares, low_shares, mean_answer, share_answer, sheet_cause, sheet_slice, total_answer};
+ghost use Rattle.scheme.specs.Number.{number_in};
+ghost use Rattle.bounds_spec.specs.Answers.{bounds_answer_of, high_shares, low_shares, mean_answer, share_answer, sheet_cause, sheet_slice, total_answer};
 ghost use Rattle.bounds_spec.specs.Table.{high_table, low_table, table_cause};
 ghost use Rattle.bounds_spec.specs.Pooled.{Figure, PooledPromise, PooledSheetPromise, pooled_answer, pooled_sheet_cause, pooled_shares};
 ghost use Rattle.bounds_spec.specs.Promises.{FiguresPromise, MeanPromise, SharePromise, SheetPromise, TotalPromise};
 ghost use Rattle.bounds_spec.specs.Causes.{table_size};
 
 pub use bounds_spec::Bounds;
-use scheme::Scheme;
+use scheme::{Cause, Scheme};
 
 mod causes;
 mod entries;
@@ -23,116 +24,115 @@ mod year;
 mod years;
 
 // The share of a class after a number of years, in parts.
-pub fn share(scheme: Scheme, class: u64, year: u64) -> Bounds
-    ensures answer { result ≡ share_answer scheme class year }
-    ensures promise { SharePromise scheme class year result }
+pub fn share(scheme: Scheme, class: u64, year: u64) -> Result<Bounds, Cause>
+    ensures answer { bounds_answer_of result ≡ share_answer scheme class year }
+    ensures promise { SharePromise scheme class year (bounds_answer_of result) }
 {
-    let cause = causes::share_cause(scheme, class, year);
+    causes::check_share(scheme, class, year)?;
     let payoff = payoffs::share_payoff(class);
     let gain = [0u64; 32];
-    series::start_bounds(cause, scheme, gain, payoff, year)
+    Ok(series::start_bounds(scheme, gain, payoff, year))
 }
 
 // The mean premium of a year, in cents.
-pub fn mean(scheme: Scheme, year: u64) -> Bounds
-    ensures answer { result ≡ mean_answer scheme year }
-    ensures promise { MeanPromise scheme year result }
+pub fn mean(scheme: Scheme, year: u64) -> Result<Bounds, Cause>
+    ensures answer { bounds_answer_of result ≡ mean_answer scheme year }
+    ensures promise { MeanPromise scheme year (bounds_answer_of result) }
 {
-    let cause = causes::money_cause(scheme, year);
+    causes::check_money(scheme, year)?;
     let premiums = scheme.premiums;
     let payoff = money::in_tenths(premiums);
     let gain = [0u64; 32];
-    let tenths = series::start_bounds(cause, scheme, gain, payoff, year);
-    money::in_cents(tenths)
+    let tenths = series::start_bounds(scheme, gain, payoff, year);
+    Ok(money::in_cents(tenths))
 }
 
 // The total of as many premiums as there are years, in cents.
-pub fn total(scheme: Scheme, year: u64) -> Bounds
-    ensures answer { result ≡ total_answer scheme year }
-    ensures promise { TotalPromise scheme year result }
+pub fn total(scheme: Scheme, year: u64) -> Result<Bounds, Cause>
+    ensures answer { bounds_answer_of result ≡ total_answer scheme year }
+    ensures promise { TotalPromise scheme year (bounds_answer_of result) }
 {
-    let cause = causes::money_cause(scheme, year);
+    causes::check_money(scheme, year)?;
     let premiums = scheme.premiums;
     let gain = money::in_tenths(premiums);
     let payoff = [0u64; 32];
-    let tenths = series::start_bounds(cause, scheme, gain, payoff, year);
-    money::in_cents(tenths)
+    let tenths = series::start_bounds(scheme, gain, payoff, year);
+    Ok(money::in_cents(tenths))
 }
 
-// A year's share sheet: the low and the high share of each class, in parts. Returns the number of the cause, or 0.
-pub fn share_sheet(scheme: Scheme, year: u64, low: &mut [u64], high: &mut [u64]) -> u8
-    ensures answer { result ≡ sheet_cause scheme year low.old high.old }
-    ensures lows { low.new ≡ sheet_slice result (low_shares scheme year) low.old }
-    ensures highs { high.new ≡ sheet_slice result (high_shares scheme year) high.old }
-    ensures promise { SheetPromise scheme year result low.new high.new }
+// A year's share sheet: the low and the high share of each class, in parts.
+pub fn share_sheet(
+    scheme: Scheme,
+    year: u64,
+    low: &mut [u64],
+    high: &mut [u64],
+) -> Result<(), Cause>
+    ensures answer { number_in result ≡ sheet_cause scheme year low.old high.old }
+    ensures lows { low.new ≡ sheet_slice (number_in result) (low_shares scheme year) low.old }
+    ensures highs { high.new ≡ sheet_slice (number_in result) (high_shares scheme year) high.old }
+    ensures promise { SheetPromise scheme year (number_in result) low.new high.new }
 {
-    let cause = causes::sheet_cause(scheme, year, low.len(), high.len());
-    if cause != 0 {
-        return cause;
-    }
+    causes::check_sheet(scheme, year, low.len(), high.len())?;
     sheet::write_shares(scheme, year, false, low);
     sheet::write_shares(scheme, year, true, high);
-    0
+    Ok(())
 }
 
 // The share of a class after a number of years, in parts, pooled over a book.
-pub fn pooled_share(scheme: Scheme, book: [u32; 32], class: u64, year: u64) -> Bounds
-    ensures answer { result ≡ pooled_answer scheme book (Figure.share class) year }
-    ensures promise { PooledPromise scheme book (Figure.share class) year result }
+pub fn pooled_share(scheme: Scheme, book: [u32; 32], class: u64, year: u64) -> Result<Bounds, Cause>
+    ensures answer { bounds_answer_of result ≡ pooled_answer scheme book (Figure.share class) year }
+    ensures promise { PooledPromise scheme book (Figure.share class) year (bounds_answer_of result) }
 {
-    let own = causes::share_cause(scheme, class, year);
-    let cause = causes::pooled_cause(own, book, scheme.classes);
+    causes::check_share(scheme, class, year)?;
+    book::check(book, scheme.classes)?;
     let payoff = payoffs::share_payoff(class);
     let gain = [0u64; 32];
-    pooled::pooled_bounds(cause, scheme, book, 1, gain, payoff, year)
+    Ok(pooled::pooled_bounds(scheme, book, 1, gain, payoff, year))
 }
 
 // The mean premium of a year, in cents, pooled over a book.
-pub fn pooled_mean(scheme: Scheme, book: [u32; 32], year: u64) -> Bounds
-    ensures answer { result ≡ pooled_answer scheme book Figure.mean year }
-    ensures promise { PooledPromise scheme book Figure.mean year result }
+pub fn pooled_mean(scheme: Scheme, book: [u32; 32], year: u64) -> Result<Bounds, Cause>
+    ensures answer { bounds_answer_of result ≡ pooled_answer scheme book Figure.mean year }
+    ensures promise { PooledPromise scheme book Figure.mean year (bounds_answer_of result) }
 {
-    let own = causes::money_cause(scheme, year);
-    let cause = causes::pooled_cause(own, book, scheme.classes);
+    causes::check_money(scheme, year)?;
+    book::check(book, scheme.classes)?;
     let premiums = scheme.premiums;
     let payoff = money::in_tenths(premiums);
     let gain = [0u64; 32];
-    pooled::pooled_bounds(cause, scheme, book, setchain::CENT, gain, payoff, year)
+    Ok(pooled::pooled_bounds(scheme, book, setchain::CENT, gain, payoff, year))
 }
 
 // The total of as many premiums as there are years, in cents, pooled over a book.
-pub fn pooled_total(scheme: Scheme, book: [u32; 32], year: u64) -> Bounds
-    ensures answer { result ≡ pooled_answer scheme book Figure.total year }
-    ensures promise { PooledPromise scheme book Figure.total year result }
+pub fn pooled_total(scheme: Scheme, book: [u32; 32], year: u64) -> Result<Bounds, Cause>
+    ensures answer { bounds_answer_of result ≡ pooled_answer scheme book Figure.total year }
+    ensures promise { PooledPromise scheme book Figure.total year (bounds_answer_of result) }
 {
-    let own = causes::money_cause(scheme, year);
-    let cause = causes::pooled_cause(own, book, scheme.classes);
+    causes::check_money(scheme, year)?;
+    book::check(book, scheme.classes)?;
     let premiums = scheme.premiums;
     let gain = money::in_tenths(premiums);
     let payoff = [0u64; 32];
-    pooled::pooled_bounds(cause, scheme, book, setchain::CENT, gain, payoff, year)
+    Ok(pooled::pooled_bounds(scheme, book, setchain::CENT, gain, payoff, year))
 }
 
-// A year's share sheet pooled over a book: the low and the high share of each class, in parts. Returns the number of the cause, or 0.
+// A year's share sheet pooled over a book: the low and the high share of each class, in parts.
 pub fn pooled_share_sheet(
     scheme: Scheme,
     book: [u32; 32],
     year: u64,
     low: &mut [u64],
     high: &mut [u64],
-) -> u8
-    ensures answer { result ≡ pooled_sheet_cause scheme book year low.old high.old }
-    ensures lows { low.new ≡ sheet_slice result (pooled_shares false scheme book year) low.old }
-    ensures highs { high.new ≡ sheet_slice result (pooled_shares true scheme book year) high.old }
-    ensures promise { PooledSheetPromise scheme book year result low.new high.new }
+) -> Result<(), Cause>
+    ensures answer { number_in result ≡ pooled_sheet_cause scheme book year low.old high.old }
+    ensures lows { low.new ≡ sheet_slice (number_in result) (pooled_shares false scheme book year) low.old }
+    ensures highs { high.new ≡ sheet_slice (number_in result) (pooled_shares true scheme book year) high.old }
+    ensures promise { PooledSheetPromise scheme book year (number_in result) low.new high.new }
 {
-    let cause = causes::pooled_sheet_cause(scheme, book, year, low.len(), high.len());
-    if cause != 0 {
-        return cause;
-    }
+    causes::check_pooled_sheet(scheme, book, year, low.len(), high.len())?;
     pooled::write_pooled(scheme, book, year, false, low);
     pooled::write_pooled(scheme, book, year, true, high);
-    0
+    Ok(())
 }
 
 // How many numbers all figures of a sheet are.
@@ -145,18 +145,14 @@ pub fn table_size(scheme: Scheme) -> usize
 }
 
 // All figures of a sheet, low and high: for each year to the horizon the share of each class and the mean premium, last the horizon's total.
-// Returns the number of the cause, or 0.
-pub fn figures(scheme: Scheme, low: &mut [u64], high: &mut [u64]) -> u8
-    ensures answer { result ≡ table_cause scheme low.old high.old }
-    ensures lows { low.new ≡ sheet_slice result (low_table scheme) low.old }
-    ensures highs { high.new ≡ sheet_slice result (high_table scheme) high.old }
-    ensures promise { FiguresPromise scheme result low.new high.new }
+pub fn figures(scheme: Scheme, low: &mut [u64], high: &mut [u64]) -> Result<(), Cause>
+    ensures answer { number_in result ≡ table_cause scheme low.old high.old }
+    ensures lows { low.new ≡ sheet_slice (number_in result) (low_table scheme) low.old }
+    ensures highs { high.new ≡ sheet_slice (number_in result) (high_table scheme) high.old }
+    ensures promise { FiguresPromise scheme (number_in result) low.new high.new }
 {
-    let cause = causes::table_cause(scheme, low.len(), high.len());
-    if cause != 0 {
-        return cause;
-    }
+    causes::check_table(scheme, low.len(), high.len())?;
     table::write_table(scheme, false, low);
     table::write_table(scheme, true, high);
-    0
+    Ok(())
 }

@@ -1,6 +1,8 @@
 // Money is carried in tenths of a cent and answered in cents (document 02, item 6).
-ghost use Rattle.std.specs.Prelude.{◌≡◌};
-ghost use Rattle.bounds.specs.Money.{RoundMeansPost, RoundMeansPre, TenthsPost, in_cents};
+ghost use Rattle.std.specs.Prelude.{◌≡◌, false, true};
+ghost use Rattle.setchain.specs.Rounding.{rounded};
+ghost use Rattle.setchain.specs.Years.{CENT};
+ghost use Rattle.bounds.specs.Money.{RoundMeansPost, RoundMeansPre, TenthsPost};
 
 use crate::Bounds;
 
@@ -13,18 +15,12 @@ pub fn in_tenths(premiums: [u32; 32]) -> [u64; 32]
 
 // Low and high in tenths as low and high in cents, rounded outward.
 pub fn in_cents(tenths: Bounds) -> Bounds
-    ensures { result ≡ in_cents tenths }
+    ensures low { result.low ≡ rounded false CENT tenths.low }
+    ensures high { result.high ≡ rounded true CENT tenths.high }
 {
-    match tenths {
-        Bounds::Answered { low, high } => {
-            let least = rounding::round(low, setchain::CENT, false);
-            let most = rounding::round(high, setchain::CENT, true);
-            Bounds::Answered {
-                low: least,
-                high: most,
-            }
-        }
-        Bounds::Refused(number) => Bounds::Refused(number),
+    Bounds {
+        low: rounding::round(tenths.low, setchain::CENT, false),
+        high: rounding::round(tenths.high, setchain::CENT, true),
     }
 }
 

@@ -3,7 +3,6 @@ ghost use Rattle.std.specs.Prelude.{◌≡◌, false, true};
 ghost use Rattle.setchain.specs.Sums.{at};
 ghost use Rattle.setchain.specs.Pooled.{pooled_figure};
 ghost use Rattle.scheme.specs.Rows.{chain_of};
-ghost use Rattle.bounds_spec.specs.Answers.{answer_by};
 ghost use Rattle.bounds_spec.specs.Pooled.{pooled_shares};
 ghost use Rattle.bounds.specs.Entries.{ListRowsPost};
 ghost use Rattle.bounds.specs.Pooled.{PoolPre, PooledPre, WritePooledPre, pooled_years};
@@ -49,9 +48,8 @@ fn pooled_figure(
     pool(book, figures, scheme.classes, units, high)
 }
 
-// Both pooled figures where there is no cause: low and high run on their own.
+// Both pooled figures: low and high run on their own.
 pub fn pooled_bounds(
-    cause: u8,
     scheme: Scheme,
     book: [u32; 32],
     units: u64,
@@ -59,12 +57,10 @@ pub fn pooled_bounds(
     payoff: [u64; 32],
     t: u64,
 ) -> Bounds
-    requires { cause ≡ 0 → PooledPre scheme book units gain payoff t }
-    ensures { result ≡ answer_by cause (pooled_years false scheme book units gain payoff t) (pooled_years true scheme book units gain payoff t) }
+    requires { PooledPre scheme book units gain payoff t }
+    ensures low { result.low ≡ pooled_years false scheme book units gain payoff t }
+    ensures high { result.high ≡ pooled_years true scheme book units gain payoff t }
 {
-    if cause != 0 {
-        return Bounds::Refused(cause);
-    }
     let mut entries = [0u32; 3104];
     let mut slack = [0u32; 32];
     list_scheme(scheme, &mut entries, &mut slack);
@@ -72,7 +68,7 @@ pub fn pooled_bounds(
         scheme, &entries, &slack, book, units, gain, false, payoff, t,
     );
     let high = pooled_figure(scheme, &entries, &slack, book, units, gain, true, payoff, t);
-    Bounds::Answered { low, high }
+    Bounds { low, high }
 }
 
 // Writes the pooled low share of each class, or, where `high` is set, the high one.

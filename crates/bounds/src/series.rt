@@ -1,7 +1,6 @@
 // The start class's figures (document 01, "Years": "The answer is the start class's figure").
 ghost use Rattle.std.specs.Prelude.{◌≡◌, false, true};
 ghost use Rattle.scheme.specs.Rows.{chain_of};
-ghost use Rattle.bounds_spec.specs.Answers.{answer_by};
 ghost use Rattle.bounds.specs.Entries.{ListRowsPost};
 ghost use Rattle.bounds.specs.Series.{ClassFiguresPost, SeriesPost, SeriesPre, start_figure};
 
@@ -67,14 +66,12 @@ pub fn series(
     figures[state(scheme.start)]
 }
 
-// Both figures of the start class where there is no cause: low and high run on their own.
-pub fn start_bounds(cause: u8, scheme: Scheme, gain: [u64; 32], payoff: [u64; 32], t: u64) -> Bounds
-    requires { cause ≡ 0 → SeriesPre scheme gain payoff t 1 }
-    ensures { result ≡ answer_by cause (start_figure false scheme gain payoff t) (start_figure true scheme gain payoff t) }
+// Both figures of the start class: low and high run on their own.
+pub fn start_bounds(scheme: Scheme, gain: [u64; 32], payoff: [u64; 32], t: u64) -> Bounds
+    requires { SeriesPre scheme gain payoff t 1 }
+    ensures low { result.low ≡ start_figure false scheme gain payoff t }
+    ensures high { result.high ≡ start_figure true scheme gain payoff t }
 {
-    if cause != 0 {
-        return Bounds::Refused(cause);
-    }
     let mut entries = [0u32; 3104];
     let mut slack = [0u32; 32];
     list_scheme(scheme, &mut entries, &mut slack);
@@ -85,5 +82,5 @@ pub fn start_bounds(cause: u8, scheme: Scheme, gain: [u64; 32], payoff: [u64; 32
     let high = series(
         scheme, &entries, &slack, gain, true, payoff, t, 1, &mut none,
     );
-    Bounds::Answered { low, high }
+    Bounds { low, high }
 }

@@ -1,10 +1,11 @@
 -- Worked cases, computed: the causes of queries of Example A, which has 2 classes and a horizon of 2 years, and their order.
-use Rattle.std.specs.Prelude.{◌≡◌, refl}
+use Rattle.std.specs.Prelude.{◌≡◌, refl, Ok, Err}
 use Rattle.setchain.specs.Sums.{sum_to}
 use Rattle.setchain.specs.Tests.{any_below}
+use Rattle.scheme.specs.declared.Cause.TheVariants.{Year}
 use Rattle.scheme.specs.Cause.{size_out, start_out, horizon_out, rule_out, band_out, sum_out, premium_out, cause_of}
 use Rattle.scheme.proofs.Examples.{scheme_a, single}
-use Rattle.bounds_spec.specs.Answers.{Answered, Refused, number_of, low_of, high_of}
+use Rattle.bounds_spec.specs.Answers.{Answered, Refused, bounds_answer_of, number_of, low_of, high_of}
 use Rattle.bounds_spec.specs.Causes.{share_cause, money_cause, sheet_lengths_cause, table_size, table_lengths_cause}
 
 -- A class above s, a year above the horizon, and both.
@@ -36,6 +37,13 @@ pub slice_causes : SliceCauses
 unfolding cause_of size_out start_out horizon_out rule_out band_out sum_out premium_out any_below sum_to
 slice_causes =
     record { money = refl; money_none = refl; money_scheme = refl; sheet = refl; sheet_year = refl; sheet_none = refl; size = refl; table = refl; table_none = refl }
+
+-- Bounds are answered as they are, and a cause with its number.
+bounds_are : bounds_answer_of (Ok (record { low = 3; high = 5 })) ≡ Answered 3 5
+bounds_are = refl
+
+no_bounds : bounds_answer_of (Err Year) ≡ Refused 12
+no_bounds = refl
 
 -- The number and the figures of each answer.
 pub answer_parts : (number_of (Answered 3 5) ≡ 0) × (low_of (Answered 3 5) ≡ 3) × (high_of (Answered 3 5) ≡ 5) × (number_of (Refused 12) ≡ 12) × (low_of (Refused 12) ≡ 0) × (high_of (Refused 12) ≡ 0)

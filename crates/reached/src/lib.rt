@@ -2,11 +2,12 @@
 #![tactic(auto)]
 
 ghost use Rattle.std.specs.Prelude.{◌≡◌};
+ghost use Rattle.bounds_spec.specs.Answers.{bounds_answer_of};
 ghost use Rattle.bounds_spec.specs.Reached.{ReachedPromise, reached_answer};
 ghost use Rattle.reached.specs.Staying.{StayingRules, staying_rule};
 
 pub use bounds_spec::Bounds;
-use scheme::Scheme;
+use scheme::{Cause, Scheme};
 
 // A rule that leads to one of the classes leads to the class itself; one that leads to none is left as it is, so that its cause is found.
 fn staying_rule(rule: u8, classes: u8, class: u8) -> u8
@@ -34,9 +35,9 @@ fn staying_rules(rules: [u8; 256], classes: u8, class: u64) -> [u8; 256]
 }
 
 // The chance of having stood in a class at least once by a year, in parts.
-pub fn reached(scheme: Scheme, class: u64, year: u64) -> Bounds
-    ensures answer { result ≡ reached_answer scheme class year }
-    ensures promise { ReachedPromise scheme class year result }
+pub fn reached(scheme: Scheme, class: u64, year: u64) -> Result<Bounds, Cause>
+    ensures answer { bounds_answer_of result ≡ reached_answer scheme class year }
+    ensures promise { ReachedPromise scheme class year (bounds_answer_of result) }
 {
     let staying = Scheme {
         rules: staying_rules(scheme.rules, scheme.classes, class),

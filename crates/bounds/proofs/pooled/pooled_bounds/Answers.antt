@@ -1,7 +1,7 @@
--- `pooled_bounds` lists the scheme's entries and takes the low and the high pooled figure, where there is no cause.
+-- `pooled_bounds` lists the scheme's entries and takes the low and the high pooled figure.
 -- Assumes nothing.
 use Rattle.bounds.proofs.ListSchemeLaws.{lists_empty}
 use Rattle.bounds.proofs.pooled.pooled_bounds.Goals as goal
 
 pub list_scheme-requires : goal.list_scheme-requires
-list_scheme-requires c = ((c.requires c.if-cause-ne0.false).years.accepted, lists_empty)
+list_scheme-requires c = (c.requires.years.accepted, lists_empty)

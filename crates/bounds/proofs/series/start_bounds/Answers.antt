@@ -1,7 +1,7 @@
--- `start_bounds` lists the scheme's entries and takes the low and the high figure, where there is no cause.
+-- `start_bounds` lists the scheme's entries and takes the low and the high figure.
 -- Assumes nothing.
 use Rattle.bounds.proofs.ListSchemeLaws.{lists_empty}
 use Rattle.bounds.proofs.series.start_bounds.Goals as goal
 
 pub list_scheme-requires : goal.list_scheme-requires
-list_scheme-requires c = ((c.requires c.if-cause-ne0.false).accepted, lists_empty)
+list_scheme-requires c = (c.requires.accepted, lists_empty)
