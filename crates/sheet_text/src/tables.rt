@@ -13,7 +13,7 @@ fn filled(out: &mut [u8], scheme: Scheme, low: &mut [u64], high: &mut [u64]) -> 
     requires { Space out.old 0 (sheet_of scheme) × Accepted scheme × (length low.old ≡ table_size scheme) × (length high.old ≡ table_size scheme) }
     ensures { Put out.old 0 (sheet_of scheme) out.new result }
 {
-    bounds::figures(scheme, low, high);
+    bounds::figures(scheme, low, high).unwrap();
     whole::whole(out, 0, scheme, low, high)
 }
 

@@ -1,5 +1,5 @@
 -- What an answer's number tells: a cause is never 0, and a cause that `?` passes on keeps its number.
-use Rattle.std.proofs.Common.{◌≡◌, ℕ, sym, ap, ◌∙◌, arith, true≢false, Result, Ok, Err}
+use Rattle.std.proofs.Common.{◌≡◌, ℕ, ◌≤◌, sym, ap, ◌∙◌, arith, true≢false, Result, Ok, Err}
 use Rattle.std.specs.Prelude.{IsErr, IsErrAnd}
 use Rattle.scheme.specs.declared.Cause.{Cause}
 use Rattle.scheme.specs.declared.Cause.TheVariants.{Version, LengthField, Size, Length, Start, Horizon, Rule, Band, Sum, Money, Class, Year, Slice, Ready, Base, NotMixing, LastColumn, Count, NoChamber, Frequency}
@@ -29,6 +29,29 @@ cause_some LastColumn none = omega arith
 cause_some Count none = omega arith
 cause_some NoChamber none = omega arith
 cause_some Frequency none = omega arith
+
+-- Every number has two digits at most.
+pub cause_most : (cause : Cause) → cause_number cause ≤ 99
+cause_most Version = omega arith
+cause_most LengthField = omega arith
+cause_most Size = omega arith
+cause_most Length = omega arith
+cause_most Start = omega arith
+cause_most Horizon = omega arith
+cause_most Rule = omega arith
+cause_most Band = omega arith
+cause_most Sum = omega arith
+cause_most Money = omega arith
+cause_most Class = omega arith
+cause_most Year = omega arith
+cause_most Slice = omega arith
+cause_most Ready = omega arith
+cause_most Base = omega arith
+cause_most NotMixing = omega arith
+cause_most LastColumn = omega arith
+cause_most Count = omega arith
+cause_most NoChamber = omega arith
+cause_most Frequency = omega arith
 
 -- An answer to which `?` passed a cause on is that cause.
 pub passed_whole : {A : Type 0} (r : Result A Cause) (cause : Cause) → IsErr r × IsErrAnd r (λ e. e ≡ cause) → r ≡ Err cause
