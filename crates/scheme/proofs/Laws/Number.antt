@@ -1,6 +1,6 @@
 -- What an answer's number tells: a cause is never 0, and a cause that `?` passes on keeps its number.
-use Rattle.std.proofs.Common.{◌≡◌, ℕ, ◌≤◌, sym, ap, ◌∙◌, arith, true≢false, Result, Ok, Err}
-use Rattle.std.specs.Prelude.{IsErr, IsErrAnd}
+use Rattle.std.proofs.Common.{◌≡◌, refl, ℕ, ◌≤◌, sym, ap, ◌∙◌, arith, true≢false, Result, Ok, Err}
+use Rattle.std.specs.Prelude.{IsOk, IsErr, IsErrAnd}
 use Rattle.scheme.specs.declared.Cause.{Cause}
 use Rattle.scheme.specs.declared.Cause.TheVariants.{Version, LengthField, Size, Length, Start, Horizon, Rule, Band, Sum, Money, Class, Year, Slice, Ready, Base, NotMixing, LastColumn, Count, NoChamber, Frequency}
 use Rattle.scheme.specs.FirstCause.{or_else}
@@ -71,3 +71,8 @@ first_declines r cause {first} second w is =
 -- Where the first check finds none, what the second finds is the first of both.
 pub second_declines : {number first second : ℕ} → 0 ≡ first → number ≡ second → number ≡ or_else first second
 second_declines {number} {first} {second} none is = is ∙ sym (second_cause first second (sym none))
+
+-- An answer without a number is no cause.
+pub is_passed : {A : Type 0} (r : Result A Cause) → number_in r ≡ 0 → IsOk r
+is_passed (Ok answer) none = refl
+is_passed (Err cause) none = absurd (cause_some cause none)
