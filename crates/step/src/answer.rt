@@ -1,80 +1,51 @@
 // The public one-year step's parts (document 01, "One year" and "When a call is declined").
 ghost use Rattle.std.specs.Prelude.{◌≡◌, ◌≤◌, length};
+ghost use Rattle.scheme.specs.Number.{number_in};
 ghost use Rattle.scheme.specs.Stages.{limit_cause};
-ghost use Rattle.step.specs.Answer.{scheme_cause, step_refused};
-ghost use Rattle.step_spec.specs.StepAnswer.{MOST_PAYOFF, StepAnswered};
+ghost use Rattle.step_spec.specs.StepAnswer.{MOST_PAYOFF, StepAnswered, step_answer_of};
 
-use crate::StepAnswer;
+use crate::Step;
 use crate::step::step;
 use order::rank;
-use scheme::{Scheme, or_else};
+use scheme::{Cause, Scheme};
 
-// The scheme's own cause in the number of a class's interval row: any but that of the class.
-fn scheme_cause(number: u8) -> u8
-    ensures { result ≡ scheme_cause number }
-{
-    if number == scheme::CLASS_OUT {
-        0
-    } else {
-        number
-    }
-}
-
-// Cause 10 where some class's payoff is above its limit, or 0.
-fn payoff_cause(payoff: &[u64], classes: u8) -> u8
+// Cause 10: some class's payoff is above its limit.
+fn check_payoff(payoff: &[u64], classes: u8) -> Result<(), Cause>
     requires { classes ≤ length payoff.now }
-    ensures { result ≡ limit_cause MOST_PAYOFF payoff.now classes }
+    ensures { number_in result ≡ limit_cause MOST_PAYOFF payoff.now classes }
 {
     let n = usize::from(classes);
     if payoff[..n].iter().any(|pays| crate::MOST_PAYOFF < *pays) {
-        return scheme::MONEY_OUT;
+        return Err(Cause::Money);
     }
-    0
+    Ok(())
 }
 
-// A refusal number, with 0 everywhere else.
-fn refused(number: u8) -> StepAnswer
-    ensures { result ≡ step_refused number }
-{
-    StepAnswer {
-        number,
-        figure: 0,
-        row: [0u64; 32],
-    }
-}
-
-// The low step's answer, or, where `high` is set, the high step's.
-pub fn answer(scheme: Scheme, payoff: &[u64], class: u64, high: bool) -> StepAnswer
+// The low step's answer, or, where `high` is set, the high step's; the payoff's cause comes after the scheme's own and before the class's.
+pub fn answer(scheme: Scheme, payoff: &[u64], class: u64, high: bool) -> Result<Step, Cause>
     requires { length payoff.now ≡ 32 }
-    ensures { StepAnswered high scheme payoff.now class result }
+    ensures { StepAnswered high scheme payoff.now class (step_answer_of result) }
 {
     let interval = rows::interval_row(scheme, class);
-    let own = scheme_cause(interval.number);
-    if own != 0 {
-        return refused(own);
+    if let Err(cause) = interval
+        && cause != Cause::Class
+    {
+        return Err(cause);
     }
-    let number = or_else(payoff_cause(payoff, scheme.classes), interval.number);
-    if number != 0 {
-        return refused(number);
-    }
+    check_payoff(payoff, scheme.classes)?;
+    let interval = interval?;
     let n = usize::from(scheme.classes);
-    let lower = interval.lower;
-    let upper = interval.upper;
     let payoffs = &payoff[..n];
     let mut order = [0u8; 32];
     rank(payoffs, &mut order[..n]);
     let mut row = [0u64; 32];
     let figure = step(
-        &lower[..n],
-        &upper[..n],
+        &interval.lower[..n],
+        &interval.upper[..n],
         payoffs,
         &order[..n],
         high,
         &mut row[..n],
     );
-    StepAnswer {
-        number,
-        figure,
-        row,
-    }
+    Ok(Step { figure, row })
 }

@@ -1,5 +1,5 @@
 -- The step of Example A's class 2 (document 01, "Sheet program and examples"), computed.
-use Rattle.std.specs.Prelude.{ℕ, zero, suc, ◌*◌, ◌≤◌, ◌<◌, ◌≡◌, refl, true, false, List, [], ◌∷◌, replicate}
+use Rattle.std.specs.Prelude.{ℕ, zero, suc, ◌*◌, ◌≤◌, ◌<◌, ◌≡◌, refl, true, false, List, [], ◌∷◌, replicate, Ok, Err}
 use Rattle.std.proofs.Common.{ap, arith}
 use Rattle.std.proofs.Math.Decide.{dec_lt}
 use Rattle.std.proofs.lemmas.List.{get_or-replicate, length-replicate}
@@ -9,10 +9,12 @@ use Rattle.setchain.specs.Rows.{ONE}
 use Rattle.setchain.proofs.Laws.Sums.{below_two}
 use Rattle.setchain.specs.Step.{capacity_before, fill_row, step_figure, Reaches}
 use Rattle.setchain.specs.Tests.{any_below}
+use Rattle.scheme.specs.declared.Cause.TheVariants.{Class}
 use Rattle.scheme.specs.Tables.{tab}
 use Rattle.scheme.specs.Cause.{size_out, start_out, horizon_out, rule_out, band_out, sum_out, premium_out, cause_of}
 use Rattle.scheme.proofs.Examples.{scheme_a}
-use Rattle.step_spec.specs.StepAnswer.{StepAnswer, payoff_out, step_cause, class_row, StepAnswered}
+use Rattle.step_spec.specs.declared.Step.{Step}
+use Rattle.step_spec.specs.StepAnswer.{StepAnswer, step_answer_of, payoff_out, step_cause, class_row, StepAnswered}
 
 -- A payoff of 30 in class 1 and 10 in class 2.
 abbrev thirty_ten : List ℕ
@@ -91,3 +93,13 @@ step_answers =
       declined_figure = λ h. omega (arith, h.figure);
       declined_row = λ h. omega (arith, ap (λ l. at l 0) (h.declined_row (λ none. omega arith)));
     }
+
+-- A step is answered with its figure and row, and a cause with its number and zeros.
+abbrev step_a : Step
+step_a = record { figure = 26; row = four_fifths }
+
+pub step_is : step_answer_of (Ok step_a) ≡ answer_a 0 26 four_fifths
+step_is = refl
+
+pub no_step : step_answer_of (Err Class) ≡ answer_a 11 0 (replicate 32 0)
+no_step = refl

@@ -1,5 +1,5 @@
 -- Narrower bands move the one-year step's figures inward (document 02, item 1).
-use Rattle.std.specs.Prelude.{◌-◌, ◌≡◌, Bool}
+use Rattle.std.specs.Prelude.{◌≡◌, Bool}
 use Rattle.setchain.specs.Step.{NotAfter}
 use Rattle.step_spec.specs.StepAnswer.{StepAnswer}
 

@@ -1,4 +1,4 @@
--- `payoff_cause` meets its contract: `any` tells whether a class has a payoff above the limit.
+-- `check_payoff` meets its contract: `any` tells whether a class has a payoff above the limit.
 -- Assumes nothing.
 use mathlib.Core.Path.{◌≡◌}
 use lib.Dec.{ltb}
@@ -10,7 +10,7 @@ use Rattle.std.proofs.lemmas.Iterator.{YieldsList-from_slice}
 use Rattle.std.proofs.lemmas.Iterator.Search.{any_from_yields_List}
 use Rattle.step_spec.specs.StepAnswer.{MOST_PAYOFF}
 use Rattle.step.proofs.Listed.{limit_passed, limit_kept}
-use Rattle.step.proofs.answer.payoff_cause.Goals as goal
+use Rattle.step.proofs.answer.check_payoff.Goals as goal
 
 pub returns-then-any : goal.returns-then-any
 returns-then-any c =
