@@ -1,24 +1,32 @@
 -- `bands` meets its contract: the first cause, or the ends of both sides.
 -- Assumes nothing.
-use mathlib.Core.Path.{◌≡◌, ap₂, sym, ◌∙◌}
-use Rattle.scheme.specs.FirstCause.{or_else}
-use Rattle.poisson_spec.specs.Answer.{bands_cause}
+use Rattle.std.proofs.Common.{ap, sym, ◌∙◌}
+use Rattle.scheme.proofs.Laws.FirstCause.{cause_first, cause_second}
+use Rattle.scheme.proofs.Laws.Number.{cause_some, passed_whole}
+use Rattle.poisson_spec.specs.Answer.{bands_answer_of}
 use Rattle.poisson.proofs.BandsLaws.{bands_declined, bands_answered}
 use Rattle.poisson.proofs.bands.Goals as goal
 
-pub returns-then-number-ne0-clause-answer : goal.returns-then-number-ne0-clause-answer
-returns-then-number-ne0-clause-answer c =
-    (let cause : c.or_else-number.result ≡ bands_cause c.args.first c.args.second c.args.columns = c.or_else-number.ensures ∙ ap₂ or_else c.columns_cause.ensures c.frequency_cause.ensures in
-    bands_declined c.args.first c.args.second c.args.columns cause c.if-number-ne0.true).0
+pub returns-in_err-check_columns-clause-answer : goal.returns-in_err-check_columns-clause-answer
+returns-in_err-check_columns-clause-answer c =
+    let a = c.args in
+    ap bands_answer_of (passed_whole _ _ c.from_residual.ensures)
+    ∙ (bands_declined a.first a.second a.columns (cause_first _ c.in_err-check_columns.ensures (cause_some _)) (cause_some _)).0
+
+pub returns-in_err-check_frequencies-clause-answer : goal.returns-in_err-check_frequencies-clause-answer
+returns-in_err-check_frequencies-clause-answer c =
+    let a = c.args in
+    ap bands_answer_of (passed_whole _ _ c.from_residual-in_err-check_frequencies.ensures)
+    ∙ (bands_declined a.first a.second a.columns (cause_second (sym c.in_ok-check_columns.ensures) c.in_err-check_frequencies.ensures) (cause_some _)).0
 
 pub returns-clause-answer : goal.returns-clause-answer
 returns-clause-answer c =
-    (let cause : c.or_else-number.result ≡ bands_cause c.args.first c.args.second c.args.columns = c.or_else-number.ensures ∙ ap₂ or_else c.columns_cause.ensures c.frequency_cause.ensures in
-    bands_answered c.args.first c.args.second c.args.columns (sym cause ∙ c.if-number-ne0.false)
-    c.ends-lower.ensures c.ends-upper.ensures).0
+    let a = c.args in
+    let none = sym (cause_second (sym c.in_ok-check_columns.ensures) c.in_ok-check_frequencies.ensures) in
+    (bands_answered a.first a.second a.columns none c.ends.ensures c.ends-2.ensures).0
 
 pub returns-clause-promise : goal.returns-clause-promise
 returns-clause-promise c =
-    (let cause : c.or_else-number.result ≡ bands_cause c.args.first c.args.second c.args.columns = c.or_else-number.ensures ∙ ap₂ or_else c.columns_cause.ensures c.frequency_cause.ensures in
-    bands_answered c.args.first c.args.second c.args.columns (sym cause ∙ c.if-number-ne0.false)
-    c.ends-lower.ensures c.ends-upper.ensures).1
+    let a = c.args in
+    let none = sym (cause_second (sym c.in_ok-check_columns.ensures) c.in_ok-check_frequencies.ensures) in
+    (bands_answered a.first a.second a.columns none c.ends.ensures c.ends-2.ensures).1

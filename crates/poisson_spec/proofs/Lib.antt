@@ -1,0 +1,2 @@
+-- Worked examples; theorems and the lemmas by which they are proved stand in specs/.
+pub mod AnswerExamples
