@@ -1,7 +1,9 @@
 // The bands of two claim frequencies, for C: 0 or the cause's number, and the lent buffers filled only where it is 0.
 #![tactic(auto)]
 
-ghost use Rattle.joguyvi_spec.specs.Poisson.{PoissonCall};
+ghost use Rattle.scheme.specs.Number.{number_in};
+ghost use Rattle.poisson_spec.specs.Answer.{bands_answer_of};
+ghost use Rattle.joguyvi_spec.specs.Poisson.{PoissonCall, PutBandsPost};
 
 use poisson::Bands;
 use scheme::{Cause, number_in};
@@ -30,11 +32,11 @@ fn put_bands(
     lower: &mut [u32],
     upper: &mut [u32],
 ) -> Result<(), Cause>
-    ensures { BuffersPost (put_bands_number (bands_answer_of answer) lower.old upper.old) (bands_answer_of answer).lower (bands_answer_of answer).upper lower.old upper.old (number_in result) lower.new upper.new }
+    ensures { PutBandsPost (bands_answer_of answer) lower.old upper.old (number_in result) lower.new upper.new }
 {
     let bands = answer?;
     scheme::check_slices(8, lower.len(), upper.len())?;
-    lower.copy_from_slice(&bands.lower);
-    upper.copy_from_slice(&bands.upper);
+    joguyvi_buffers::copy_front(&bands.lower, lower);
+    joguyvi_buffers::copy_front(&bands.upper, upper);
     Ok(())
 }

@@ -2,8 +2,13 @@
 use Rattle.std.specs.Prelude.{ℕ, ◌≡◌, List, [], ◌∷◌}
 use Rattle.scheme.specs.FirstCause.{first_of}
 use Rattle.scheme.specs.Access.{BAND_PLACES}
-use Rattle.poisson_spec.specs.Answer.{bands_cause, bands_answer, BandsPromise}
-use Rattle.joguyvi_spec.specs.Buffers.{buffers_cause, filled_where}
+use Rattle.poisson_spec.specs.Answer.{BandsAnswer, bands_cause, bands_answer, BandsPromise}
+use Rattle.joguyvi_spec.specs.Buffers.{buffers_cause, filled_where, BuffersPost}
+
+-- What is answered and left for bands into two buffers: their cause, then 13 where a buffer is not of 8 numbers.
+abbrev pub PutBandsPost : BandsAnswer → (lower upper : List ℕ) (number : ℕ) (lower' upper' : List ℕ) → Type 0
+PutBandsPost answer lower upper =
+    BuffersPost (first_of (answer.number ∷ buffers_cause BAND_PLACES lower upper ∷ [])) answer.lower answer.upper lower upper
 
 -- The number for them: their cause, then 13 where a buffer is not of 8 numbers.
 abbrev pub poisson_number : (first second columns : ℕ) (lower upper : List ℕ) → ℕ

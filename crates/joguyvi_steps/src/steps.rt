@@ -1,24 +1,15 @@
-// The one-year step's payoff from a lent buffer, and its answer put into lent buffers.
+// The one-year step of a record over a lent payoff, and its answer put into lent buffers.
 ghost use Rattle.std.specs.Prelude.{◌≡◌};
 ghost use Rattle.scheme.specs.FirstCause.{or_else};
 ghost use Rattle.scheme.specs.Cause.{slice_cause};
 ghost use Rattle.scheme.specs.Number.{number_in};
 ghost use Rattle.step_spec.specs.StepAnswer.{step_answer_of, StepAnswered};
-ghost use Rattle.joguyvi_spec.specs.Buffers.{buffer_cause, first32};
+ghost use Rattle.joguyvi_spec.specs.Buffers.{buffer_cause};
 ghost use Rattle.joguyvi_spec.specs.Steps.{StepCall, StepBuffersPost};
 
+use joguyvi_buffers::padded_32;
 use scheme::{Cause, Scheme, check_slice};
 use step::Step;
-
-// A payoff of 32 numbers: what is missing counts as 0, and what lies beyond 32 is ignored.
-fn payoff_of(numbers: &[u64]) -> [u64; 32]
-    ensures { result ≡ first32 numbers.now }
-{
-    let mut out = [0u64; 32];
-    let length = numbers.len().min(32);
-    out[..length].copy_from_slice(&numbers[..length]);
-    out
-}
 
 // Cause 13 of the step's buffers.
 fn check_buffers(payoff: &[u64], figure: usize, row: usize) -> Result<(), Cause>
@@ -56,7 +47,8 @@ fn answer_of(scheme: Scheme, payoff: [u64; 32], class: u64, high: bool) -> Resul
     }
 }
 
-// The low step of a record, or the high step where `high` is true: its figure and its row into their buffers.
+// The low step of a record, or the high step where `high` is true: its figure and its row into their buffers. Of the payoff what is missing
+// counts as 0, and what lies beyond 32 is ignored.
 pub fn step(
     bytes: &[u8],
     payoff: &[u64],
@@ -68,6 +60,6 @@ pub fn step(
     ensures { StepCall high bytes.now payoff.now class figure.old row.old (number_in result) figure.new row.new }
 {
     let scheme = record::read(bytes)?;
-    let step = answer_of(scheme, payoff_of(payoff), class, high);
+    let step = answer_of(scheme, padded_32(payoff, 0), class, high);
     put_step(step, payoff, figure, row)
 }
