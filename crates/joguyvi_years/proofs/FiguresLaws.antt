@@ -28,6 +28,11 @@ module _ (b : BoundsAnswer) (out : List ℕ) {n : ℕ} (is : n ≡ number_of b) 
   unfolding put_number
   bounds_out none wrong = record { answer = cause_second (sym is ∙ none) (sym (buffer_out 2 out wrong)); filled = unfilled (low_and_high b) out thirteen }
 
+  -- The same where the number is that of the buffer's test.
+  pub bounds_slice : {m : ℕ} → n ≡ 0 → m ≡ buffer_cause 2 out → (m ≡ 0 → ⊥) → BoundsPost b out m out
+  unfolding put_number
+  bounds_slice none told some = record { answer = cause_second (sym is ∙ none) told; filled = unfilled (low_and_high b) out some }
+
   pub bounds_put : {low high : ℕ} → n ≡ 0 → length out ≡ 2 → low ≡ low_of b → high ≡ high_of b → BoundsPost b out 0 (set (set out 0 low) 1 high)
   unfolding put_number
   bounds_put none fits l h =

@@ -1,25 +1,16 @@
-// Figures of a record pooled over a lent book, and two lent books joined.
+// Figures of a record pooled over a lent book, and two lent books joined: of a book what is missing counts as 0, and what lies beyond 32 is ignored.
 ghost use Rattle.std.specs.Prelude.{◌≡◌, []};
 ghost use Rattle.scheme.specs.Number.{number_in};
 ghost use Rattle.book_spec.specs.Book.{join_answer_of};
 ghost use Rattle.bounds_spec.specs.Answers.{bounds_answer_of};
 ghost use Rattle.bounds_spec.specs.Pooled.{Figure, pooled_sheet_cause};
-ghost use Rattle.joguyvi_spec.specs.Buffers.{BufferPost, first32};
+ghost use Rattle.joguyvi_spec.specs.Buffers.{BufferPost};
 ghost use Rattle.joguyvi_spec.specs.Books.{JoinCall, lent_answer, PooledCall, PooledSheetCall, put_book_number};
 
 use crate::figures::put_bounds;
 use bounds::Bounds;
+use joguyvi_buffers::padded_32;
 use scheme::{Cause, Scheme, check_slice};
-
-// A book of 32 counts: what is missing counts as 0, and what lies beyond 32 is ignored.
-fn counts_of(counts: &[u32]) -> [u32; 32]
-    ensures { result ≡ first32 counts.now }
-{
-    let mut out = [0u32; 32];
-    let length = counts.len().min(32);
-    out[..length].copy_from_slice(&counts[..length]);
-    out
-}
 
 // An answer over a lent book: 13 where the book is not of 32 counts, after the answer's own causes.
 fn lent_answer(book: &[u32], answer: Result<Bounds, Cause>) -> Result<Bounds, Cause>
@@ -40,7 +31,7 @@ pub fn pooled_share(
 ) -> Result<(), Cause>
     ensures { PooledCall (Figure.share class) bytes.now book.now year out.old (number_in result) out.new }
 {
-    let pooled = bounds::pooled_share(record::read(bytes)?, counts_of(book), class, year);
+    let pooled = bounds::pooled_share(record::read(bytes)?, padded_32(book, 0), class, year);
     put_bounds(lent_answer(book, pooled), out)
 }
 
@@ -48,7 +39,7 @@ pub fn pooled_share(
 pub fn pooled_mean(bytes: &[u8], book: &[u32], year: u64, out: &mut [u64]) -> Result<(), Cause>
     ensures { PooledCall Figure.mean bytes.now book.now year out.old (number_in result) out.new }
 {
-    let pooled = bounds::pooled_mean(record::read(bytes)?, counts_of(book), year);
+    let pooled = bounds::pooled_mean(record::read(bytes)?, padded_32(book, 0), year);
     put_bounds(lent_answer(book, pooled), out)
 }
 
@@ -56,7 +47,7 @@ pub fn pooled_mean(bytes: &[u8], book: &[u32], year: u64, out: &mut [u64]) -> Re
 pub fn pooled_total(bytes: &[u8], book: &[u32], year: u64, out: &mut [u64]) -> Result<(), Cause>
     ensures { PooledCall Figure.total bytes.now book.now year out.old (number_in result) out.new }
 {
-    let pooled = bounds::pooled_total(record::read(bytes)?, counts_of(book), year);
+    let pooled = bounds::pooled_total(record::read(bytes)?, padded_32(book, 0), year);
     put_bounds(lent_answer(book, pooled), out)
 }
 
@@ -78,7 +69,7 @@ pub fn pooled_share_sheet(
     ensures { PooledSheetCall bytes.now book.now year low.old high.old (number_in result) low.new high.new }
 {
     let scheme = record::read(bytes)?;
-    let counts = counts_of(book);
+    let counts = padded_32(book, 0);
     if book.len() != 32 {
         return check_empty_sheet(scheme, counts, year);
     }
@@ -89,7 +80,7 @@ pub fn pooled_share_sheet(
 pub fn join(first: &[u32], second: &[u32], out: &mut [u32]) -> Result<(), Cause>
     ensures { JoinCall first.now second.now out.old (number_in result) out.new }
 {
-    let joined = book::join(counts_of(first), counts_of(second));
+    let joined = book::join(padded_32(first, 0), padded_32(second, 0));
     put_book(joined, first.len(), second.len(), out)
 }
 
