@@ -9,6 +9,7 @@ ghost use Rattle.sheet_spec.specs.Sheet.{refused_line, sheet_of};
 ghost use Rattle.sheet_spec.specs.Answer.{space_of, TextAnswered, sheet_answer, sheet_leaves, TextPromise};
 
 use scheme::{Cause, Scheme};
+use text::Text;
 
 mod lines;
 mod tables;
@@ -23,7 +24,9 @@ fn refused(out: &mut [u8], cause: Cause) -> Result<usize, Cause>
     if out.len() < 11 {
         return Err(Cause::Slice);
     }
-    Ok(lines::refused_line(out, 0, cause.number()))
+    let mut text = Text { out, at: 0 };
+    text.put_refused_line(cause.number());
+    Ok(text.at)
 }
 
 // Writes the sheet of an accepted scheme.
@@ -36,7 +39,9 @@ fn accepted(out: &mut [u8], scheme: Scheme) -> Result<usize, Cause>
     if out.len() < space {
         return Err(Cause::Slice);
     }
-    Ok(tables::put_sheet(out, scheme))
+    let mut text = Text { out, at: 0 };
+    text.put_sheet(scheme);
+    Ok(text.at)
 }
 
 // Writes the sheet of any bytes, or the line of their refusal, answers its length, and leaves bytes past it unchanged; a slice without the

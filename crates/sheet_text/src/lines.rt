@@ -1,80 +1,75 @@
-// The lines of a sheet put into a lent slice: each function answers the place after its line. A year or a class number is widened by `as`:
-// there is no `From` between `usize` and `u64`.
+// The lines of a sheet, put after a text. A year or a class number is widened by `as`: there is no `From` between `usize` and `u64`.
 ghost use Rattle.std.specs.Prelude.{◌+◌, ◌<◌, ◌++◌};
 ghost use Rattle.sheet_spec.specs.Text.{field, newline};
 ghost use Rattle.sheet_spec.specs.Sheet.{scheme_line, class_line, premium_line, total_line, refused_line};
-ghost use Rattle.sheet_text.specs.Put.{Put, Space};
+ghost use Rattle.sheet_text.specs.Text.{Fits, Wrote};
 
-use crate::text;
+use bounds::Bounds;
+use crate::text::Text;
 
-// Puts the two figures that end a line.
-fn ends(out: &mut [u8], at: usize, low: u64, high: u64) -> usize
-    requires { Space out.old at (field low ++ field high ++ newline) }
-    ensures { Put out.old at (field low ++ field high ++ newline) out.new result }
-{
-    let a = text::put_field(out, at, low);
-    let b = text::put_field(out, a, high);
-    text::put_newline(out, b)
-}
+impl Text<'_> {
+    // Puts the bounds of the figure that ends a line.
+    fn put_ends(&mut self, figure: Bounds)
+        requires { Fits self.old (field figure.low ++ field figure.high ++ newline) }
+        ensures { Wrote self.old (field figure.low ++ field figure.high ++ newline) self.new }
+    {
+        self.put_field(figure.low);
+        self.put_field(figure.high);
+        self.put_newline();
+    }
 
-// Puts the SCHEME line.
-pub fn scheme_line(
-    out: &mut [u8],
-    at: usize,
-    classes: u8,
-    columns: u8,
-    start: u8,
-    horizon: u8,
-) -> usize
-    requires { Space out.old at (scheme_line classes columns start horizon) }
-    ensures { Put out.old at (scheme_line classes columns start horizon) out.new result }
-{
-    let a = text::put_word(out, at, b"SCHEME");
-    let b = text::put_field(out, a, u64::from(classes));
-    let c = text::put_field(out, b, u64::from(columns));
-    let d = text::put_field(out, c, u64::from(start));
-    let e = text::put_field(out, d, u64::from(horizon));
-    text::put_newline(out, e)
-}
+    // Puts the SCHEME line.
+    pub fn put_scheme_line(&mut self, classes: u8, columns: u8, start: u8, horizon: u8)
+        requires { Fits self.old (scheme_line classes columns start horizon) }
+        ensures { Wrote self.old (scheme_line classes columns start horizon) self.new }
+    {
+        self.put_word(b"SCHEME");
+        self.put_field(u64::from(classes));
+        self.put_field(u64::from(columns));
+        self.put_field(u64::from(start));
+        self.put_field(u64::from(horizon));
+        self.put_newline();
+    }
 
-// Puts the line of a class in a year: class j + 1.
-pub fn class_line(out: &mut [u8], at: usize, year: usize, j: usize, low: u64, high: u64) -> usize
-    requires { Space out.old at (class_line year j low high) × (j < 256) }
-    ensures { Put out.old at (class_line year j low high) out.new result }
-{
-    let a = text::put_word(out, at, b"YEAR");
-    let b = text::put_field(out, a, year as u64);
-    let c = text::put_word(out, b, b" CLASS");
-    let d = text::put_field(out, c, (j + 1) as u64);
-    ends(out, d, low, high)
-}
+    // Puts the line of a class in a year: class j + 1.
+    pub fn put_class_line(&mut self, year: usize, j: usize, figure: Bounds)
+        requires { Fits self.old (class_line year j figure.low figure.high) × (j < 256) }
+        ensures { Wrote self.old (class_line year j figure.low figure.high) self.new }
+    {
+        self.put_word(b"YEAR");
+        self.put_field(year as u64);
+        self.put_word(b" CLASS");
+        self.put_field((j + 1) as u64);
+        self.put_ends(figure);
+    }
 
-// Puts the PREMIUM line of a year.
-pub fn premium_line(out: &mut [u8], at: usize, year: usize, low: u64, high: u64) -> usize
-    requires { Space out.old at (premium_line year low high) }
-    ensures { Put out.old at (premium_line year low high) out.new result }
-{
-    let a = text::put_word(out, at, b"YEAR");
-    let b = text::put_field(out, a, year as u64);
-    let c = text::put_word(out, b, b" PREMIUM");
-    ends(out, c, low, high)
-}
+    // Puts the PREMIUM line of a year.
+    pub fn put_premium_line(&mut self, year: usize, figure: Bounds)
+        requires { Fits self.old (premium_line year figure.low figure.high) }
+        ensures { Wrote self.old (premium_line year figure.low figure.high) self.new }
+    {
+        self.put_word(b"YEAR");
+        self.put_field(year as u64);
+        self.put_word(b" PREMIUM");
+        self.put_ends(figure);
+    }
 
-// Puts the TOTAL line.
-pub fn total_line(out: &mut [u8], at: usize, low: u64, high: u64) -> usize
-    requires { Space out.old at (total_line low high) }
-    ensures { Put out.old at (total_line low high) out.new result }
-{
-    let a = text::put_word(out, at, b"TOTAL");
-    ends(out, a, low, high)
-}
+    // Puts the TOTAL line.
+    pub fn put_total_line(&mut self, figure: Bounds)
+        requires { Fits self.old (total_line figure.low figure.high) }
+        ensures { Wrote self.old (total_line figure.low figure.high) self.new }
+    {
+        self.put_word(b"TOTAL");
+        self.put_ends(figure);
+    }
 
-// Puts the line of a refusal.
-pub fn refused_line(out: &mut [u8], at: usize, number: u8) -> usize
-    requires { Space out.old at (refused_line number) }
-    ensures { Put out.old at (refused_line number) out.new result }
-{
-    let a = text::put_word(out, at, b"REFUSED");
-    let b = text::put_field(out, a, u64::from(number));
-    text::put_newline(out, b)
+    // Puts the line of a refusal.
+    pub fn put_refused_line(&mut self, number: u8)
+        requires { Fits self.old (refused_line number) }
+        ensures { Wrote self.old (refused_line number) self.new }
+    {
+        self.put_word(b"REFUSED");
+        self.put_field(u64::from(number));
+        self.put_newline();
+    }
 }

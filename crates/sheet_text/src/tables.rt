@@ -1,29 +1,48 @@
-// The tables of a sheet's figures, made and put as text.
-ghost use Rattle.std.specs.Prelude.{◌≡◌, length};
+// The tables of a sheet's figures, and the sheet by them.
+ghost use Rattle.std.specs.Prelude.{◌≡◌, ◌<◌, length};
 ghost use Rattle.scheme.specs.Accepted.{Accepted};
-ghost use Rattle.bounds_spec.specs.Causes.{table_size};
 ghost use Rattle.sheet_spec.specs.Sheet.{sheet_of};
-ghost use Rattle.sheet_text.specs.Put.{Put, Space};
+ghost use Rattle.sheet_text.specs.Tables.{figure_at};
+ghost use Rattle.sheet_text.specs.Text.{Fits, Wrote};
 
-use crate::whole;
+use crate::text::Text;
+use bounds::Bounds;
 use scheme::Scheme;
 
-// Fills two slices of the tables' size, and puts the sheet from the front on.
-fn filled(out: &mut [u8], scheme: Scheme, low: &mut [u64], high: &mut [u64]) -> usize
-    requires { Space out.old 0 (sheet_of scheme) × Accepted scheme × (length low.old ≡ table_size scheme) × (length high.old ≡ table_size scheme) }
-    ensures { Put out.old 0 (sheet_of scheme) out.new result }
-{
-    bounds::figures(scheme, low, high).unwrap();
-    whole::whole(out, 0, scheme, low, high)
+// The low and the high figures of so many classes: for each year one for each class and a mean, last the total.
+#[derive(Drop)]
+pub struct Tables<'a> {
+    pub classes: usize,
+    pub low: &'a [u64],
+    pub high: &'a [u64],
 }
 
-// Puts the sheet from the front on; 101 years of 33 figures and the total are the most.
-pub fn put_sheet(out: &mut [u8], scheme: Scheme) -> usize
-    requires { Space out.old 0 (sheet_of scheme) × Accepted scheme }
-    ensures { Put out.old 0 (sheet_of scheme) out.new result }
-{
-    let size = bounds::table_size(scheme);
-    let mut low = [0u64; 3334];
-    let mut high = [0u64; 3334];
-    filled(out, scheme, &mut low[..size], &mut high[..size])
+impl Tables<'_> {
+    // The figure at a place of both tables.
+    pub fn figure(&self, place: usize) -> Bounds
+        requires { (place < length self.now.low.now) × (place < length self.now.high.now) }
+        ensures { result ≡ figure_at self.now place }
+    {
+        Bounds {
+            low: self.low[place],
+            high: self.high[place],
+        }
+    }
+}
+
+impl Text<'_> {
+    // Puts the sheet of an accepted scheme; 101 years of 33 figures and the total are the most.
+    pub fn put_sheet(&mut self, scheme: Scheme)
+        requires { Fits self.old (sheet_of scheme) × Accepted scheme }
+        ensures { Wrote self.old (sheet_of scheme) self.new }
+    {
+        let size = bounds::table_size(scheme);
+        let mut lows = [0u64; 3334];
+        let mut highs = [0u64; 3334];
+        let low = &mut lows[..size];
+        let high = &mut highs[..size];
+        bounds::figures(scheme, low, high).unwrap();
+        let classes = usize::from(scheme.classes);
+        self.put_whole(scheme, &Tables { classes, low, high });
+    }
 }

@@ -1,16 +1,13 @@
-// Words and numbers put into a lent slice: each function answers the place after its text.
-ghost use Rattle.std.specs.Prelude.{◌≡◌, ◌+◌, ◌*◌, ◌≤◌, ◌<◌, length};
+// A text in a lent slice, written word by word and number by number.
+ghost use Rattle.std.specs.Prelude.{◌≡◌, ◌+◌, ◌*◌, ◌<◌};
 ghost use Rattle.sheet_spec.specs.Text.{digits_within, two_digits, decimal, field, newline};
-ghost use Rattle.sheet_text.specs.Put.{Put, Space};
+ghost use Rattle.sheet_text.specs.Text.{Fits, Wrote};
 
-// Puts the bytes of a word.
-pub fn put_word(out: &mut [u8], at: usize, word: &[u8]) -> usize
-    requires { Space out.old at word.now }
-    ensures { Put out.old at word.now out.new result }
-{
-    let end = at + word.len();
-    out[at..end].copy_from_slice(word);
-    end
+// The slice, and the place in it where the text ends and the next byte goes.
+#[derive(Drop)]
+pub struct Text<'a> {
+    pub out: &'a mut [u8],
+    pub at: usize,
 }
 
 // A digit's byte.
@@ -21,57 +18,65 @@ fn digit(x: u64) -> u8
     (48 + x) as u8
 }
 
-// Puts the two digits of a number below 100.
-fn put_two(out: &mut [u8], at: usize, x: u64) -> usize
-    requires { (x < 100) × (at + 2 ≤ length out.old) }
-    ensures { Put out.old at (two_digits x) out.new result }
-{
-    out[at] = digit(x / 10);
-    out[at + 1] = digit(x % 10);
-    at + 2
-}
-
-// Puts the digits of a number, two at a time, by recursion on how many pairs of them there may be.
-fn put_pairs(out: &mut [u8], at: usize, x: u64, pairs: u64) -> usize
-    requires { Space out.old at (digits_within (pairs * 2) x) }
-    ensures { Put out.old at (digits_within (pairs * 2) x) out.new result }
-{
-    if pairs == 0 {
-        return at;
+impl Text<'_> {
+    // Puts the bytes of a word.
+    pub fn put_word(&mut self, word: &[u8])
+        requires { Fits self.old word.now }
+        ensures { Wrote self.old word.now self.new }
+    {
+        let end = self.at + word.len();
+        self.out[self.at..end].copy_from_slice(word);
+        self.at = end;
     }
-    if x < 10 {
-        out[at] = digit(x);
-        return at + 1;
+
+    // Puts the two digits of a number below 100.
+    fn put_two(&mut self, x: u64)
+        requires { (x < 100) × Fits self.old (two_digits x) }
+        ensures { Wrote self.old (two_digits x) self.new }
+    {
+        self.put_word(&[digit(x / 10), digit(x % 10)]);
     }
-    if x < 100 {
-        return put_two(out, at, x);
+
+    // Puts the digits of a number, two at a time, by recursion on how many pairs of them there may be.
+    fn put_pairs(&mut self, x: u64, pairs: u64)
+        requires { Fits self.old (digits_within (pairs * 2) x) }
+        ensures { Wrote self.old (digits_within (pairs * 2) x) self.new }
+    {
+        if pairs == 0 {
+            return;
+        }
+        if x < 10 {
+            self.put_word(&[digit(x)]);
+        } else if x < 100 {
+            self.put_two(x);
+        } else {
+            self.put_pairs(x / 100, pairs - 1);
+            self.put_two(x % 100);
+        }
     }
-    let to = put_pairs(out, at, x / 100, pairs - 1);
-    put_two(out, to, x % 100)
-}
 
-// Puts a number in decimal.
-pub fn put_number(out: &mut [u8], at: usize, x: u64) -> usize
-    requires { Space out.old at (decimal x) }
-    ensures { Put out.old at (decimal x) out.new result }
-{
-    put_pairs(out, at, x, 10)
-}
+    // Puts a number in decimal.
+    fn put_number(&mut self, x: u64)
+        requires { Fits self.old (decimal x) }
+        ensures { Wrote self.old (decimal x) self.new }
+    {
+        self.put_pairs(x, 10);
+    }
 
-// Puts a space and a number.
-pub fn put_field(out: &mut [u8], at: usize, x: u64) -> usize
-    requires { Space out.old at (field x) }
-    ensures { Put out.old at (field x) out.new result }
-{
-    out[at] = 32;
-    put_number(out, at + 1, x)
-}
+    // Puts a space and a number.
+    pub fn put_field(&mut self, x: u64)
+        requires { Fits self.old (field x) }
+        ensures { Wrote self.old (field x) self.new }
+    {
+        self.put_word(b" ");
+        self.put_number(x);
+    }
 
-// Puts the end of a line.
-pub fn put_newline(out: &mut [u8], at: usize) -> usize
-    requires { Space out.old at newline }
-    ensures { Put out.old at newline out.new result }
-{
-    out[at] = 10;
-    at + 1
+    // Puts the end of a line.
+    pub fn put_newline(&mut self)
+        requires { Fits self.old newline }
+        ensures { Wrote self.old newline self.new }
+    {
+        self.put_word(b"\n");
+    }
 }

@@ -1,9 +1,0 @@
--- `text::put_word` meets its contract: the word stands from the place on, and all else is as it was.
-use mathlib.Core.Path.{refl}
-use borrow.Author.Rules.{rules}
-use Rattle.std.proofs.lemmas.Slice.{overwrites}
-use Rattle.std.proofs.lemmas.List.Edits.{sets-eq}
-use Rattle.sheet_text.proofs.text.put_word.Goals as goal
-
-pub returns : goal.returns
-returns c = record { holds = rw (sets-eq c.args.word.now c.args.out.now c.args.at c.requires.fits) (search (rules, overwrites)); place = refl }
