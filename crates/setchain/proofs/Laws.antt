@@ -1,6 +1,7 @@
 -- The lemmas behind the theorems, by subject.
 pub mod Sums
 pub mod Tests
+pub mod Fronts
 pub mod NotAfter
 pub mod Rounding
 pub mod Certificate

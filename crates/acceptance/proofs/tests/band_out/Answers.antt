@@ -8,7 +8,7 @@ use Rattle.std.proofs.lemmas.Iterator.Search.{any_from_yields_List}
 use Rattle.std.proofs.lemmas.Slice.Zip.{length-zip, get_or-zip}
 use Rattle.setchain.proofs.Laws.Tests.{any_eq}
 use Rattle.scheme.specs.Cause.{band_test}
-use Rattle.acceptance.proofs.ListLaws.{any_front}
+use Rattle.setchain.proofs.Laws.Fronts.{any_front}
 use Rattle.acceptance.proofs.tests.band_out.Goals as goal
 
 pub returns : goal.returns

@@ -6,7 +6,7 @@ use Rattle.std.proofs.lemmas.Iterator.{YieldsList-from_slice}
 use Rattle.std.proofs.lemmas.Iterator.Search.{any_from_yields_List}
 use Rattle.setchain.specs.Tests.{any_below}
 use Rattle.scheme.proofs.Laws.FirstCause.{cond_true, cond_false}
-use Rattle.acceptance.proofs.ListLaws.{any_front}
+use Rattle.setchain.proofs.Laws.Fronts.{any_front}
 use Rattle.acceptance.proofs.tests.check_premiums.Goals as goal
 use Rattle.acceptance.proofs.tests.check_premiums.Goals.{After-any-above}
 

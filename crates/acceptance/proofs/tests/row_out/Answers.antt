@@ -5,7 +5,7 @@ use Rattle.std.proofs.lemmas.Iterator.{YieldsList-from_slice}
 use Rattle.std.proofs.lemmas.Iterator.Search.{any_from_yields_List}
 use Rattle.setchain.proofs.Laws.Tests.{any_eq}
 use Rattle.scheme.specs.Cause.{outside}
-use Rattle.acceptance.proofs.ListLaws.{any_front}
+use Rattle.setchain.proofs.Laws.Fronts.{any_front}
 use Rattle.acceptance.proofs.tests.row_out.Goals as goal
 
 pub returns : goal.returns

@@ -6,7 +6,7 @@ use Rattle.std.proofs.lemmas.Iterator.{YieldsList-from_slice, YieldsList-from_ma
 use Rattle.std.proofs.lemmas.Iterator.Consumers.{fits_by_from_yields_list}
 use Rattle.setchain.specs.Sums.{at}
 use Rattle.setchain.proofs.Laws.Sums.{sum_to_most}
-use Rattle.acceptance.proofs.ListLaws.{sum_front}
+use Rattle.setchain.proofs.Laws.Fronts.{sum_front}
 use Rattle.acceptance.proofs.tests.sum.Goals as goal
 
 pub sum-requires-clause-fits : goal.sum-requires-clause-fits

@@ -7,7 +7,7 @@ use Rattle.std.proofs.lemmas.Iterator.Consumers.{fits_from_yields_list}
 use Rattle.setchain.specs.Sums.{at, sum_to}
 use Rattle.setchain.specs.Rows.{ONE}
 use Rattle.setchain.proofs.Laws.Sums.{sum_to_most}
-use Rattle.acceptance.proofs.ListLaws.{sum_front}
+use Rattle.setchain.proofs.Laws.Fronts.{sum_front}
 use Rattle.rows.proofs.tight.total.Goals as goal
 
 -- The sum of a list, by its places.

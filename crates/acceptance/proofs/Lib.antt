@@ -1,2 +1,0 @@
--- Laws over plain lists, which the functions' proofs cite.
-pub mod ListLaws
