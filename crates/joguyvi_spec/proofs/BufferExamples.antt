@@ -1,8 +1,8 @@
 -- Lent buffers of several lengths, computed.
-use Rattle.std.specs.Prelude.{ℕ, ◌≡◌, refl, List, [], ◌∷◌, length}
+use Rattle.std.specs.Prelude.{ℕ, ◌≡◌, refl, List, [], ◌∷◌, ◌++◌, length, replicate}
 use Rattle.std.proofs.Common.{ap, arith}
 use Rattle.scheme.specs.Tables.{tab}
-use Rattle.joguyvi_spec.specs.Buffers.{buffer_cause, buffers_cause, filled_where, copied_front, BufferPost, BuffersPost}
+use Rattle.joguyvi_spec.specs.Buffers.{buffer_cause, buffers_cause, filled_where, copied_front, padded32, BufferPost, BuffersPost}
 
 -- Buffers of two and three numbers.
 abbrev two : List ℕ
@@ -23,6 +23,10 @@ fillings = (refl, refl)
 pub fronts : (copied_front (1 ∷ 2 ∷ []) two ≡ 1 ∷ 2 ∷ []) × (copied_front (1 ∷ 2 ∷ 3 ∷ []) two ≡ 1 ∷ 2 ∷ []) × (copied_front (1 ∷ 2 ∷ []) three ≡ three)
 unfolding tab
 fronts = (refl, refl, refl)
+
+-- Of a short list all numbers and then another, of a long one the first 32.
+pub padded : (padded32 {A = ℕ} 5 two ≡ two ++ replicate 30 5) × (padded32 {A = ℕ} 5 (replicate 32 7 ++ 9 ∷ []) ≡ replicate 32 7)
+padded = (refl, refl)
 
 -- A call that fills one buffer may not leave it as it was, nor answer another number.
 pub one_filled : BufferPost 0 three two 0 three × ¬ BufferPost 0 three two 0 two × ¬ BufferPost 13 three two 0 three
