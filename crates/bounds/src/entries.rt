@@ -80,20 +80,38 @@ fn list_rows<'a>(
     }
 }
 
-// Lists the entries of a scheme.
-pub fn list_scheme(scheme: Scheme, entries: &mut [u32; 3104], slack: &mut [u32; 32])
-    requires { (Accepted scheme) × EmptyLists entries.old slack.old }
-    ensures { ListRowsPost (chain_of scheme) entries.new slack.new }
-{
-    let m = usize::from(scheme.columns);
-    let n = usize::from(scheme.classes);
-    list_rows(
-        &scheme.rules,
-        &scheme.lowers,
-        &scheme.uppers,
-        m,
-        n,
-        entries,
-        slack,
-    );
+// A scheme with the entries of all its rows listed: what a run of the years reads.
+// The tables are the caller's: owned here, `of` would move them, and a call would take 12 KB of stack more.
+#[derive(Drop)]
+pub struct Listed<'a> {
+    pub scheme: Scheme,
+    pub entries: &'a [u32; 3104],
+    // What each row's lower ends leave of ONE.
+    pub slack: &'a [u32; 32],
+    ghost lists: { ListRowsPost (chain_of scheme) entries.now slack.now },
+}
+
+impl<'a> Listed<'a> {
+    // Lists the entries of a scheme in tables of zeros.
+    pub fn of(scheme: Scheme, entries: &'a mut [u32; 3104], slack: &'a mut [u32; 32]) -> Listed<'a>
+        requires { (Accepted scheme) × EmptyLists entries.old slack.old }
+        ensures { result.scheme ≡ scheme }
+    {
+        let m = usize::from(scheme.columns);
+        let n = usize::from(scheme.classes);
+        list_rows(
+            &scheme.rules,
+            &scheme.lowers,
+            &scheme.uppers,
+            m,
+            n,
+            entries,
+            slack,
+        );
+        Listed {
+            scheme,
+            entries,
+            slack,
+        }
+    }
 }

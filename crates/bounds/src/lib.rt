@@ -11,6 +11,7 @@ ghost use Rattle.bounds_spec.specs.Causes.{table_size};
 
 pub use bounds_spec::Bounds;
 use scheme::{Cause, Scheme};
+use series::Rewards;
 
 mod causes;
 mod entries;
@@ -29,9 +30,11 @@ pub fn share(scheme: Scheme, class: u64, year: u64) -> Result<Bounds, Cause>
     ensures promise { SharePromise scheme class year (bounds_answer_of result) }
 {
     causes::check_share(scheme, class, year)?;
-    let payoff = payoffs::share_payoff(class);
-    let gain = [0u64; 32];
-    Ok(series::start_bounds(scheme, gain, payoff, year))
+    let rewards = Rewards {
+        gain: [0; 32],
+        payoff: payoffs::share_payoff(class),
+    };
+    Ok(series::start_bounds(scheme, &rewards, year))
 }
 
 // The mean premium of a year, in cents.
@@ -40,10 +43,11 @@ pub fn mean(scheme: Scheme, year: u64) -> Result<Bounds, Cause>
     ensures promise { MeanPromise scheme year (bounds_answer_of result) }
 {
     causes::check_money(scheme, year)?;
-    let premiums = scheme.premiums;
-    let payoff = money::in_tenths(premiums);
-    let gain = [0u64; 32];
-    let tenths = series::start_bounds(scheme, gain, payoff, year);
+    let rewards = Rewards {
+        gain: [0; 32],
+        payoff: money::in_tenths(scheme.premiums),
+    };
+    let tenths = series::start_bounds(scheme, &rewards, year);
     Ok(money::in_cents(tenths))
 }
 
@@ -53,10 +57,11 @@ pub fn total(scheme: Scheme, year: u64) -> Result<Bounds, Cause>
     ensures promise { TotalPromise scheme year (bounds_answer_of result) }
 {
     causes::check_money(scheme, year)?;
-    let premiums = scheme.premiums;
-    let gain = money::in_tenths(premiums);
-    let payoff = [0u64; 32];
-    let tenths = series::start_bounds(scheme, gain, payoff, year);
+    let rewards = Rewards {
+        gain: money::in_tenths(scheme.premiums),
+        payoff: [0; 32],
+    };
+    let tenths = series::start_bounds(scheme, &rewards, year);
     Ok(money::in_cents(tenths))
 }
 
@@ -85,9 +90,11 @@ pub fn pooled_share(scheme: Scheme, book: [u32; 32], class: u64, year: u64) -> R
 {
     causes::check_share(scheme, class, year)?;
     book::check(book, scheme.classes)?;
-    let payoff = payoffs::share_payoff(class);
-    let gain = [0u64; 32];
-    Ok(pooled::pooled_bounds(scheme, book, 1, gain, payoff, year))
+    let rewards = Rewards {
+        gain: [0; 32],
+        payoff: payoffs::share_payoff(class),
+    };
+    Ok(pooled::pooled_bounds(scheme, book, 1, &rewards, year))
 }
 
 // The mean premium of a year, in cents, pooled over a book.
@@ -97,10 +104,11 @@ pub fn pooled_mean(scheme: Scheme, book: [u32; 32], year: u64) -> Result<Bounds,
 {
     causes::check_money(scheme, year)?;
     book::check(book, scheme.classes)?;
-    let premiums = scheme.premiums;
-    let payoff = money::in_tenths(premiums);
-    let gain = [0u64; 32];
-    Ok(pooled::pooled_bounds(scheme, book, setchain::CENT, gain, payoff, year))
+    let rewards = Rewards {
+        gain: [0; 32],
+        payoff: money::in_tenths(scheme.premiums),
+    };
+    Ok(pooled::pooled_bounds(scheme, book, setchain::CENT, &rewards, year))
 }
 
 // The total of as many premiums as there are years, in cents, pooled over a book.
@@ -110,10 +118,11 @@ pub fn pooled_total(scheme: Scheme, book: [u32; 32], year: u64) -> Result<Bounds
 {
     causes::check_money(scheme, year)?;
     book::check(book, scheme.classes)?;
-    let premiums = scheme.premiums;
-    let gain = money::in_tenths(premiums);
-    let payoff = [0u64; 32];
-    Ok(pooled::pooled_bounds(scheme, book, setchain::CENT, gain, payoff, year))
+    let rewards = Rewards {
+        gain: money::in_tenths(scheme.premiums),
+        payoff: [0; 32],
+    };
+    Ok(pooled::pooled_bounds(scheme, book, setchain::CENT, &rewards, year))
 }
 
 // A year's share sheet pooled over a book: the low and the high share of each class, in parts.

@@ -2,15 +2,13 @@
 ghost use Rattle.std.specs.Prelude.{◌≡◌, false, true};
 ghost use Rattle.setchain.specs.Sums.{at};
 ghost use Rattle.setchain.specs.Pooled.{pooled_figure};
-ghost use Rattle.scheme.specs.Rows.{chain_of};
 ghost use Rattle.bounds_spec.specs.Pooled.{pooled_shares};
-ghost use Rattle.bounds.specs.Entries.{ListRowsPost};
 ghost use Rattle.bounds.specs.Pooled.{PoolPre, PooledPre, WritePooledPre, pooled_years};
 
 use crate::Bounds;
-use crate::entries::list_scheme;
+use crate::entries::Listed;
 use crate::payoffs::share_payoff;
-use crate::series::class_figures;
+use crate::series::Rewards;
 use scheme::Scheme;
 
 // The sum of count times figure over the sum of the counts, where so many units of a figure make one of the answer, rounded outward once.
@@ -28,24 +26,23 @@ fn pool(book: [u32; 32], figures: [u64; 32], classes: u8, units: u64, high: bool
     rounding::round(sum, units * chambers, high)
 }
 
-// The pooled figure of a book after t years: the low one, or, where `high` is set, the high one. One run of the years gives the figures of all classes.
-fn pooled_figure(
-    scheme: Scheme,
-    entries: &[u32; 3104],
-    slack: &[u32; 32],
-    book: [u32; 32],
-    units: u64,
-    gain: [u64; 32],
-    high: bool,
-    payoff: [u64; 32],
-    t: u64,
-) -> u64
-    requires { (PooledPre scheme book units gain payoff t) × ListRowsPost (chain_of scheme) entries.now slack.now }
-    ensures { result ≡ pooled_years high scheme book units gain payoff t }
-{
-    let mut none: [u64; 0] = [];
-    let figures = class_figures(scheme, entries, slack, gain, high, payoff, t, 1, &mut none);
-    pool(book, figures, scheme.classes, units, high)
+impl Listed<'_> {
+    // The pooled figure of a book after t years: the low one, or, where `high` is set, the high one. One run of the years gives the figures of all classes.
+    fn pooled_figure(
+        &self,
+        book: [u32; 32],
+        units: u64,
+        rewards: &Rewards,
+        high: bool,
+        t: u64,
+    ) -> u64
+        requires { PooledPre self.now.scheme book units rewards.now.gain rewards.now.payoff t }
+        ensures { result ≡ pooled_years high self.now.scheme book units rewards.now.gain rewards.now.payoff t }
+    {
+        let mut none: [u64; 0] = [];
+        let figures = self.class_figures(rewards, high, t, 1, &mut none);
+        pool(book, figures, self.scheme.classes, units, high)
+    }
 }
 
 // Both pooled figures: low and high run on their own.
@@ -53,21 +50,18 @@ pub fn pooled_bounds(
     scheme: Scheme,
     book: [u32; 32],
     units: u64,
-    gain: [u64; 32],
-    payoff: [u64; 32],
+    rewards: &Rewards,
     t: u64,
 ) -> Bounds
-    requires { PooledPre scheme book units gain payoff t }
-    ensures low { result.low ≡ pooled_years false scheme book units gain payoff t }
-    ensures high { result.high ≡ pooled_years true scheme book units gain payoff t }
+    requires { PooledPre scheme book units rewards.now.gain rewards.now.payoff t }
+    ensures low { result.low ≡ pooled_years false scheme book units rewards.now.gain rewards.now.payoff t }
+    ensures high { result.high ≡ pooled_years true scheme book units rewards.now.gain rewards.now.payoff t }
 {
-    let mut entries = [0u32; 3104];
-    let mut slack = [0u32; 32];
-    list_scheme(scheme, &mut entries, &mut slack);
-    let low = pooled_figure(
-        scheme, &entries, &slack, book, units, gain, false, payoff, t,
-    );
-    let high = pooled_figure(scheme, &entries, &slack, book, units, gain, true, payoff, t);
+    let mut entries = [0; 3104];
+    let mut slack = [0; 32];
+    let listed = Listed::of(scheme, &mut entries, &mut slack);
+    let low = listed.pooled_figure(book, units, rewards, false, t);
+    let high = listed.pooled_figure(book, units, rewards, true, t);
     Bounds { low, high }
 }
 
@@ -76,12 +70,14 @@ pub fn write_pooled(scheme: Scheme, book: [u32; 32], year: u64, high: bool, out:
     requires { WritePooledPre scheme book out.old }
     ensures { out.new ≡ pooled_shares high scheme book year }
 {
-    let mut entries = [0u32; 3104];
-    let mut slack = [0u32; 32];
-    list_scheme(scheme, &mut entries, &mut slack);
-    let gain = [0u64; 32];
+    let mut entries = [0; 3104];
+    let mut slack = [0; 32];
+    let listed = Listed::of(scheme, &mut entries, &mut slack);
     for (j, share) in out.iter_mut().enumerate() {
-        let payoff = share_payoff((j + 1) as u64);
-        *share = pooled_figure(scheme, &entries, &slack, book, 1, gain, high, payoff, year);
+        let rewards = Rewards {
+            gain: [0; 32],
+            payoff: share_payoff((j + 1) as u64),
+        };
+        *share = listed.pooled_figure(book, 1, &rewards, high, year);
     }
 }

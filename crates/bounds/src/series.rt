@@ -1,86 +1,83 @@
 // The start class's figures (document 01, "Years": "The answer is the start class's figure").
 ghost use Rattle.std.specs.Prelude.{◌≡◌, false, true};
-ghost use Rattle.scheme.specs.Rows.{chain_of};
-ghost use Rattle.bounds.specs.Entries.{ListRowsPost};
 ghost use Rattle.bounds.specs.Series.{ClassFiguresPost, SeriesPost, SeriesPre, start_figure};
 
 use crate::Bounds;
-use crate::entries::list_scheme;
+use crate::entries::Listed;
 use crate::years::years;
 use order::{rank, state};
 use scheme::Scheme;
 
-// The low figures of all classes after t years, or, where `high` is set, the high ones.
-// Of each year u to t the start class's figure is written at place u × stride, where the slice has it.
-pub fn class_figures(
-    scheme: Scheme,
-    entries: &[u32; 3104],
-    slack: &[u32; 32],
-    gain: [u64; 32],
-    high: bool,
-    payoff: [u64; 32],
-    t: u64,
-    stride: usize,
-    out: &mut [u64],
-) -> [u64; 32]
-    requires { (SeriesPre scheme gain payoff t stride) × ListRowsPost (chain_of scheme) entries.now slack.now }
-    ensures { ClassFiguresPost high scheme gain payoff t stride out.old out.new result }
-{
-    let n = usize::from(scheme.classes);
-    let mut order = [0u8; 32];
-    let mut figures = payoff;
-    rank(&figures[..n], &mut order[..n]);
-    let begins = state(scheme.start);
-    years(
-        entries,
-        slack,
-        &gain[..n],
-        high,
-        &mut order[..n],
-        &mut figures,
-        t as usize,
-        begins,
-        stride,
-        out,
-    );
-    figures
+// What a run of years brings each class: a gain in every year, and a payoff after the last.
+#[derive(Clone, Copy)]
+pub struct Rewards {
+    pub gain: [u64; 32],
+    pub payoff: [u64; 32],
 }
 
-// The low figure of a scheme's start class after t years, or, where `high` is set, the high one.
-// Of each year u to t the figure is written at place u × stride, where the slice has it.
-pub fn series(
-    scheme: Scheme,
-    entries: &[u32; 3104],
-    slack: &[u32; 32],
-    gain: [u64; 32],
-    high: bool,
-    payoff: [u64; 32],
-    t: u64,
-    stride: usize,
-    out: &mut [u64],
-) -> u64
-    requires { (SeriesPre scheme gain payoff t stride) × ListRowsPost (chain_of scheme) entries.now slack.now }
-    ensures { SeriesPost high scheme gain payoff t stride out.old out.new result }
-{
-    let figures = class_figures(scheme, entries, slack, gain, high, payoff, t, stride, out);
-    figures[state(scheme.start)]
+impl Listed<'_> {
+    // The low figures of all classes after t years, or, where `high` is set, the high ones.
+    // Of each year u to t the start class's figure is written at place u × stride, where the slice has it.
+    pub fn class_figures(
+        &self,
+        rewards: &Rewards,
+        high: bool,
+        t: u64,
+        stride: usize,
+        out: &mut [u64],
+    ) -> [u64; 32]
+        requires { SeriesPre self.now.scheme rewards.now.gain rewards.now.payoff t stride }
+        ensures { ClassFiguresPost high self.now.scheme rewards.now.gain rewards.now.payoff t stride out.old out.new result }
+    {
+        let n = usize::from(self.scheme.classes);
+        let mut order = [0u8; 32];
+        let mut figures = rewards.payoff;
+        rank(&figures[..n], &mut order[..n]);
+        let begins = state(self.scheme.start);
+        years(
+            self.entries,
+            self.slack,
+            &rewards.gain[..n],
+            high,
+            &mut order[..n],
+            &mut figures,
+            t as usize,
+            begins,
+            stride,
+            out,
+        );
+        figures
+    }
+
+    // The low figure of the start class after t years, or, where `high` is set, the high one.
+    // Of each year u to t the figure is written at place u × stride, where the slice has it.
+    pub fn series(
+        &self,
+        rewards: &Rewards,
+        high: bool,
+        t: u64,
+        stride: usize,
+        out: &mut [u64],
+    ) -> u64
+        requires { SeriesPre self.now.scheme rewards.now.gain rewards.now.payoff t stride }
+        ensures { SeriesPost high self.now.scheme rewards.now.gain rewards.now.payoff t stride out.old out.new result }
+    {
+        let figures = self.class_figures(rewards, high, t, stride, out);
+        figures[state(self.scheme.start)]
+    }
 }
 
 // Both figures of the start class: low and high run on their own.
-pub fn start_bounds(scheme: Scheme, gain: [u64; 32], payoff: [u64; 32], t: u64) -> Bounds
-    requires { SeriesPre scheme gain payoff t 1 }
-    ensures low { result.low ≡ start_figure false scheme gain payoff t }
-    ensures high { result.high ≡ start_figure true scheme gain payoff t }
+pub fn start_bounds(scheme: Scheme, rewards: &Rewards, t: u64) -> Bounds
+    requires { SeriesPre scheme rewards.now.gain rewards.now.payoff t 1 }
+    ensures low { result.low ≡ start_figure false scheme rewards.now.gain rewards.now.payoff t }
+    ensures high { result.high ≡ start_figure true scheme rewards.now.gain rewards.now.payoff t }
 {
-    let mut entries = [0u32; 3104];
-    let mut slack = [0u32; 32];
-    list_scheme(scheme, &mut entries, &mut slack);
+    let mut entries = [0; 3104];
+    let mut slack = [0; 32];
+    let listed = Listed::of(scheme, &mut entries, &mut slack);
     let mut none: [u64; 0] = [];
-    let low = series(
-        scheme, &entries, &slack, gain, false, payoff, t, 1, &mut none,
-    );
-    let high = series(
-        scheme, &entries, &slack, gain, true, payoff, t, 1, &mut none,
-    );
+    let low = listed.series(rewards, false, t, 1, &mut none);
+    let high = listed.series(rewards, true, t, 1, &mut none);
     Bounds { low, high }
 }

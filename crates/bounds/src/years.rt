@@ -34,6 +34,7 @@ fn store_figure(figure: u64, place: usize, out: &mut [u64])
 
 // The figures of t years, in place of the payoff: those of t - 1 first, then one year more.
 // Of each year u the state's figure is written at place u × stride, where the slice has it.
+// The tables come apart, and not as `Listed`: read through it, 100 years took some 5 hundredths longer.
 pub fn years(
     entries: &[u32; 3104],
     slack: &[u32; 32],

@@ -16,14 +16,14 @@ unfolding pooled_answer
 returns-in_err-check-clause-answer c = refused _ _ _ _ c.from_residual-in_err-check.ensures (second_declines c.in_ok-check_share.ensures c.in_err-check.ensures)
 
 pub pooled_bounds-requires : goal.pooled_bounds-requires
-pooled_bounds-requires c = pooled_share_ready c.args.scheme c.args.book c.args.class c.args.year c.in_ok-check_share.ensures c.in_ok-check.ensures c.share_payoff-payoff.ensures (omega arith) refl
+pooled_bounds-requires c = pooled_share_ready c.args.scheme c.args.book c.args.class c.args.year c.in_ok-check_share.ensures c.in_ok-check.ensures c.share_payoff.ensures (omega arith) refl
 
 pub returns-clause-answer : goal.returns-clause-answer
 returns-clause-answer c =
-    (pooled_share_answer c.args.scheme c.args.book c.args.class c.args.year c.in_ok-check_share.ensures c.in_ok-check.ensures c.share_payoff-payoff.ensures
+    (pooled_share_answer c.args.scheme c.args.book c.args.class c.args.year c.in_ok-check_share.ensures c.in_ok-check.ensures c.share_payoff.ensures
     (ap₂ Answered c.pooled_bounds.ensures.low c.pooled_bounds.ensures.high)).0
 
 pub returns-clause-promise : goal.returns-clause-promise
 returns-clause-promise c =
-    (pooled_share_answer c.args.scheme c.args.book c.args.class c.args.year c.in_ok-check_share.ensures c.in_ok-check.ensures c.share_payoff-payoff.ensures
+    (pooled_share_answer c.args.scheme c.args.book c.args.class c.args.year c.in_ok-check_share.ensures c.in_ok-check.ensures c.share_payoff.ensures
     (ap₂ Answered c.pooled_bounds.ensures.low c.pooled_bounds.ensures.high)).1

@@ -3,5 +3,5 @@
 use Rattle.bounds.proofs.ListSchemeLaws.{lists_empty}
 use Rattle.bounds.proofs.series.start_bounds.Goals as goal
 
-pub list_scheme-requires : goal.list_scheme-requires
-list_scheme-requires c = (c.requires.accepted, lists_empty)
+pub of-listed-requires : goal.of-listed-requires
+of-listed-requires c = (c.requires.accepted, lists_empty)

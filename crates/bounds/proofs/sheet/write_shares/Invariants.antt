@@ -5,4 +5,4 @@ use Rattle.bounds.specs.Sheets.{share_of}
 use Rattle.bounds.proofs.sheet.write_shares.Given as goal
 
 abbrev pub invariant-loop-j : goal.invariant-loop-j
-invariant-loop-j l = Written l.scheme.classes (share_of l.high l.scheme l.year) l.out l.j
+invariant-loop-j l = Written l.fn.scheme.classes (share_of l.high l.fn.scheme l.year) l.out l.j

@@ -1,7 +1,7 @@
 -- `share_columns` writes the shares class by class.
 -- Assumes nothing.
 use Rattle.bounds.specs.Sheets.{ShareColumnsPost}
-use Rattle.bounds.proofs.table.share_columns.Given as goal
+use Rattle.bounds.proofs.entries.Listed.share_columns.Given as goal
 
 abbrev pub invariant-loop-j : goal.invariant-loop-j
-invariant-loop-j l = ShareColumnsPost l.high l.scheme l.out l.j
+invariant-loop-j l = ShareColumnsPost l.high l.self.scheme l.out l.j
