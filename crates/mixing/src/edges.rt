@@ -26,7 +26,7 @@ fn entries_above_zero(entries: &[u64]) -> u32
     bits
 }
 
-// The classes that a class has an edge to.
+// The classes that a class of an accepted scheme has an edge to: such a class has a row.
 fn class_edges(scheme: Scheme, class: u64) -> u32
     requires { (cause_of scheme ≡ 0) × (1 ≤ class) × (class ≤ scheme.classes) }
     ensures { result ≡ bits_of scheme.classes (scheme_edges scheme (class - 1)) }
