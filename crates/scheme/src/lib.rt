@@ -155,7 +155,7 @@ pub fn check_sizes(classes: u8, columns: u8) -> Result<(), Cause>
 pub fn class_out(classes: u8, class: u64) -> bool
     ensures { result ≡ outside classes class }
 {
-    class == 0 || (classes as u64) < class
+    class == 0 || u64::from(classes) < class
 }
 
 // Of a list of bands' ends those of the class at index i, as many as it has cells: all classes share them.
