@@ -1,4 +1,4 @@
--- Worked cases of causes and answers: each cause has its number of document 01 or 02, an answer that is none tells it, and beside it stand zeros.
+-- Worked cases of causes and answers: each cause has its number of document 01 or 02, an answer that is none tells it, and beside a cause stand zeros.
 use Rattle.std.specs.Prelude.{ℕ, ◌≡◌, refl, List, [], ◌∷◌, map, replicate, Result, Ok, Err}
 use Rattle.scheme.specs.declared.Cause.{Cause}
 use Rattle.scheme.specs.declared.Cause.TheVariants.{Version, LengthField, Size, Length, Start, Horizon, Rule, Band, Sum, Money, Class, Year, Slice, Ready, Base, NotMixing, LastColumn, Count, NoChamber, Frequency}
@@ -6,7 +6,6 @@ use Rattle.scheme.specs.declared.Row.{Row}
 use Rattle.setchain.specs.Sums.{at}
 use Rattle.scheme.specs.Number.{cause_number, number_in}
 use Rattle.scheme.specs.RowAnswer.{RowAnswer, row_refused, row_answer_of}
-use Rattle.scheme.specs.Stored.{no_scheme}
 
 -- The causes in the order of their numbers; 20 is none.
 numbers : map cause_number (Version ∷ LengthField ∷ Size ∷ Length ∷ Start ∷ Horizon ∷ Rule ∷ Band ∷ Sum ∷ Money ∷ Class ∷ Year ∷ Slice
@@ -30,8 +29,3 @@ row_is = refl
 
 no_row : row_answer_of (Err Class) ≡ record { number = 11; lower = replicate 32 0; upper = replicate 32 0 }
 no_row = refl
-
--- The scheme beside a cause has no class.
-no_class : no_scheme.classes ≡ 0
-unfolding no_scheme
-no_class = refl

@@ -1,6 +1,6 @@
 -- What an answer's number tells: a cause is never 0, and a cause that `?` passes on keeps its number.
 use Rattle.std.proofs.Common.{◌≡◌, refl, ℕ, ◌≤◌, sym, ap, ◌∙◌, arith, true≢false, Result, Ok, Err}
-use Rattle.std.specs.Prelude.{IsOk, IsErr, IsErrAnd}
+use Rattle.std.specs.Prelude.{cond, eqb, IsOk, IsErr, IsErrAnd}
 use Rattle.scheme.specs.declared.Cause.{Cause}
 use Rattle.scheme.specs.declared.Cause.TheVariants.{Version, LengthField, Size, Length, Start, Horizon, Rule, Band, Sum, Money, Class, Year, Slice, Ready, Base, NotMixing, LastColumn, Count, NoChamber, Frequency}
 use Rattle.scheme.specs.FirstCause.{or_else}
@@ -76,3 +76,38 @@ second_declines {number} {first} {second} none is = is ∙ sym (second_cause fir
 pub is_passed : {A : Type 0} (r : Result A Cause) → number_in r ≡ 0 → IsOk r
 is_passed (Ok answer) none = refl
 is_passed (Err cause) none = absurd (cause_some cause none)
+
+-- The cause of a number, and that of 21 for every other.
+unfoldable cause_numbered : ℕ → Cause
+cause_numbered n =
+    cond (eqb n 1) Version (cond (eqb n 2) LengthField (cond (eqb n 3) Size (cond (eqb n 4) Length (cond (eqb n 5) Start (cond (eqb n 6) Horizon (
+    cond (eqb n 7) Rule (cond (eqb n 8) Band (cond (eqb n 9) Sum (cond (eqb n 10) Money (cond (eqb n 11) Class (cond (eqb n 12) Year (
+    cond (eqb n 13) Slice (cond (eqb n 14) Ready (cond (eqb n 15) Base (cond (eqb n 16) NotMixing (cond (eqb n 17) LastColumn (cond (eqb n 18) Count (
+    cond (eqb n 19) NoChamber (Frequency)))))))))))))))))))
+
+numbered_again : (cause : Cause) → cause_numbered (cause_number cause) ≡ cause
+unfolding cause_numbered
+numbered_again Version = refl
+numbered_again LengthField = refl
+numbered_again Size = refl
+numbered_again Length = refl
+numbered_again Start = refl
+numbered_again Horizon = refl
+numbered_again Rule = refl
+numbered_again Band = refl
+numbered_again Sum = refl
+numbered_again Money = refl
+numbered_again Class = refl
+numbered_again Year = refl
+numbered_again Slice = refl
+numbered_again Ready = refl
+numbered_again Base = refl
+numbered_again NotMixing = refl
+numbered_again LastColumn = refl
+numbered_again Count = refl
+numbered_again NoChamber = refl
+numbered_again Frequency = refl
+
+-- No two causes have one number: an answer's number tells the cause.
+pub cause_same : (one other : Cause) → cause_number one ≡ cause_number other → one ≡ other
+cause_same one other same = sym (numbered_again one) ∙ ap cause_numbered same ∙ numbered_again other
