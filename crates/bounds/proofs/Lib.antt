@@ -6,6 +6,7 @@ pub mod ListRowLaws
 pub mod ListRowsLaws
 pub mod ListSchemeLaws
 pub mod FillStateLaws
+pub mod JoinedLaws
 pub mod FillStatesLaws
 pub mod YearLaws
 pub mod YearsLaws

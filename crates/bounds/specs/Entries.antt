@@ -1,5 +1,5 @@
 -- The entries of all interval rows, listed by the state that they lead to.
--- The list of state j stands from place j × 32 on, in one array: at e the state whose row has the entry of place e, at lower_ends + e its lower end,
+-- The list of state j stands from place j × 32 on, of the tables joined to one list (Joined): at e the state whose row has the entry of place e, at lower_ends + e its lower end,
 -- at capacities + e the capacity from there to its upper end, and at counts + j how many entries lead to state j.
 use Rattle.std.specs.Prelude.{ℕ, ◌+◌, ◌*◌, ◌≤◌, ◌<◌, ◌≡◌, List, eqb, length}
 use Rattle.scheme.specs.Access.{CELL_STRIDE, class_bands}

@@ -1,38 +1,51 @@
 // The entries of all interval rows, listed by the class that they lead to: a year then passes each of them once, along the order of the payoffs.
-// The list of state j stands from place j × 32 on, in one array: at e the state whose row has the entry of place e, at LOWER_ENDS + e its lower end,
-// at CAPACITIES + e the capacity from there to its upper end, and at COUNTS + j how many entries lead to state j.
 ghost use Rattle.std.specs.Prelude.{◌≡◌, ◌+◌, length};
 ghost use Rattle.setchain.specs.Sums.{sum_to};
 ghost use Rattle.setchain.specs.Rows.{ONE, lists_row};
 ghost use Rattle.scheme.specs.Accepted.{Accepted};
 ghost use Rattle.scheme.specs.Rows.{chain_of};
+ghost use Rattle.bounds.specs.Joined.{joined};
 ghost use Rattle.bounds.specs.Entries.{rules_row, AddRowPost, AddRowPre, EmptyLists, ListRowsPost, ListRowsPre, rules_chain};
 
 use rows::{slack, sum_by_target};
 use scheme::{Scheme, class_bands};
 
-// Where the lower ends begin.
-pub const LOWER_ENDS: usize = 1024;
+// The lists of all states: that of state j stands from place j × 32 on.
+#[derive(Drop)]
+pub struct Entries {
+    // The state whose row has the entry.
+    pub states: [u32; 1024],
+    // Its lower end.
+    pub lower_ends: [u32; 1024],
+    // The capacity from there to its upper end.
+    pub capacities: [u32; 1024],
+    // How many entries each list has.
+    pub counts: [u32; 32],
+}
 
-// Where the capacities begin.
-pub const CAPACITIES: usize = 2048;
-
-// Where the counts begin.
-pub const COUNTS: usize = 3072;
+impl Entries {
+    // Lists with no entry.
+    pub const EMPTY: Entries = Entries {
+        states: [0; 1024],
+        lower_ends: [0; 1024],
+        capacities: [0; 1024],
+        counts: [0; 32],
+    };
+}
 
 // Adds the entries of state i's row to the lists of the states that they lead to.
-fn add_row(lower: &[u64], upper: &[u64], i: usize, entries: &mut [u32; 3104])
-    requires { (length lower.now ≡ length upper.now) × AddRowPre (length upper.now) (lists_row lower.now upper.now) i entries.old }
-    ensures { AddRowPost (length upper.now) (lists_row lower.now upper.now) i entries.old entries.new }
+fn add_row(lower: &[u64], upper: &[u64], i: usize, entries: &mut Entries)
+    requires { (length lower.now ≡ length upper.now) × AddRowPre (length upper.now) (lists_row lower.now upper.now) i (joined entries.old) }
+    ensures { AddRowPost (length upper.now) (lists_row lower.now upper.now) i (joined entries.old) (joined entries.new) }
 {
     for (j, (low, high)) in lower.iter().zip(upper).enumerate() {
         if 0 < *high {
-            let count = entries[COUNTS + j];
+            let count = entries.counts[j];
             let place = j * 32 + count as usize;
-            entries[place] = i as u32;
-            entries[LOWER_ENDS + place] = *low as u32;
-            entries[CAPACITIES + place] = (*high - *low) as u32;
-            entries[COUNTS + j] = count + 1;
+            entries.states[place] = i as u32;
+            entries.lower_ends[place] = *low as u32;
+            entries.capacities[place] = (*high - *low) as u32;
+            entries.counts[j] = count + 1;
         }
     }
 }
@@ -44,10 +57,10 @@ fn list_row(
     uppers: &[u32],
     n: usize,
     i: usize,
-    entries: &mut [u32; 3104],
+    entries: &mut Entries,
 ) -> u32
-    requires { AddRowPre n (rules_row rules.now lowers.now uppers.now) i entries.old }
-    ensures entries { AddRowPost n (rules_row rules.now lowers.now uppers.now) i entries.old entries.new }
+    requires { AddRowPre n (rules_row rules.now lowers.now uppers.now) i (joined entries.old) }
+    ensures entries { AddRowPost n (rules_row rules.now lowers.now uppers.now) i (joined entries.old) (joined entries.new) }
     ensures slack { sum_to n (rules_row rules.now lowers.now uppers.now).lower + result ≡ ONE }
 {
     let mut lower = [0u64; 32];
@@ -65,11 +78,11 @@ fn list_rows<'a>(
     uppers: &'a [u32],
     m: usize,
     n: usize,
-    entries: &mut [u32; 3104],
+    entries: &mut Entries,
     slack: &mut [u32; 32],
 )
-    requires { ListRowsPre n m rules.now lowers.now uppers.now entries.old slack.old }
-    ensures { ListRowsPost (rules_chain n m rules.now lowers.now uppers.now) entries.new slack.new }
+    requires { ListRowsPre n m rules.now lowers.now uppers.now (joined entries.old) slack.old }
+    ensures { ListRowsPost (rules_chain n m rules.now lowers.now uppers.now) (joined entries.new) slack.new }
 {
     for i in 0..n {
         let first = i * scheme::CELL_STRIDE;
@@ -85,16 +98,16 @@ fn list_rows<'a>(
 #[derive(Drop)]
 pub struct Listed<'a> {
     pub scheme: Scheme,
-    pub entries: &'a [u32; 3104],
+    pub entries: &'a Entries,
     // What each row's lower ends leave of ONE.
     pub slack: &'a [u32; 32],
-    ghost lists: { ListRowsPost (chain_of scheme) entries.now slack.now },
+    ghost lists: { ListRowsPost (chain_of scheme) (joined entries.now) slack.now },
 }
 
 impl<'a> Listed<'a> {
     // Lists the entries of a scheme in tables of zeros.
-    pub fn of(scheme: Scheme, entries: &'a mut [u32; 3104], slack: &'a mut [u32; 32]) -> Listed<'a>
-        requires { (Accepted scheme) × EmptyLists entries.old slack.old }
+    pub fn of(scheme: Scheme, entries: &'a mut Entries, slack: &'a mut [u32; 32]) -> Listed<'a>
+        requires { (Accepted scheme) × EmptyLists (joined entries.old) slack.old }
         ensures { result.scheme ≡ scheme }
     {
         let m = usize::from(scheme.columns);

@@ -6,7 +6,7 @@ ghost use Rattle.bounds_spec.specs.Pooled.{pooled_shares};
 ghost use Rattle.bounds.specs.Pooled.{PoolPre, PooledPre, WritePooledPre, pooled_years};
 
 use crate::Bounds;
-use crate::entries::Listed;
+use crate::entries::{Entries, Listed};
 use crate::payoffs::share_payoff;
 use crate::series::Rewards;
 use scheme::Scheme;
@@ -57,7 +57,7 @@ pub fn pooled_bounds(
     ensures low { result.low ≡ pooled_years false scheme book units rewards.now.gain rewards.now.payoff t }
     ensures high { result.high ≡ pooled_years true scheme book units rewards.now.gain rewards.now.payoff t }
 {
-    let mut entries = [0; 3104];
+    let mut entries = Entries::EMPTY;
     let mut slack = [0; 32];
     let listed = Listed::of(scheme, &mut entries, &mut slack);
     let low = listed.pooled_figure(book, units, rewards, false, t);
@@ -70,7 +70,7 @@ pub fn write_pooled(scheme: Scheme, book: [u32; 32], year: u64, high: bool, out:
     requires { WritePooledPre scheme book out.old }
     ensures { out.new ≡ pooled_shares high scheme book year }
 {
-    let mut entries = [0; 3104];
+    let mut entries = Entries::EMPTY;
     let mut slack = [0; 32];
     let listed = Listed::of(scheme, &mut entries, &mut slack);
     for (j, share) in out.iter_mut().enumerate() {

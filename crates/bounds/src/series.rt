@@ -3,7 +3,7 @@ ghost use Rattle.std.specs.Prelude.{◌≡◌, false, true};
 ghost use Rattle.bounds.specs.Series.{ClassFiguresPost, SeriesPost, SeriesPre, start_figure};
 
 use crate::Bounds;
-use crate::entries::Listed;
+use crate::entries::{Entries, Listed};
 use crate::years::years;
 use order::{rank, state};
 use scheme::Scheme;
@@ -73,7 +73,7 @@ pub fn start_bounds(scheme: Scheme, rewards: &Rewards, t: u64) -> Bounds
     ensures low { result.low ≡ start_figure false scheme rewards.now.gain rewards.now.payoff t }
     ensures high { result.high ≡ start_figure true scheme rewards.now.gain rewards.now.payoff t }
 {
-    let mut entries = [0; 3104];
+    let mut entries = Entries::EMPTY;
     let mut slack = [0; 32];
     let listed = Listed::of(scheme, &mut entries, &mut slack);
     let mut none: [u64; 0] = [];

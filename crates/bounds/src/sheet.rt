@@ -3,7 +3,7 @@ ghost use Rattle.std.specs.Prelude.{◌≡◌};
 ghost use Rattle.bounds_spec.specs.Answers.{figure_shares};
 ghost use Rattle.bounds.specs.Sheets.{WritePre};
 
-use crate::entries::Listed;
+use crate::entries::{Entries, Listed};
 use crate::payoffs::share_payoff;
 use crate::series::Rewards;
 use scheme::Scheme;
@@ -13,7 +13,7 @@ pub fn write_shares(scheme: Scheme, year: u64, high: bool, out: &mut [u64])
     requires { WritePre scheme scheme.classes out.old }
     ensures { out.new ≡ figure_shares high scheme year }
 {
-    let mut entries = [0; 3104];
+    let mut entries = Entries::EMPTY;
     let mut slack = [0; 32];
     let listed = Listed::of(scheme, &mut entries, &mut slack);
     for (j, share) in out.iter_mut().enumerate() {

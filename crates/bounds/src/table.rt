@@ -4,7 +4,7 @@ ghost use Rattle.bounds_spec.specs.Table.{figure_table};
 ghost use Rattle.bounds.specs.Sheets.{MeanColumnPost, MeanColumnPre, ShareColumnsPost, WritePre};
 ghost use Rattle.bounds_spec.specs.Causes.{table_size};
 
-use crate::entries::Listed;
+use crate::entries::{Entries, Listed};
 use crate::money::{in_tenths, round_means};
 use crate::payoffs::share_payoff;
 use crate::series::Rewards;
@@ -48,7 +48,7 @@ pub fn write_table(scheme: Scheme, high: bool, out: &mut [u64])
     requires { WritePre scheme (table_size scheme) out.old }
     ensures { out.new ≡ figure_table high scheme }
 {
-    let mut entries = [0; 3104];
+    let mut entries = Entries::EMPTY;
     let mut slack = [0; 32];
     let listed = Listed::of(scheme, &mut entries, &mut slack);
     listed.share_columns(high, out);

@@ -1,45 +1,46 @@
 // One year: the figures of all classes from those of the year before (document 01, "Years").
 ghost use Rattle.std.specs.Prelude.{◌≡◌, length};
 ghost use Rattle.order.specs.Order.{Permutation, along};
+ghost use Rattle.bounds.specs.Joined.{joined};
 ghost use Rattle.bounds.specs.Entries.{chain_listed};
 ghost use Rattle.bounds.specs.Fill.{FillStatePre, FillStatePost, RoundSumsPre, RoundSumsPost, FillStatesPre, FillStatesPost};
 ghost use Rattle.bounds.specs.Years.{YearPost, YearPre};
 
-use crate::entries::{CAPACITIES, COUNTS, LOWER_ENDS};
+use crate::entries::Entries;
 use order::{class_at, rank_again, state};
 
 // Fills one state by the entries that lead to it, listed from place `first` to `end`: each row gives its lower parts and, as far as it has slack left, parts of it.
 fn fill_state(
-    entries: &[u32; 3104],
+    entries: &Entries,
     first: usize,
     end: usize,
     payoff: u64,
     left: &mut [u32],
     sums: &mut [u64],
 )
-    requires { FillStatePre entries.now first end payoff left.old sums.old }
-    ensures { FillStatePost entries.now first end payoff left.old sums.old left.new sums.new }
+    requires { FillStatePre (joined entries.now) first end payoff left.old sums.old }
+    ensures { FillStatePost (joined entries.now) first end payoff left.old sums.old left.new sums.new }
 {
     for e in first..end {
-        let i = entries[e] as usize;
+        let i = entries.states[e] as usize;
         let had = left[i];
-        let given = entries[CAPACITIES + e].min(had);
+        let given = entries.capacities[e].min(had);
         left[i] = had - given;
-        sums[i] += u64::from(entries[LOWER_ENDS + e] + given) * payoff;
+        sums[i] += u64::from(entries.lower_ends[e] + given) * payoff;
     }
 }
 
 // Fills all states along the order, for high figures from its other end, and leaves in `sums` for each row the sum of part times payoff.
 fn fill_states(
-    entries: &[u32; 3104],
+    entries: &Entries,
     payoff: &[u64],
     order: &[u8],
     high: bool,
     left: &mut [u32],
     sums: &mut [u64],
 )
-    requires { FillStatesPre entries.now payoff.now (along high order.now) left.old sums.old }
-    ensures { FillStatesPost entries.now payoff.now (along high order.now) left.old sums.new }
+    requires { FillStatesPre (joined entries.now) payoff.now (along high order.now) left.old sums.old }
+    ensures { FillStatesPost (joined entries.now) payoff.now (along high order.now) left.old sums.new }
 {
     for k in 0..order.len() {
         let j = state(class_at(order, k, high));
@@ -47,7 +48,7 @@ fn fill_states(
         fill_state(
             entries,
             first,
-            first + entries[COUNTS + j] as usize,
+            first + entries.counts[j] as usize,
             payoff[j],
             left,
             sums,
@@ -68,15 +69,15 @@ fn round_sums(gain: &[u64], high: bool, sums: &mut [u64])
 // The figures of a year: those of the year before are kept whole while they are formed.
 // The order stays from year to year, since payoffs that were in order mostly are so again.
 pub fn year(
-    entries: &[u32; 3104],
+    entries: &Entries,
     slack: &[u32; 32],
     gain: &[u64],
     high: bool,
     order: &mut [u8],
     before: [u64; 32],
 ) -> [u64; 32]
-    requires { YearPre entries.now slack.now gain.now order.old before }
-    ensures figures { YearPost (chain_listed (length gain.now) entries.now) gain.now before high result }
+    requires { YearPre (joined entries.now) slack.now gain.now order.old before }
+    ensures figures { YearPost (chain_listed (length gain.now) (joined entries.now)) gain.now before high result }
     ensures order { Permutation (length gain.now) order.new }
 {
     let n = gain.len();

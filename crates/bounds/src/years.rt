@@ -1,22 +1,24 @@
 // The figures of t years, and of every year before, by recursion on the year count (document 01, "Years").
 ghost use Rattle.std.specs.Prelude.{◌≡◌, ◌+◌, length, set};
 ghost use Rattle.order.specs.Order.{Permutation};
+ghost use Rattle.bounds.specs.Joined.{joined};
 ghost use Rattle.bounds.specs.Entries.{chain_listed};
 ghost use Rattle.bounds.specs.Years.{YearPost, YearsPost, YearsPre, YearPre};
 
+use crate::entries::Entries;
 use crate::year::year;
 
 // One year more, in place.
 fn advance(
-    entries: &[u32; 3104],
+    entries: &Entries,
     slack: &[u32; 32],
     gain: &[u64],
     high: bool,
     order: &mut [u8],
     figures: &mut [u64; 32],
 )
-    requires { YearPre entries.now slack.now gain.now order.old figures.old }
-    ensures figures { YearPost (chain_listed (length gain.now) entries.now) gain.now figures.old high figures.new }
+    requires { YearPre (joined entries.now) slack.now gain.now order.old figures.old }
+    ensures figures { YearPost (chain_listed (length gain.now) (joined entries.now)) gain.now figures.old high figures.new }
     ensures order { Permutation (length gain.now) order.new }
 {
     let before = *figures;
@@ -36,7 +38,7 @@ fn store_figure(figure: u64, place: usize, out: &mut [u64])
 // Of each year u the state's figure is written at place u × stride, where the slice has it.
 // The tables come apart, and not as `Listed`: read through it, 100 years took some 5 hundredths longer.
 pub fn years(
-    entries: &[u32; 3104],
+    entries: &Entries,
     slack: &[u32; 32],
     gain: &[u64],
     high: bool,
@@ -47,8 +49,8 @@ pub fn years(
     stride: usize,
     out: &mut [u64],
 )
-    requires { YearsPre entries.now slack.now gain.now order.old figures.old t state stride }
-    ensures { YearsPost entries.now gain.now figures.old high t state stride (t + 1)
+    requires { YearsPre (joined entries.now) slack.now gain.now order.old figures.old t state stride }
+    ensures { YearsPost (joined entries.now) gain.now figures.old high t state stride (t + 1)
         order.new figures.new out.old out.new }
 {
     if t != 0 {

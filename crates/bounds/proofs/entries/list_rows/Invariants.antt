@@ -2,7 +2,8 @@
 -- Assumes nothing.
 use Rattle.bounds.specs.Entries.{rules_chain}
 use Rattle.bounds.proofs.ListRowsLaws.{Listing}
+use Rattle.bounds.specs.Joined.{joined}
 use Rattle.bounds.proofs.entries.list_rows.Given as goal
 
 abbrev pub invariant-loop-i : goal.invariant-loop-i
-invariant-loop-i l = Listing (rules_chain l.n l.m l.rules l.lowers l.uppers) l.entries l.slack l.i
+invariant-loop-i l = Listing (rules_chain l.n l.m l.rules l.lowers l.uppers) (joined l.entries) l.slack l.i
