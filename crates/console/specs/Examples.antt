@@ -1,8 +1,8 @@
--- Two bytes read into a buffer of four behind its first: what is allowed and what is not; records of short inputs; and checksums, computed.
-use Rattle.std.specs.Prelude.{◌≡◌, refl, List, [], ◌∷◌, ℕ, get_or}
+-- Two bytes read into a buffer of four behind its first: what is allowed and what is not; what a read that failed and one that did not have brought; records of short inputs; and checksums, computed.
+use Rattle.std.specs.Prelude.{◌≡◌, refl, List, [], ◌∷◌, ℕ, get_or, Ok, Err}
 use Rattle.std.proofs.Common.{ap, arith}
 use Rattle.big_endian_spec.specs.Numbers.{be_at, number_at}
-use Rattle.console.specs.Input.{ReadInto}
+use Rattle.console.specs.Input.{ReadInto, length_read}
 use Rattle.console.specs.Records.{record_at}
 use Rattle.console.specs.Checksum.{checksum_from}
 
@@ -29,6 +29,14 @@ read_into_examples =
       too_many = λ h. omega (arith, h.within);
       longer = λ h. omega (arith, h.size);
     }
+
+-- Three bytes that came, and three that came before a read failed.
+pub record LengthReadExamples : Type 0 where
+  pub whole : length_read (Ok 3) ≡ 3
+  pub failed : length_read (Err (record { length = 3 })) ≡ 3
+
+pub length_read_examples : LengthReadExamples
+length_read_examples = record { whole = refl; failed = refl }
 
 -- The record behind its length, what the input has of a longer one, a length that is big-endian, and an input too short for a length.
 pub record RecordExamples : Type 0 where

@@ -1,113 +1,64 @@
-// Standard input, output and error for the programs, and what the check programs share: the records of their input, and checksums.
+// Standard input for the programs, and what the check programs share: the records of their input, and checksums.
 #![tactic(auto)]
 
-ghost use Rattle.std.specs.Prelude.{◌-◌, ◌≤◌, ◌≡◌, length, take};
-ghost use Rattle.console.specs.Input.{ReadInto};
+ghost use Rattle.std.specs.Prelude.{◌-◌, ◌≤◌, ◌≡◌, length, take, IfOk, OnErr};
+ghost use Rattle.console.specs.Input.{ReadInto, length_read};
 ghost use Rattle.console.specs.Records.{record_at};
 ghost use Rattle.console.specs.Checksum.{added, checksum_from};
 
-use std::io::{Print, Read, Stderr, Stdin, Stdout};
+use std::io;
+use std::io::{Read, Stderr, Stdin};
 
-// Bytes as they are, to standard output. False where a write failed or took nothing: some of them may be written then.
-pub fn bytes(out: Stdout, text: &[u8]) -> bool {
-    out.write_all(text).is_ok()
-}
-
-// A space and a number in decimal.
-pub fn number(out: Stdout, x: u64) {
-    bytes(out, b" ");
-    out.print(x).is_ok();
-}
-
-// A word and a number.
-pub fn word(out: Stdout, text: &[u8], x: u64) {
-    bytes(out, text);
-    number(out, x);
-}
-
-// A byte in 64 bits, as `number` takes it.
-pub fn wide(x: u8) -> u64
-    ensures { result ≡ x }
-{
-    u64::from(x)
-}
-
-// The end of a line.
-pub fn end(out: Stdout) {
-    bytes(out, b"\n");
-}
-
-// A line to standard error.
-pub fn complain(err: Stderr, text: &[u8]) {
-    err.write_all(text).is_ok();
-}
-
-// What came of reading: how many bytes the buffer has of the input, from its front on, and whether a read failed.
-#[derive(Clone, Copy)]
-pub struct Input {
+// Where a read failed: how many bytes of the input the buffer has from before it, from its front on.
+#[derive(Clone, Copy, Debug, PartialEq, Eq)]
+pub struct ReadFailed {
     pub length: usize,
-    pub failed: bool,
 }
 
-// One read: what came, from the front of the chunk on.
-fn fetch(mut input: Stdin, chunk: &mut [u8]) -> Input {
-    match input.read(chunk) {
-        Ok(length) => Input {
-            length,
-            failed: false,
-        },
-        Err(_) => Input {
-            length: 0,
-            failed: true,
-        },
-    }
-}
-
-// One read more, put into the buffer behind the first `done` bytes. The end of the input brings none.
-fn more(input: Stdin, buffer: &mut [u8], done: usize) -> Input
+// One read more, put into the buffer behind the first `done` bytes: how many bytes came. The end of the input brings none.
+fn more(mut input: Stdin, buffer: &mut [u8], done: usize) -> io::Result<usize>
     requires { done ≤ length buffer.old }
-    ensures { ReadInto done buffer.old buffer.new result.length }
+    ensures came { IfOk result (λ count. ReadInto done buffer.old buffer.new count) }
+    ensures failed { OnErr result (ReadInto done buffer.old buffer.new 0) }
 {
     let mut chunk = [0u8; 4096];
-    let read = fetch(input, &mut chunk);
-    let length = read.length.min(buffer.len() - done);
-    big_endian::copy(&chunk, 0, buffer, done, length);
-    Input {
-        length,
-        failed: read.failed,
-    }
+    let came = input.read(&mut chunk)?;
+    let count = came.min(buffer.len() - done);
+    big_endian::copy(&chunk, 0, buffer, done, count);
+    Ok(count)
 }
 
-// Reads until the input ends or the buffer is full; bytes past what was read stay as they were.
-fn fill(input: Stdin, buffer: &mut [u8]) -> Input
-    ensures { ReadInto 0 buffer.old buffer.new result.length }
+// Reads until the input ends or the buffer is full: how many bytes came. Bytes past them stay as they were.
+fn fill(input: Stdin, buffer: &mut [u8]) -> Result<usize, ReadFailed>
+    ensures { ReadInto 0 buffer.old buffer.new (length_read result) }
 {
     let mut done: usize = 0;
     while done < buffer.len() {
-        let read = more(input, buffer, done);
-        if read.length == 0 {
-            return Input {
-                length: done,
-                failed: read.failed,
-            };
+        let Ok(count) = more(input, buffer, done) else {
+            return Err(ReadFailed { length: done });
+        };
+        if count == 0 {
+            return Ok(done);
         }
-        done += read.length;
+        done += count;
     }
-    Input {
-        length: done,
-        failed: false,
-    }
+    Ok(done)
 }
 
 // All of standard input, or as much of it as the buffer holds; bytes past it stay as they were. Where a read failed the program says so on
 // standard error.
-pub fn read_all(input: Stdin, err: Stderr, program: &[u8], buffer: &mut [u8]) -> Input
-    ensures { ReadInto 0 buffer.old buffer.new result.length }
+pub fn read_all(
+    input: Stdin,
+    err: Stderr,
+    program: &str,
+    buffer: &mut [u8],
+) -> Result<usize, ReadFailed>
+    ensures { ReadInto 0 buffer.old buffer.new (length_read result) }
 {
     let read = fill(input, buffer);
-    if read.failed {
-        complain(err, program);
-        complain(err, b": standard input could not be read\n");
+    if read.is_err() {
+        // Where this cannot be written either, there is nobody left to tell.
+        let _ = eprintln!(err; "{program}: standard input could not be read");
     }
     read
 }

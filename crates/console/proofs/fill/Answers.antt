@@ -5,4 +5,4 @@ use Rattle.console.proofs.ReadLaws.{read_more}
 use Rattle.console.proofs.fill.Goals as goal
 
 pub loop-done-preserved : goal.loop-done-preserved
-loop-done-preserved c = read_more c.loop-done.invariant c.more-read.ensures (omega arith)
+loop-done-preserved c = read_more c.loop-done.invariant c.in-Ok.ensures.came (omega arith)

@@ -4,5 +4,5 @@ use native.Mathlib.Omega.{arith}
 use Rattle.console.proofs.ReadLaws.{read_copied}
 use Rattle.console.proofs.more.Goals as goal
 
-pub returns : goal.returns
-returns c = rw c.copy.ensures (read_copied c.args.buffer.now c.args.done _ c.min-length.result c.requires (omega arith))
+pub returns-clause-came : goal.returns-clause-came
+returns-clause-came c = rw c.copy.ensures (read_copied c.args.buffer.now c.args.done _ c.min-count.result c.requires (omega arith))
