@@ -2,58 +2,54 @@
 // plain Rust version (rust/regenerate): a sheet of at most 1,000 bytes whole, of a longer one its length and a checksum.
 #![tactic(auto)]
 
-use sheet_text::WriteAnswer;
+use std::io;
 use std::io::Stdout;
 
 // The text whole, or its length and checksum.
-fn show(stdout: Stdout, text: &[u8]) {
+fn show(stdout: Stdout, text: &[u8]) -> io::Result<()> {
     if text.len() <= 1000 {
-        console::bytes(stdout, text);
-        return;
+        return stdout.write_all(text);
     }
-    // By `as`: there is no `From` between `usize` and `u64`.
-    console::word(stdout, b"LENGTH", text.len() as u64);
-    console::word(stdout, b" CHECKSUM", console::checksum(text));
-    console::end(stdout);
+    println!(stdout;
+        "LENGTH {} CHECKSUM {}",
+        text.len(),
+        console::checksum(text)
+    )
 }
 
 // The sheet's text in a slice, or the cause for which it does not fit there.
-fn text_in(stdout: Stdout, bytes: &[u8], out: &mut [u8]) {
+fn text_in(stdout: Stdout, bytes: &[u8], out: &mut [u8]) -> io::Result<()> {
     match sheet_text::sheet(bytes, out) {
-        WriteAnswer::Written(length) => {
-            show(stdout, console::front(out, length));
-        }
-        WriteAnswer::Declined(cause) => {
-            console::word(stdout, b"NO", u64::from(cause));
-            console::end(stdout);
-        }
+        Ok(length) => show(stdout, console::front(out, length)),
+        Err(cause) => println!(stdout; "NO {}", cause.number()),
     }
 }
 
 // The sheet of one record, in a slice that has room for every sheet, and in one of ten bytes.
-fn one(stdout: Stdout, bytes: &[u8]) {
+fn one(stdout: Stdout, bytes: &[u8]) -> io::Result<()> {
     let mut out = [0u8; 132_862];
-    text_in(stdout, bytes, &mut out);
+    text_in(stdout, bytes, &mut out)?;
     let mut short = [0u8; 10];
-    text_in(stdout, bytes, &mut short);
+    text_in(stdout, bytes, &mut short)
 }
 
 // All records.
-fn all(stdout: Stdout, input: &[u8]) {
+fn all(stdout: Stdout, input: &[u8]) -> io::Result<()> {
     let mut at: usize = 0;
     // A `while`, since each turn moves on by the length of the record that it read, as no range does.
     while 2 <= input.len() - at {
         let bytes = console::record_at(input, at);
         at += 2 + bytes.len();
-        one(stdout, bytes);
+        one(stdout, bytes)?;
     }
+    Ok(())
 }
 
 fn main(rt: HostRuntime) {
     let mut input = [0u8; 65_536];
-    let read = console::read_all(rt.stdin(), rt.stderr(), b"sheets", &mut input);
-    if read.failed {
+    let Ok(length) = console::read_all(rt.stdin(), rt.stderr(), "sheets", &mut input) else {
         return;
-    }
-    all(rt.stdout(), console::front(&input, read.length));
+    };
+    // Where standard output cannot be written the program ends with status 0 all the same: what it printed then differs from what it must print.
+    let _ = all(rt.stdout(), console::front(&input, length));
 }
