@@ -71,25 +71,19 @@ fn list_row(
     slack(&lower[..n]) as u32
 }
 
-// Lists the entries of all rows of n states, each with m cells, and writes the slack that each row's lower ends leave.
-fn list_rows<'a>(
-    rules: &'a [u8],
-    lowers: &'a [u32],
-    uppers: &'a [u32],
-    m: usize,
-    n: usize,
-    entries: &mut Entries,
-    slack: &mut [u32; 32],
-)
-    requires { ListRowsPre n m rules.now lowers.now uppers.now (joined entries.old) slack.old }
-    ensures { ListRowsPost (rules_chain n m rules.now lowers.now uppers.now) (joined entries.new) slack.new }
+// Lists the entries of all rows of a scheme, and writes the slack that each row's lower ends leave.
+fn list_rows(scheme: &Scheme, entries: &mut Entries, slack: &mut [u32; 32])
+    requires { ListRowsPre scheme.now.classes scheme.now.columns scheme.now.rules scheme.now.lowers scheme.now.uppers (joined entries.old) slack.old }
+    ensures { ListRowsPost (rules_chain scheme.now.classes scheme.now.columns scheme.now.rules scheme.now.lowers scheme.now.uppers) (joined entries.new) slack.new }
 {
+    let m = usize::from(scheme.columns);
+    let n = usize::from(scheme.classes);
     for i in 0..n {
         let first = i * scheme::CELL_STRIDE;
-        let end = first + m;
-        let lower = class_bands(lowers, m, i);
-        let upper = class_bands(uppers, m, i);
-        slack[i] = list_row(&rules[first..end], lower, upper, n, i, entries);
+        let rules = &scheme.rules[first..first + m];
+        let lower = class_bands(&scheme.lowers, m, i);
+        let upper = class_bands(&scheme.uppers, m, i);
+        slack[i] = list_row(rules, lower, upper, n, i, entries);
     }
 }
 
@@ -110,17 +104,7 @@ impl<'a> Listed<'a> {
         requires { (Accepted scheme) × EmptyLists (joined entries.old) slack.old }
         ensures { result.scheme ≡ scheme }
     {
-        let m = usize::from(scheme.columns);
-        let n = usize::from(scheme.classes);
-        list_rows(
-            &scheme.rules,
-            &scheme.lowers,
-            &scheme.uppers,
-            m,
-            n,
-            entries,
-            slack,
-        );
+        list_rows(&scheme, entries, slack);
         Listed {
             scheme,
             entries,

@@ -6,4 +6,4 @@ use Rattle.bounds.specs.Joined.{joined}
 use Rattle.bounds.proofs.entries.list_rows.Given as goal
 
 abbrev pub invariant-loop-i : goal.invariant-loop-i
-invariant-loop-i l = Listing (rules_chain l.n l.m l.rules l.lowers l.uppers) (joined l.entries) l.slack l.i
+invariant-loop-i l = Listing (rules_chain l.scheme.classes l.scheme.columns l.scheme.rules l.scheme.lowers l.scheme.uppers) (joined l.entries) l.slack l.i

@@ -5,7 +5,7 @@ use Rattle.bounds.proofs.ListSchemeLaws.{scheme_lists, scheme_listed}
 use Rattle.bounds.proofs.entries.Listed.of.Goals as goal
 
 pub list_rows-requires : goal.list_rows-requires
-list_rows-requires c = rw (c.from-m.ensures, c.from-n.ensures) (scheme_lists c.args.scheme c.requires.0 (search rules) c.requires.1)
+list_rows-requires c = scheme_lists c.args.scheme c.requires.0 (search rules) c.requires.1
 
 pub invariant_of-result : goal.invariant_of-result
-invariant_of-result c = record { lists = scheme_listed c.args.scheme c.requires.0 (search rules) (rw (c.from-m.ensures, c.from-n.ensures) at c.list_rows.ensures) }
+invariant_of-result c = record { lists = scheme_listed c.args.scheme c.requires.0 (search rules) c.list_rows.ensures }
