@@ -19,11 +19,7 @@ pub extern "C" fn joguyvi_poisson(
 ) -> u8
     ensures { PoissonCall first second columns lower.old upper.old result lower.new upper.new }
 {
-    number_in(put_bands(
-        poisson::bands(first, second, columns),
-        lower,
-        upper,
-    ))
+    number_in(put_bands(poisson::bands(first, second, columns), lower, upper))
 }
 
 // Puts bands into two buffers of 8 numbers.

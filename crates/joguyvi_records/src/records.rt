@@ -8,12 +8,7 @@ ghost use Rattle.joguyvi_spec.specs.Records.{ReadyCall, RecordPost, RewriteCall}
 use scheme::{Cause, Scheme};
 
 // A record read and written again, in a version, and its length into a buffer of 1 number.
-pub fn rewrite(
-    bytes: &[u8],
-    version: u64,
-    out: &mut [u8],
-    length: &mut [u64],
-) -> Result<(), Cause>
+pub fn rewrite(bytes: &[u8], version: u64, out: &mut [u8], length: &mut [u64]) -> Result<(), Cause>
     ensures { RewriteCall bytes.now version out.old length.old (number_in result) out.new length.new }
 {
     if record::other_version(version) {
@@ -39,12 +34,7 @@ pub fn ready(
 }
 
 // Puts an accepted scheme's record in a version that there is into `out`, and its length into a buffer of 1 number.
-fn put_record(
-    scheme: Scheme,
-    version: u64,
-    out: &mut [u8],
-    length: &mut [u64],
-) -> Result<(), Cause>
+fn put_record(scheme: Scheme, version: u64, out: &mut [u8], length: &mut [u64]) -> Result<(), Cause>
     requires { (other_version version ≡ false) × (cause_of scheme ≡ 0) }
     ensures { RecordPost scheme version out.old length.old (number_in result) out.new length.new }
 {

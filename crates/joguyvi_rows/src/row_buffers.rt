@@ -9,12 +9,7 @@ ghost use Rattle.joguyvi_spec.specs.Mixing.{MixingCall, PutCountPost};
 use scheme::{Cause, Row, Scheme};
 
 // The tight row of a class of a record, in parts, into two buffers of 32 numbers.
-pub fn row(
-    bytes: &[u8],
-    class: u64,
-    lower: &mut [u64],
-    upper: &mut [u64],
-) -> Result<(), Cause>
+pub fn row(bytes: &[u8], class: u64, lower: &mut [u64], upper: &mut [u64]) -> Result<(), Cause>
     ensures { RowCall bytes.now class lower.old upper.old (number_in result) lower.new upper.new }
 {
     put_row(rows::row(record::read(bytes)?, class), lower, upper)

@@ -47,12 +47,7 @@ pub fn put_bounds(answer: Result<Bounds, Cause>, out: &mut [u64]) -> Result<(), 
 }
 
 // The shares of all classes after a number of years, in parts, into two buffers of as many numbers as there are classes.
-pub fn share_sheet(
-    bytes: &[u8],
-    year: u64,
-    low: &mut [u64],
-    high: &mut [u64],
-) -> Result<(), Cause>
+pub fn share_sheet(bytes: &[u8], year: u64, low: &mut [u64], high: &mut [u64]) -> Result<(), Cause>
     ensures { ShareSheetCall bytes.now year low.old high.old (number_in result) low.new high.new }
 {
     bounds::share_sheet(record::read(bytes)?, year, low, high)

@@ -10,7 +10,7 @@ use Rattle.scheme.specs.RowAnswer.{RowAnswer, row_refused, row_answer_of}
 -- The causes in the order of their numbers; 20 is none.
 numbers : map cause_number (Version ∷ LengthField ∷ Size ∷ Length ∷ Start ∷ Horizon ∷ Rule ∷ Band ∷ Sum ∷ Money ∷ Class ∷ Year ∷ Slice
     ∷ Ready ∷ Base ∷ NotMixing ∷ LastColumn ∷ Count ∷ NoChamber ∷ Frequency ∷ [])
-  ≡ 1 ∷ 2 ∷ 3 ∷ 4 ∷ 5 ∷ 6 ∷ 7 ∷ 8 ∷ 9 ∷ 10 ∷ 11 ∷ 12 ∷ 13 ∷ 14 ∷ 15 ∷ 16 ∷ 17 ∷ 18 ∷ 19 ∷ 21 ∷ []
+    ≡ 1 ∷ 2 ∷ 3 ∷ 4 ∷ 5 ∷ 6 ∷ 7 ∷ 8 ∷ 9 ∷ 10 ∷ 11 ∷ 12 ∷ 13 ∷ 14 ∷ 15 ∷ 16 ∷ 17 ∷ 18 ∷ 19 ∷ 21 ∷ []
 numbers = refl
 
 -- An answer has the number 0, and a cause its own.

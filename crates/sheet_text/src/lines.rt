@@ -4,8 +4,8 @@ ghost use Rattle.sheet_spec.specs.Text.{field, newline};
 ghost use Rattle.sheet_spec.specs.Sheet.{scheme_line, class_line, premium_line, total_line, refused_line};
 ghost use Rattle.sheet_text.specs.Text.{Fits, Wrote};
 
-use bounds::Bounds;
 use crate::text::Text;
+use bounds::Bounds;
 
 impl Text<'_> {
     // Puts the bounds of the figure that ends a line.

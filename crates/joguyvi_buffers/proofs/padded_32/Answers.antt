@@ -8,7 +8,7 @@ use Rattle.joguyvi_buffers.proofs.padded_32.Goals as goal
 
 -- The front over 32 places of one value.
 front : {A : Type 0} (missing : A) (l : List A) {many : ℕ} {part : List A} → many ≡ min (length l) 32 → part ≡ take many l
-  → part ++ drop many (replicate 32 missing) ≡ padded32 missing l
+    → part ++ drop many (replicate 32 missing) ≡ padded32 missing l
 front missing l {many} {part} few is =
     let same : many ≡ min 32 (length l) = omega (arith, few) in
     let left : 32 - many ≡ 32 - length l = omega (arith, few) in

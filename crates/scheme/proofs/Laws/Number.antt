@@ -64,7 +64,7 @@ passed_on r cause w = ap number_in (passed_whole r cause w)
 
 -- The cause of the first of two checks, passed on, is the first of both.
 pub first_declines : {A : Type 0} (r : Result A Cause) (cause : Cause) {first : ℕ} (second : ℕ) →
-  IsErr r × IsErrAnd r (λ e. e ≡ cause) → cause_number cause ≡ first → number_in r ≡ or_else first second
+    IsErr r × IsErrAnd r (λ e. e ≡ cause) → cause_number cause ≡ first → number_in r ≡ or_else first second
 first_declines r cause {first} second w is =
     passed_on r cause w ∙ is ∙ sym (first_cause first second (λ none. cause_some cause (is ∙ none)))
 
