@@ -1,11 +1,9 @@
 -- Worked cases of causes and answers: each cause has its number of document 01 or 02, an answer that is none tells it, and beside a cause stand zeros.
-use Rattle.std.specs.Prelude.{ℕ, ◌≡◌, refl, List, [], ◌∷◌, map, replicate, Result, Ok, Err}
-use Rattle.scheme.specs.declared.Cause.{Cause}
+use Rattle.std.specs.Prelude.{ℕ, ◌≡◌, refl, [], ◌∷◌, map, replicate, Ok, Err}
 use Rattle.scheme.specs.declared.Cause.TheVariants.{Version, LengthField, Size, Length, Start, Horizon, Rule, Band, Sum, Money, Class, Year, Slice, Ready, Base, NotMixing, LastColumn, Count, NoChamber, Frequency}
 use Rattle.scheme.specs.declared.Row.{Row}
-use Rattle.setchain.specs.Sums.{at}
 use Rattle.scheme.specs.Number.{cause_number, number_in}
-use Rattle.scheme.specs.RowAnswer.{RowAnswer, row_refused, row_answer_of}
+use Rattle.scheme.specs.RowAnswer.{row_answer_of}
 
 -- The causes in the order of their numbers; 20 is none.
 numbers : map cause_number (Version ∷ LengthField ∷ Size ∷ Length ∷ Start ∷ Horizon ∷ Rule ∷ Band ∷ Sum ∷ Money ∷ Class ∷ Year ∷ Slice

@@ -1,5 +1,5 @@
 -- Narrower bands move the row that is answered inward (document 02, items 1 and 2): lower ends no smaller, upper ends no larger.
-use Rattle.std.specs.Prelude.{ℕ, ◌-◌, ◌≤◌, ◌≡◌}
+use Rattle.std.specs.Prelude.{ℕ, ◌≤◌, ◌≡◌}
 use Rattle.setchain.specs.Sums.{at}
 use Rattle.scheme.specs.RowAnswer.{RowAnswer}
 

@@ -1,9 +1,7 @@
 -- `interval_row` meets its contract, by the cases of `Laws.Entries`.
-use Rattle.std.proofs.Common.{refl, ap, sym, ◌∙◌}
-use Rattle.scheme.specs.RowAnswer.{row_answer_of}
+use Rattle.std.proofs.Common.{refl, sym, ◌∙◌}
 use Rattle.scheme.proofs.Laws.Cause.{outside_false}
 use Rattle.scheme.proofs.Laws.Judged.{accepted_cause}
-use Rattle.scheme.proofs.Laws.Number.{cause_some, passed_whole}
 use Rattle.rows.specs.Laws.Entries.{row_answered_lem}
 use Rattle.rows.proofs.interval_row.Goals as goal
 
