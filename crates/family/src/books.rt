@@ -1,131 +1,172 @@
 // What is asked of books: pooled figures, and two books joined.
-use crate::{SHARES, show_bounds, show_cause};
+use crate::answer::{bounds_of, passed};
+use crate::checksum_of;
 use scheme::Scheme;
-use std::array;
 use std::io::Stdout;
+use std::{array, io};
 
-// The count of a class, by the kinds of the format.
-fn count(kind: u8, class: u8, classes: u8, start: u8, number: u64, beyond: u32) -> u32 {
-    if classes < class {
-        return beyond;
-    }
-    if kind == 0 {
-        return if class == start { 1 } else { 0 };
-    }
-    if kind == 2 {
-        return 1_000_000;
-    }
-    if kind == 3 && class == classes {
-        return 1_000_001;
-    }
-    if kind == 4 {
-        return 0;
-    }
-    let mixed = (618_033 * u64::from(class) + 271_828 * (number % 1_000_000_000)) % 1_000_001;
-    mixed as u32
+// A kind of book.
+#[derive(Clone, Copy)]
+enum Kind {
+    // One policy, in the start class.
+    Start,
+    // Mixed counts.
+    Mixed,
+    // As many policies in each class as there may be.
+    Most,
+    // Mixed counts, but one too large at the last class.
+    TooLarge,
+    // No policies.
+    Empty,
 }
 
-// The counts of all classes.
-fn counts(kind: u8, classes: u8, start: u8, number: u64, beyond: u32) -> [u32; 32] {
-    array::from_fn(|i| count(kind, i as u8 + 1, classes, start, number, beyond))
+impl Kind {
+    // The number by which the lines name the kind.
+    fn number(self) -> u8 {
+        self as u8
+    }
+
+    // The count of a class of the scheme.
+    fn of_class(self, class: u8, scheme: Scheme, number: u64) -> u32 {
+        let mixed = (618_033 * u64::from(class) + 271_828 * (number % 1_000_000_000)) % 1_000_001;
+        match self {
+            Kind::Start => u32::from(class == scheme.start),
+            Kind::Most => 1_000_000,
+            Kind::TooLarge if class == scheme.classes => 1_000_001,
+            Kind::Mixed | Kind::TooLarge => mixed as u32,
+            Kind::Empty => 0,
+        }
+    }
+
+    // The counts of all classes, and one beyond s.
+    fn book(self, scheme: Scheme, number: u64, beyond: u32) -> [u32; 32] {
+        array::from_fn(|i| {
+            let class = i as u8 + 1;
+            if scheme.classes < class {
+                return beyond;
+            }
+            self.of_class(class, scheme, number)
+        })
+    }
 }
 
 // The pooled share of class s, the pooled mean and the pooled total of a year.
-fn pooled(stdout: Stdout, scheme: Scheme, kind: u8, book: [u32; 32], year: u64) {
-    console::word(stdout, b"POOLED", u64::from(kind));
-    console::number(stdout, year);
-    show_bounds(
-        stdout,
-        bounds::pooled_share(scheme, book, u64::from(scheme.classes), year),
-    );
-    show_bounds(stdout, bounds::pooled_mean(scheme, book, year));
-    show_bounds(stdout, bounds::pooled_total(scheme, book, year));
-    console::end(stdout);
+fn pooled(
+    stdout: Stdout,
+    scheme: Scheme,
+    kind: Kind,
+    book: [u32; 32],
+    year: u64,
+) -> io::Result<()> {
+    let last = u64::from(scheme.classes);
+    let share = bounds_of(bounds::pooled_share(scheme, book, last, year));
+    let mean = bounds_of(bounds::pooled_mean(scheme, book, year));
+    let total = bounds_of(bounds::pooled_total(scheme, book, year));
+    println!(stdout; "POOLED {} {year} {share} {mean} {total}", kind.number())
 }
 
 // A pooled share sheet into two slices.
 fn pooled_sheet(
     stdout: Stdout,
     scheme: Scheme,
-    kind: u8,
+    kind: Kind,
     book: [u32; 32],
     year: u64,
     low: &mut [u64],
     high: &mut [u64],
-) {
-    console::word(stdout, b"POOLSHARES", u64::from(kind));
-    console::number(stdout, year);
-    show_cause(
-        stdout,
-        bounds::pooled_share_sheet(scheme, book, year, low, high),
-    );
-    console::number(stdout, crate::checksum_of(low));
-    console::number(stdout, crate::checksum_of(high));
-    console::end(stdout);
+) -> io::Result<()> {
+    let answer = passed(bounds::pooled_share_sheet(scheme, book, year, low, high));
+    println!(stdout;
+        "POOLSHARES {} {year} {answer} {} {}",
+        kind.number(),
+        checksum_of(low),
+        checksum_of(high)
+    )
 }
 
-// A pooled share sheet into slices of a and b numbers.
+// A pooled share sheet into slices of a and b numbers, at most one more than the most classes.
 fn pooled_into(
     stdout: Stdout,
     scheme: Scheme,
-    kind: u8,
+    kind: Kind,
     book: [u32; 32],
     year: u64,
     a: usize,
     b: usize,
-) {
+) -> io::Result<()> {
     let mut low = [7u64; 33];
     let mut high = [7u64; 33];
-    if a <= SHARES && b <= SHARES {
-        pooled_sheet(
-            stdout,
-            scheme,
-            kind,
-            book,
-            year,
-            &mut low[..a],
-            &mut high[..b],
-        );
-    }
-}
-
-// What is asked of a book in a year.
-fn of_year(stdout: Stdout, scheme: Scheme, kind: u8, book: [u32; 32], year: u64) {
-    pooled(stdout, scheme, kind, book, year);
-    let s = usize::from(scheme.classes);
-    pooled_into(stdout, scheme, kind, book, year, s, s);
-    pooled_into(stdout, scheme, kind, book, year, s, s + 1);
+    pooled_sheet(
+        stdout,
+        scheme,
+        kind,
+        book,
+        year,
+        &mut low[..a.min(33)],
+        &mut high[..b.min(33)],
+    )
 }
 
 // What is asked of a kind of book, with a count beyond s that no class may have.
-fn of_kind(stdout: Stdout, scheme: Scheme, number: u64, kind: u8) {
-    let book = counts(kind, scheme.classes, scheme.start, number, 4_294_967_295);
+fn of_kind(stdout: Stdout, scheme: Scheme, number: u64, kind: Kind) -> io::Result<()> {
+    let book = kind.book(scheme, number, 4_294_967_295);
     let horizon = u64::from(scheme.horizon);
+    let s = usize::from(scheme.classes);
     for year in [1, horizon, horizon + 1] {
-        of_year(stdout, scheme, kind, book, year);
+        pooled(stdout, scheme, kind, book, year)?;
+        pooled_into(stdout, scheme, kind, book, year, s, s)?;
+        pooled_into(stdout, scheme, kind, book, year, s, s + 1)?;
     }
+    Ok(())
 }
 
-// Two kinds of book joined, with a count beyond s.
-fn joined(stdout: Stdout, scheme: Scheme, number: u64, first: u8, second: u8, beyond: u32) {
-    console::word(stdout, b"JOIN", u64::from(first));
-    console::number(stdout, u64::from(second));
-    let one = counts(first, scheme.classes, scheme.start, number, beyond);
-    let other = counts(second, scheme.classes, scheme.start, number, beyond);
-    let answer = book::join(one, other);
-    show_cause(stdout, answer.number);
-    let sums = answer.book;
-    console::number(stdout, crate::checksum_of(&sums));
-    console::end(stdout);
+// Two kinds of book joined, with a count beyond s; where they are not joined the checksum is that of zeros.
+fn joined(
+    stdout: Stdout,
+    scheme: Scheme,
+    number: u64,
+    first: Kind,
+    second: Kind,
+    beyond: u32,
+) -> io::Result<()> {
+    let one = first.book(scheme, number, beyond);
+    let other = second.book(scheme, number, beyond);
+    let joined = book::join(one, other);
+    let sums = joined.unwrap_or([0; 32]);
+    println!(stdout;
+        "JOIN {} {} {} {}",
+        first.number(),
+        second.number(),
+        passed(joined),
+        checksum_of(&sums)
+    )
 }
 
 // All kinds of book, and some of them joined.
-pub fn books(stdout: Stdout, scheme: Scheme, number: u64) {
-    for kind in 0..5 {
-        of_kind(stdout, scheme, number, kind);
+pub fn books(stdout: Stdout, scheme: Scheme, number: u64) -> io::Result<()> {
+    for kind in [
+        Kind::Start,
+        Kind::Mixed,
+        Kind::Most,
+        Kind::TooLarge,
+        Kind::Empty,
+    ] {
+        of_kind(stdout, scheme, number, kind)?;
     }
-    for (first, second) in [(0, 1), (1, 1), (2, 4), (2, 0)] {
-        joined(stdout, scheme, number, first, second, 0);
+    for (first, second) in [
+        (Kind::Start, Kind::Mixed),
+        (Kind::Mixed, Kind::Mixed),
+        (Kind::Most, Kind::Empty),
+        (Kind::Most, Kind::Start),
+    ] {
+        joined(stdout, scheme, number, first, second, 0)?;
     }
-    joined(stdout, scheme, number, 4, 4, 4_294_967_295);
+    joined(
+        stdout,
+        scheme,
+        number,
+        Kind::Empty,
+        Kind::Empty,
+        4_294_967_295,
+    )
 }
