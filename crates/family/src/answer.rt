@@ -32,3 +32,8 @@ pub fn passed<T: Copy>(answer: Result<T, Cause>) -> Answer<0> {
 pub fn bounds_of(answer: Result<Bounds, Cause>) -> Answer<2> {
     Answer(answer.map(|bounds| [bounds.low, bounds.high]))
 }
+
+// The length of what a call wrote. By `as`: there is no `From` between `usize` and `u64`.
+pub fn length_of(answer: Result<usize, Cause>) -> Answer<1> {
+    Answer(answer.map(|length| [length as u64]))
+}

@@ -1,6 +1,6 @@
 // What is asked of books: pooled figures, and two books joined.
 use crate::answer::{bounds_of, passed};
-use crate::checksum_of;
+use crate::{SHARES, checksum_of};
 use scheme::Scheme;
 use std::io::Stdout;
 use std::{array, io};
@@ -65,27 +65,8 @@ fn pooled(
     println!(stdout; "POOLED {} {year} {share} {mean} {total}", kind.number())
 }
 
-// A pooled share sheet into two slices.
+// A pooled share sheet into slices of a and b numbers, at most one more than there can be classes.
 fn pooled_sheet(
-    stdout: Stdout,
-    scheme: Scheme,
-    kind: Kind,
-    book: [u32; 32],
-    year: u64,
-    low: &mut [u64],
-    high: &mut [u64],
-) -> io::Result<()> {
-    let answer = passed(bounds::pooled_share_sheet(scheme, book, year, low, high));
-    println!(stdout;
-        "POOLSHARES {} {year} {answer} {} {}",
-        kind.number(),
-        checksum_of(low),
-        checksum_of(high)
-    )
-}
-
-// A pooled share sheet into slices of a and b numbers, at most one more than the most classes.
-fn pooled_into(
     stdout: Stdout,
     scheme: Scheme,
     kind: Kind,
@@ -94,16 +75,16 @@ fn pooled_into(
     a: usize,
     b: usize,
 ) -> io::Result<()> {
-    let mut low = [7u64; 33];
-    let mut high = [7u64; 33];
-    pooled_sheet(
-        stdout,
-        scheme,
-        kind,
-        book,
-        year,
-        &mut low[..a.min(33)],
-        &mut high[..b.min(33)],
+    let mut lows = [7u64; SHARES];
+    let mut highs = [7u64; SHARES];
+    let low = &mut lows[..a.min(SHARES)];
+    let high = &mut highs[..b.min(SHARES)];
+    let answer = passed(bounds::pooled_share_sheet(scheme, book, year, low, high));
+    let kind = kind.number();
+    println!(stdout;
+        "POOLSHARES {kind} {year} {answer} {} {}",
+        checksum_of(low),
+        checksum_of(high)
     )
 }
 
@@ -114,8 +95,8 @@ fn of_kind(stdout: Stdout, scheme: Scheme, number: u64, kind: Kind) -> io::Resul
     let s = usize::from(scheme.classes);
     for year in [1, horizon, horizon + 1] {
         pooled(stdout, scheme, kind, book, year)?;
-        pooled_into(stdout, scheme, kind, book, year, s, s)?;
-        pooled_into(stdout, scheme, kind, book, year, s, s + 1)?;
+        pooled_sheet(stdout, scheme, kind, book, year, s, s)?;
+        pooled_sheet(stdout, scheme, kind, book, year, s, s + 1)?;
     }
     Ok(())
 }

@@ -1,9 +1,9 @@
 // Prints the answers of every operation but the sheet's text on many records from standard input, each behind its length in two bytes,
 // and on ready schemes. What it must print was written by the plain Rust version (rust/regenerate); rust/trials/src/bin/family.rs
-// describes the lines. Lengths are widened by `as`: there is no `From` between `usize` and `u64`.
+// describes the lines.
 #![tactic(auto)]
 
-use answer::{Answer, bounds_of, passed};
+use answer::{Answer, bounds_of, length_of, passed};
 use payoffs::Payoff;
 use record_parts::{Band, Opened, Reader};
 use scheme::{Cause, Row, Scheme};
@@ -12,6 +12,9 @@ use std::io::Stdout;
 
 // The most bytes of a record, and five more.
 const ROOM: usize = 460;
+
+// One more than the most classes.
+const SHARES: usize = 33;
 
 mod answer;
 mod books;
@@ -67,27 +70,18 @@ fn reader(stdout: Stdout, bytes: &[u8]) -> io::Result<()> {
     println!(stdout)
 }
 
-// The record written in a version into a slice, and the length of what was written, if it was.
-fn write_into(
-    stdout: Stdout,
-    scheme: Scheme,
-    version: u64,
-    out: &mut [u8],
-) -> io::Result<Option<usize>> {
-    let written = record_write::write(scheme, version, out);
-    let answer = Answer(written.map(|length| [length as u64]));
-    println!(stdout;
-        "WRITE {version} {} {answer} {}",
-        out.len(),
-        console::checksum(out)
-    )?;
-    Ok(written.ok())
-}
-
 // The record written in a version into a room of n bytes, and the length of what was written, if it was.
 fn write(stdout: Stdout, scheme: Scheme, version: u64, n: usize) -> io::Result<Option<usize>> {
     let mut room = [170u8; ROOM];
-    write_into(stdout, scheme, version, &mut room[..n.min(ROOM)])
+    let out = &mut room[..n.min(ROOM)];
+    let written = record_write::write(scheme, version, out);
+    println!(stdout;
+        "WRITE {version} {} {} {}",
+        out.len(),
+        length_of(written),
+        console::checksum(out)
+    )?;
+    Ok(written.ok())
 }
 
 // The checksums of a row's lower and upper entries.
@@ -139,32 +133,17 @@ fn of_class(stdout: Stdout, scheme: Scheme, number: u64, class: u64) -> io::Resu
     Ok(())
 }
 
-// A share sheet into two slices.
-fn share_sheet(
-    stdout: Stdout,
-    scheme: Scheme,
-    year: u64,
-    low: &mut [u64],
-    high: &mut [u64],
-) -> io::Result<()> {
+// A share sheet into slices of a and b numbers, at most one more than there can be classes.
+fn share_sheet(stdout: Stdout, scheme: Scheme, year: u64, a: usize, b: usize) -> io::Result<()> {
+    let mut lows = [7u64; SHARES];
+    let mut highs = [7u64; SHARES];
+    let low = &mut lows[..a.min(SHARES)];
+    let high = &mut highs[..b.min(SHARES)];
     let answer = passed(bounds::share_sheet(scheme, year, low, high));
     println!(stdout;
         "SHARES {year} {answer} {} {}",
         checksum_of(low),
         checksum_of(high)
-    )
-}
-
-// A share sheet into slices of a and b numbers, at most one more than the most classes.
-fn sheet_into(stdout: Stdout, scheme: Scheme, year: u64, a: usize, b: usize) -> io::Result<()> {
-    let mut low = [7u64; 33];
-    let mut high = [7u64; 33];
-    share_sheet(
-        stdout,
-        scheme,
-        year,
-        &mut low[..a.min(33)],
-        &mut high[..b.min(33)],
     )
 }
 
@@ -174,7 +153,7 @@ fn of_year(stdout: Stdout, scheme: Scheme, year: u64) -> io::Result<()> {
     println!(stdout; "TOTAL {year} {}", bounds_of(bounds::total(scheme, year)))?;
     let s = usize::from(scheme.classes);
     for (a, b) in [(s, s), (s, s + 1), (s / 2, s)] {
-        sheet_into(stdout, scheme, year, a, b)?;
+        share_sheet(stdout, scheme, year, a, b)?;
     }
     Ok(())
 }
@@ -239,8 +218,7 @@ fn of_ready(stdout: Stdout, scheme: Scheme) -> io::Result<()> {
     let mut out = [0u8; 455];
     let written = record_write::write(scheme, 1, &mut out);
     let bytes = console::front(&out, written.unwrap_or(0));
-    let answer = Answer(written.map(|length| [length as u64]));
-    print!(stdout; " {answer} {}", console::checksum(bytes))?;
+    print!(stdout; " {} {}", length_of(written), console::checksum(bytes))?;
     label(stdout, scheme)?;
     println!(stdout)?;
     rules(stdout, bytes, 1)?;
