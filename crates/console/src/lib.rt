@@ -67,10 +67,7 @@ pub fn read_all(
 pub fn front(text: &[u8], n: usize) -> &[u8]
     ensures { result.now ≡ take n text.now }
 {
-    if text.len() < n {
-        return text;
-    }
-    &text[..n]
+    text.get(..n).unwrap_or(text)
 }
 
 // The record that stands behind its length in two bytes, or as much of it as the input has.
