@@ -32,30 +32,27 @@ pub fn check(bytes: &[u8]) -> Result<(), Cause>
 pub fn other_version(version: u64) -> bool
     ensures { result ≡ other_version version }
 {
-    if version == 1 {
-        return false;
-    }
-    version != 2
+    !matches!(version, 1 | 2)
 }
 
 // The header's length in a version: the rules start there.
 pub fn header_length(version: u64) -> usize
     ensures { result ≡ header_length (layout_of version) }
 {
-    if version == 2 {
-        return record_spec::LABEL_HEADER;
+    match version {
+        2 => record_spec::LABEL_HEADER,
+        _ => record_spec::HEADER,
     }
-    record_spec::HEADER
 }
 
 // How many bytes a premium has in a version.
 pub fn premium_width(version: u64) -> usize
     ensures { result ≡ (layout_of version).width }
 {
-    if version == 2 {
-        return record_spec::LABEL_PREMIUM_WIDTH;
+    match version {
+        2 => record_spec::LABEL_PREMIUM_WIDTH,
+        _ => record_spec::PREMIUM_WIDTH,
     }
-    record_spec::PREMIUM_WIDTH
 }
 
 // The length of a record of a version, of s classes and m columns.

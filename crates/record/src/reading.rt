@@ -1,9 +1,9 @@
 // A scheme read from the bytes of a record, part by part.
-ghost use Rattle.std.specs.Prelude.{◌≡◌, ◌+◌, ◌*◌, ◌<◌, ◌≤◌, length, get_or, replicate};
+ghost use Rattle.std.specs.Prelude.{◌≡◌, ◌+◌, ◌*◌, ◌<◌, ◌≤◌, length, get_or};
 ghost use Rattle.scheme.specs.Access.{CELL_PLACES};
 ghost use Rattle.scheme.specs.Tables.{tab};
 ghost use Rattle.big_endian_spec.specs.Numbers.{be_at};
-ghost use Rattle.scheme.specs.Stored.{up_to, rules_up_to};
+ghost use Rattle.scheme.specs.Stored.{rules_up_to};
 ghost use Rattle.scheme.specs.FirstCause.{◌when◌};
 ghost use Rattle.scheme.specs.Number.{number_in};
 ghost use Rattle.record_spec.specs.Layout.{HEADER, layout_in, header_length, columns_in, scheme_in};
@@ -86,13 +86,13 @@ fn rules(bytes: &[u8], from: usize, s: usize, m: usize) -> [u8; 256]
     rules
 }
 
-// Fills the first n places of a slice of 0 with numbers of `width` bytes, one every `stride` bytes from place `from` on.
-fn read_numbers(bytes: &[u8], from: usize, width: usize, stride: usize, out: &mut [u32], n: usize)
-    requires { (from + n * stride + width ≤ length bytes.now + stride) × (width ≤ 4) × (stride ≤ 8) × (n ≤ length out.old) × (out.old ≡ replicate (length out.old) 0) }
-    ensures { out.new ≡ tab (length out.old) (up_to n (λ k. be_at width bytes.now (from + k * stride))) }
+// Fills a slice with numbers of `width` bytes, one every `stride` bytes from place `from` on.
+fn read_numbers(bytes: &[u8], from: usize, width: usize, stride: usize, out: &mut [u32])
+    requires { (from + length out.old * stride + width ≤ length bytes.now + stride) × (width ≤ 4) × (stride ≤ 8) }
+    ensures { out.new ≡ tab (length out.old) (λ k. be_at width bytes.now (from + k * stride)) }
 {
-    for k in 0..n {
-        out[k] = big_endian::number_at(bytes, from + k * stride, width);
+    for (k, number) in out.iter_mut().enumerate() {
+        *number = big_endian::number_at(bytes, from + k * stride, width);
     }
 }
 
@@ -114,18 +114,17 @@ pub fn parsed(bytes: &[u8]) -> Scheme
     let money = bands + m * BAND_WIDTH;
     let rules = rules(bytes, header, s, m);
     let mut lowers = [0u32; 8];
-    read_numbers(bytes, bands, END_WIDTH, BAND_WIDTH, &mut lowers, m);
+    read_numbers(bytes, bands, END_WIDTH, BAND_WIDTH, &mut lowers[..m]);
     let mut uppers = [0u32; 8];
     read_numbers(
         bytes,
         bands + END_WIDTH,
         END_WIDTH,
         BAND_WIDTH,
-        &mut uppers,
-        m,
+        &mut uppers[..m],
     );
     let mut premiums = [0u32; 32];
-    read_numbers(bytes, money, width, width, &mut premiums, s);
+    read_numbers(bytes, money, width, width, &mut premiums[..s]);
     Scheme {
         classes,
         columns,

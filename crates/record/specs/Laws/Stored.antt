@@ -1,8 +1,9 @@
 -- Arrays filled entry by entry or row by row, with 0 beyond what is filled.
-use Rattle.std.specs.Prelude.{ℕ, ◌+◌, ◌*◌, ◌-◌, ◌/◌, ◌%◌, ◌≤◌, ◌<◌, ◌≡◌, List, length, get_or, replicate}
-use Rattle.std.proofs.Common.{ap, sym, ◌∙◌, ⊎_elim, arith}
+use Rattle.std.specs.Prelude.{ℕ, ◌+◌, ◌*◌, ◌-◌, ◌/◌, ◌%◌, ◌≤◌, ◌<◌, ◌≡◌, List, ◌++◌, length, get_or, take, drop, replicate}
+use Rattle.std.proofs.Common.{ap, sym, ◌∙◌, ⊎_elim, arith, length-append, length-drop, length-take-le, get_or-append-add, get_or-drop}
 use Rattle.std.proofs.lemmas.List.{length-replicate, get_or-replicate}
 use Rattle.std.proofs.lemmas.List.Edits.{sets}
+use Rattle.std.proofs.Math.ListN.{get_or-append}
 use Rattle.std.proofs.Math.Seq.{length-sets}
 use Rattle.scheme.specs.Access.{CELL_PLACES, CELL_STRIDE}
 use Rattle.scheme.specs.Tables.{tab}
@@ -11,6 +12,37 @@ use Rattle.scheme.proofs.Laws.Tab.{length_tab, get_d_tab, as_tab}
 use Rattle.scheme.proofs.Laws.Stored.{split, up_to_below, up_to_past}
 use Rattle.record.specs.Laws.Lists.{sets_below, sets_within, sets_past}
 pub use Rattle.scheme.proofs.Laws.Stored.{stored_none, stored_more}
+
+-- The first n entries of an array of 0, filled by a rule and laid back before the rest.
+pub stored_front : (size n : ℕ) (f : ℕ → ℕ) (front : List ℕ) → n ≤ size → front ≡ tab (length (take n (replicate {A = ℕ} size 0))) f
+    → front ++ drop n (replicate size 0) ≡ tab size (up_to n f)
+stored_front size n f front few filled =
+    as_tab 0 (front ++ rest) size (up_to n f) (length-append front rest ∙ omega (arith, as_many, length-drop n zeros, length-replicate {A = ℕ} size 0))
+    (λ k lt. ⊎_elim (within k) (beyond k lt) (split k n))
+  where
+    zeros : List ℕ
+    zeros = replicate size 0
+
+    rest : List ℕ
+    rest = drop n zeros
+
+    lent : length (take n zeros) ≡ n
+    lent = length-take-le n zeros (omega (arith, length-replicate {A = ℕ} size 0))
+
+    as_many : length front ≡ n
+    as_many = ap length filled ∙ length_tab (length (take n zeros)) f ∙ lent
+
+    within : (k : ℕ) → k < n → get_or (front ++ rest) k 0 ≡ up_to n f k
+    within k below =
+        get_or-append front rest 0 k (omega (arith, as_many)) ∙ ap (λ a. get_or a k 0) filled
+        ∙ get_d_tab (length (take n zeros)) f k 0 (omega (arith, lent)) ∙ sym (up_to_below n f k below)
+
+    beyond : (k : ℕ) → k < size → n ≤ k → get_or (front ++ rest) k 0 ≡ up_to n f k
+    beyond k lt past =
+        let place : k ≡ length front + (k - n) = omega (arith, as_many) in
+        let there : n + (k - n) ≡ k = omega arith in
+        ap (λ q. get_or (front ++ rest) q 0) place ∙ get_or-append-add front rest (k - n) 0 ∙ get_or-drop n zeros (k - n) 0
+        ∙ ap (λ q. get_or zeros q 0) there ∙ get_or-replicate size k 0 0 lt ∙ sym (up_to_past n f k past)
 
 -- An array of 0 has no row of rules.
 pub rows_none : (m : ℕ) (rule : ℕ → ℕ → ℕ) → replicate CELL_PLACES 0 ≡ tab CELL_PLACES (rules_up_to 0 m rule)

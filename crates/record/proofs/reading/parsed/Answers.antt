@@ -1,10 +1,13 @@
 -- `reading::parsed` meets its contract: the parts stand where the layout says.
 use Prim.Native.Nat.{ℕ, ◌+◌, ◌*◌, ◌≤◌}
-use mathlib.Core.Path.{◌≡◌, refl, ap}
+use mathlib.Core.Path.{◌≡◌, ap}
 use mathlib.Core.List.{List}
 use native.Mathlib.Omega.{arith}
 use native.Mathlib.Nat.{mul-le-mul}
-use lib.ListN.{length, get_or}
+use lib.ListN.{length, get_or, take}
+use Rattle.std.specs.Prelude.{replicate}
+use Rattle.std.proofs.Common.{length-take-le}
+use Rattle.std.proofs.lemmas.List.{length-replicate}
 use Rattle.scheme.specs.Access.{CELL_PLACES, BAND_PLACES}
 use Rattle.scheme.specs.declared.Scheme.{Scheme}
 use Rattle.scheme.specs.Tables.{tab}
@@ -15,6 +18,7 @@ use Rattle.record_spec.specs.Frame.{Framed}
 use Rattle.record_spec.proofs.Laws.Layout.{further_most, width_most}
 use Rattle.scheme.proofs.Laws.Tab.{tab_eq}
 use Rattle.scheme.proofs.Laws.Stored.{up_to_eq}
+use Rattle.record.specs.Laws.Stored.{stored_front}
 use Rattle.record.proofs.reading.parsed.Goals as goal
 
 -- An upper end stands behind the lower end.
@@ -51,11 +55,14 @@ placed bytes {version = version} framed rows columns is h w = (
 pub read_numbers-requires-3 : goal.read_numbers-requires-3
 read_numbers-requires-3 c =
     let places = placed c.args.bytes.now c.requires c.from-s.ensures c.from-m.ensures c.from-version.ensures c.header_length-header.ensures c.premium_width-width.ensures in
-    (omega (arith, places), omega (arith, places), omega (arith, places), omega (arith, places), refl)
+    let lent : length (take c.from-s.result (replicate {A = ℕ} 32 0)) ≡ c.from-s.result = length-take-le c.from-s.result (replicate {A = ℕ} 32 0) (omega (arith, places, length-replicate {A = ℕ} 32 0)) in
+    (rw lent (omega (arith, places)), omega (arith, places), omega (arith, places))
 
 pub returns : goal.returns
 returns c =
     made c.args.bytes.now c.from-s.ensures c.from-m.ensures c.from-version.ensures
     c.header_length-header.ensures c.premium_width-width.ensures
-    c.rules-rules.ensures c.read_numbers.ensures c.read_numbers-2.ensures
-    c.read_numbers-3.ensures
+    c.rules-rules.ensures
+    (stored_front BAND_PLACES _ _ _ (omega (arith, c.requires.columns, c.from-m.ensures)) c.read_numbers.ensures)
+    (stored_front BAND_PLACES _ _ _ (omega (arith, c.requires.columns, c.from-m.ensures)) c.read_numbers-2.ensures)
+    (stored_front 32 _ _ _ (omega (arith, c.requires.classes, c.from-s.ensures)) c.read_numbers-3.ensures)
