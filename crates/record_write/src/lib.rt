@@ -22,6 +22,6 @@ pub fn write(scheme: Scheme, version: u64, out: &mut [u8]) -> Result<usize, Caus
     if out.len() < size {
         return Err(Cause::Slice);
     }
-    parts::whole(scheme, version, out, size);
+    parts::whole(scheme, version, &mut out[..size]);
     Ok(size)
 }

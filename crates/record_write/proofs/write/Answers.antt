@@ -1,5 +1,5 @@
 -- `write` meets its contract: the version's cause, the scheme's, the slice's, or the record.
-use Rattle.std.proofs.Common.{◌≡◌, false, ap, sym, ◌∙◌, arith}
+use Rattle.std.proofs.Common.{◌≡◌, false, ◌++◌, length, take, drop, ap, sym, ◌∙◌, arith, length-take-le}
 use Rattle.scheme.proofs.Laws.Judged.{accepted_cause}
 use Rattle.scheme.proofs.Laws.Number.{cause_some, passed_whole}
 use Rattle.record_spec.specs.Layout.{other_version}
@@ -34,12 +34,14 @@ returns-then-out-size c =
 
 pub whole-requires : goal.whole-requires
 whole-requires c =
-    ((accepted_cause _ (sym c.in_ok-check.ensures)).size, sym c.other_version.ensures ∙ c.if-other_version.false, c.length_of-size.ensures, omega arith)
+    let cut : length (take c.length_of-size.result c.args.out.now) ≡ c.length_of-size.result = length-take-le c.length_of-size.result c.args.out.now (omega arith) in
+    ((accepted_cause _ (sym c.in_ok-check.ensures)).size, sym c.other_version.ensures ∙ c.if-other_version.false, cut ∙ c.length_of-size.ensures)
 
 pub returns : goal.returns
 returns c =
     let a = c.args in
     let known : other_version a.version ≡ false = sym c.other_version.ensures ∙ c.if-other_version.false in
     let all = keeps a.scheme a.version a.out.now
-    (written a.scheme a.version a.out.now known (sym c.in_ok-check.ensures) c.length_of-size.ensures (omega arith) c.whole.ensures) in
+    (written a.scheme a.version a.out.now known (sym c.in_ok-check.ensures) c.length_of-size.ensures (omega arith)
+    (ap (λ l. l ++ drop c.length_of-size.result a.out.now) c.whole.ensures)) in
     record { answer = all.0; leaves = all.1.0; promise = all.1.1 }

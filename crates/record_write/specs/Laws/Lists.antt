@@ -1,12 +1,13 @@
 -- Laws of lists that a record is laid by: four lists, tables, and lists laid one after another.
 use Rattle.std.specs.Prelude.{ℕ, zero, suc, ◌+◌, ◌*◌, ◌≤◌, ◌<◌, ◌≡◌, refl, List, ◌++◌, length, get_or, take, drop}
-use Rattle.std.proofs.Common.{ap, sym, ◌∙◌, ⊎_elim, arith, add-one, mul-le-mul_right, eq-or-lt_of_le, suc-mul, length-append, get_or-append-add, take-add, drop-drop}
+use Rattle.std.proofs.Common.{ap, sym, ◌∙◌, ⊎_elim, arith, add-one, mul-le-mul_right, eq-or-lt_of_le, suc-mul, length-append, get_or-append-add, get_or-take, length-take-le, take-add, drop-drop}
 use Rattle.std.proofs.Math.ListN.{get_or-append}
 use Rattle.std.proofs.lemmas.List.Edits.{sets}
 use Rattle.scheme.specs.Tables.{tab}
 use Rattle.scheme.proofs.Laws.Tab.{as_tab}
 use Rattle.big_endian_spec.proofs.Laws.{sets_append}
 use Rattle.record_spec.specs.Joined.{joined}
+use Rattle.record_spec.proofs.Laws.Joined.{joined_eq}
 use Rattle.record.specs.Laws.Lists.{part_length, part_at}
 
 -- Four lists, each laid where the last one ends.
@@ -59,6 +60,12 @@ get_d_joined w (suc n) f h i k lt kw =
   where
     before : length (joined n f) ≡ n * w
     before = length_joined w n f (λ j l. h j (omega arith))
+
+-- Lists by the entries of a front, one after another, are those by the first entries of the whole.
+pub joined_take : (n : ℕ) (f : ℕ → List ℕ) (l : List ℕ) → n ≤ length l → joined (length (take n l)) (λ i. f (get_or (take n l) i 0)) ≡ joined n (λ i. f (get_or l i 0))
+joined_take n f l fits =
+    ap (λ k. joined k (λ i. f (get_or (take n l) i 0))) (length-take-le n l fits)
+    ∙ joined_eq n _ _ (λ i lt. ap f (get_or-take n l i 0 lt))
 
 -- One more list laid after those that are there.
 pub join_more : (w : ℕ) (f : ℕ → List ℕ) (l : List ℕ) (at i : ℕ) → ((j : ℕ) → j < i → length (f j) ≡ w)

@@ -1,10 +1,9 @@
 -- `parts::premiums` meets its contract: the premiums passed stand at the head of the loop.
-use Prim.Native.Nat.{suc, ◌≤◌, ◌<◌, ◌+◌, ◌*◌}
+use Prim.Native.Nat.{suc, ◌≤◌, ◌+◌, ◌*◌}
 use mathlib.Core.Path.{◌∙◌}
 use native.Mathlib.Omega.{arith}
 use native.Mathlib.Nat.{mul-le-mul_right}
-use lib.ListN.{length, length-take}
-use Rattle.std.proofs.lemmas.List.{get_or-take}
+use lib.ListN.{length}
 use Rattle.record_write.specs.Laws.Lists.{join_none, join_more}
 use Rattle.big_endian_spec.proofs.Laws.{length_be_bytes, put_held}
 use Rattle.record_write.proofs.parts.premiums.Goals as goal
@@ -16,10 +15,8 @@ pub loop-j-preserved : goal.loop-j-preserved
 loop-j-preserved c =
     let start = c.args in
     let turn = c.loop-j in
-    let inside : turn.j < start.s = omega (arith, c.loop-j-test.true, length-take start.s start.premiums.now) in
-    let room : start.from + turn.j * start.width + start.width ≤ length turn.out = let more : suc turn.j ≤ start.s = omega arith in
+    let room : start.from + turn.j * start.width + start.width ≤ length turn.out = let more : suc turn.j ≤ length start.premiums.now = omega arith in
     omega (arith, turn.auto.out, mul-le-mul_right start.width more) in
     c.put_number.ensures
     ∙ put_held start.width turn.out (start.from + turn.j * start.width) _ room
-    ∙ rw (turn.invariant, get_or-take start.s start.premiums.now turn.j 0 inside)
-    (join_more start.width _ start.out.now start.from turn.j (λ i lt. length_be_bytes start.width _))
+    ∙ rw turn.invariant (join_more start.width _ start.out.now start.from turn.j (λ i lt. length_be_bytes start.width _))
