@@ -1,3 +1,4 @@
--- Laws over plain lists, which the functions' proofs cite.
+-- Laws over plain lists and matrices, which the functions' proofs cite.
 pub mod EntryLaws
+pub mod MatrixLaws
 pub mod RowLaws

@@ -5,6 +5,7 @@ ghost use Rattle.scheme.specs.Cause.{cause_of};
 ghost use Rattle.mixing_spec.specs.MixingAnswer.{scheme_edges};
 ghost use Rattle.mixing.specs.Bits.{bits_of, digit, Holds};
 
+use crate::matrix::Matrix;
 use scheme::Scheme;
 
 // 1 where an entry is above 0, and 0 where it is not.
@@ -39,14 +40,15 @@ fn class_edges(scheme: Scheme, class: u64) -> u32
 }
 
 // The edges of all classes, a row of bits for each.
-pub fn edges(scheme: Scheme) -> [u32; 32]
+pub fn edges(scheme: Scheme) -> Matrix
     requires { cause_of scheme ≡ 0 }
-    ensures { Holds scheme.classes result (scheme_edges scheme) }
+    ensures n { result.n ≡ scheme.classes }
+    ensures rows { Holds scheme.classes result.rows (scheme_edges scheme) }
 {
     let n = usize::from(scheme.classes);
-    let mut out = [0u32; 32];
-    for (i, row) in out[..n].iter_mut().enumerate() {
+    let mut rows = [0u32; 32];
+    for (i, row) in rows[..n].iter_mut().enumerate() {
         *row = class_edges(scheme, i as u64 + 1);
     }
-    out
+    Matrix { rows, n }
 }

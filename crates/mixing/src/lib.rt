@@ -15,6 +15,5 @@ pub fn mixing(scheme: Scheme) -> Result<u64, Cause>
     ensures { mixing_answer_of result ≡ mixing_answer scheme }
 {
     acceptance::check(scheme)?;
-    let n = usize::from(scheme.classes);
-    powers::first_count(edges::edges(scheme), n).ok_or(Cause::NotMixing)
+    powers::first_count(edges::edges(scheme)).ok_or(Cause::NotMixing)
 }

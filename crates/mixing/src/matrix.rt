@@ -1,4 +1,4 @@
-// Matrices of bits multiplied, and the test whether every bit is set.
+// A matrix of bits: its products, and the test whether every bit is set.
 ghost use Rattle.std.specs.Prelude.{◌≡◌, ◌≤◌, ◌<◌, eqb, length};
 ghost use Rattle.setchain.specs.Sums.{at, only_if};
 ghost use Rattle.setchain.specs.Tests.{all_below};
@@ -25,30 +25,41 @@ fn union(set: u32, rows: &[u32]) -> u32
     out
 }
 
-// The product of two matrices over n classes.
-pub fn product(first: [u32; 32], second: [u32; 32], n: usize) -> [u32; 32]
-    requires { n ≤ 32 }
-    ensures { Filled 32 (λ i. union_of n (at first i) (at second)) n result }
-{
-    let mut out = [0u32; 32];
-    for (i, row) in out[..n].iter_mut().enumerate() {
-        *row = union(first[i], &second[..n]);
-    }
-    out
-}
-
 // A row with n bits set.
-pub fn all_bits(n: usize) -> u32
+fn all_bits(n: usize) -> u32
     requires { n ≤ 32 }
     ensures { result ≡ all_bits n }
 {
     ((1u64 << n) - 1) as u32
 }
 
-// Whether each of n rows is the one given.
-pub fn all_rows(matrix: [u32; 32], n: usize, row: u32) -> bool
-    requires { n ≤ 32 }
-    ensures { result ≡ all_below n (λ i. eqb (at matrix i) row) }
-{
-    matrix[..n].iter().all(|own| *own == row)
+// A matrix of bits over n classes: the first n rows are its own.
+#[derive(Clone, Copy)]
+pub struct Matrix {
+    pub rows: [u32; 32],
+    pub n: usize,
+    ghost few: { n ≤ 32 },
+}
+
+impl Matrix {
+    // The product with a matrix over as many classes.
+    pub fn product(&self, other: &Matrix) -> Matrix
+        ensures n { result.n ≡ self.now.n }
+        ensures rows { Filled 32 (λ i. union_of self.now.n (at self.now.rows i) (at other.now.rows)) self.now.n result.rows }
+    {
+        let n = self.n;
+        let mut rows = [0u32; 32];
+        for (i, row) in rows[..n].iter_mut().enumerate() {
+            *row = union(self.rows[i], &other.rows[..n]);
+        }
+        Matrix { rows, n }
+    }
+
+    // Whether every bit is set.
+    pub fn is_full(&self) -> bool
+        ensures { result ≡ all_below self.now.n (λ i. eqb (at self.now.rows i) (all_bits self.now.n)) }
+    {
+        let full = all_bits(self.n);
+        self.rows[..self.n].iter().all(|row| *row == full)
+    }
 }

@@ -10,8 +10,8 @@ use Rattle.mixing.specs.Laws.Edges.{classes_few}
 use Rattle.mixing.proofs.RowLaws.{lent_none, lent_all}
 use Rattle.mixing.proofs.edges.edges.Goals as goal
 
-pub slice_bounds-out-end : goal.slice_bounds-out-end
-slice_bounds-out-end c = omega (arith, classes_few c.args.scheme c.requires)
+pub slice_bounds-rows-end : goal.slice_bounds-rows-end
+slice_bounds-rows-end c = omega (arith, classes_few c.args.scheme c.requires)
 
 pub slice_bounds-row-items-end : goal.slice_bounds-row-items-end
 slice_bounds-row-items-end c = let few : c.from-n.result ≤ 32 = omega (arith, classes_few c.args.scheme c.requires) in sym (front_lent _ few)
@@ -29,4 +29,4 @@ pub returns : goal.returns
 returns c =
     let few : c.from-n.result ≤ 32 = omega (arith, classes_few c.args.scheme c.requires) in
     let filled = lent_all few (omega arith) c.loop-i.invariant in
-    record { rows = λ i l. filled.done i (omega (arith, l)) }
+    record { n = c.from-n.ensures; rows = record { rows = λ i l. filled.done i (omega (arith, l)) } }
