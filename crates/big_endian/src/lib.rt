@@ -1,5 +1,6 @@
 // Numbers in lent bytes, big-endian, read and put at any place, and bytes copied from one slice to another.
 // Where the bytes do not hold them, 0 is read, and what is to be put or copied leaves the bytes as they were.
+// `as` stands where there is no `From`: between `usize` and another width, and where a number is proved to fit a narrower one.
 #![tactic(auto)]
 
 ghost use Rattle.std.specs.Prelude.{◌≡◌, ◌+◌, leb};
@@ -49,6 +50,7 @@ pub fn put_number(out: &mut [u8], at: usize, width: usize, x: u32)
     }
 }
 
+// n stands beside the slices, since the promise (`part_put`) is for every place and number, where they are too short as well.
 // Copies n bytes to place `to`, or leaves the bytes as they were where either slice does not hold so many.
 pub fn copy(from: &[u8], at: usize, out: &mut [u8], to: usize, n: usize)
     ensures { out.new ≡ part_put n from.now at out.old to }

@@ -1,4 +1,5 @@
 // Opening books: the cause for which a book is not pooled, and two books joined (document 02, item 7).
+// `as` stands where there is no `From`: between `usize` and another width, and where a number is proved to fit a narrower one.
 #![tactic(auto)]
 
 ghost use Rattle.std.specs.Prelude.{◌≡◌};

@@ -1,4 +1,5 @@
 // The entries of all interval rows, listed by the class that they lead to: a year then passes each of them once, along the order of the payoffs.
+// `as` stands where there is no `From`: between `usize` and another width, and where a number is proved to fit a narrower one.
 ghost use Rattle.std.specs.Prelude.{◌≡◌, ◌+◌, length};
 ghost use Rattle.setchain.specs.Sums.{sum_to};
 ghost use Rattle.setchain.specs.Rows.{ONE, lists_row};

@@ -1,4 +1,5 @@
 // Opening books pooled: the mean of the figures of all classes, weighed by how many chambers begin in each (document 02, item 7).
+// `as` stands where there is no `From`: between `usize` and another width, and where a number is proved to fit a narrower one.
 ghost use Rattle.std.specs.Prelude.{◌≡◌, false, true};
 ghost use Rattle.setchain.specs.Sums.{at};
 ghost use Rattle.setchain.specs.Pooled.{pooled_figure};

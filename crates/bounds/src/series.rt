@@ -1,4 +1,5 @@
 // The start class's figures (document 01, "Years": "The answer is the start class's figure").
+// `as` stands where there is no `From`: between `usize` and another width, and where a number is proved to fit a narrower one.
 ghost use Rattle.std.specs.Prelude.{◌≡◌, false, true};
 ghost use Rattle.bounds.specs.Series.{ClassFiguresPost, SeriesPost, SeriesPre, start_figure};
 

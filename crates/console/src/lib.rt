@@ -33,6 +33,7 @@ fn fill(input: Stdin, buffer: &mut [u8]) -> Result<usize, ReadFailed>
     ensures { ReadInto 0 buffer.old buffer.new (length_read result) }
 {
     let mut done: usize = 0;
+    // No index is counted: a turn goes on by as many bytes as its read brought.
     while done < buffer.len() {
         let Ok(count) = more(input, buffer, done) else {
             return Err(ReadFailed { length: done });

@@ -1,4 +1,5 @@
 // What is asked of books: pooled figures, and two books joined.
+// `as` stands where there is no `From`: between `usize` and another width, and where a number is proved to fit a narrower one.
 use crate::answer::{bounds_of, passed};
 use crate::{SHARES, checksum_of};
 use scheme::Scheme;

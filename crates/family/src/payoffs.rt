@@ -1,4 +1,5 @@
 // The kinds of payoff that steps are asked at.
+// `as` stands where there is no `From`: between `usize` and another width, and where a number is proved to fit a narrower one.
 use scheme::Scheme;
 use std::array;
 

@@ -36,7 +36,7 @@ fn put_step(
     Ok(())
 }
 
-// The low step's answer, or the high step's where `high` is true.
+// The low step's answer, or the high step's where `high` is true: a flag, and no function lent, since `StepCall` tells the side by it.
 fn answer_of(scheme: Scheme, payoff: [u64; 32], class: u64, high: bool) -> Result<Step, Cause>
     ensures { StepAnswered high scheme payoff class (step_answer_of result) }
 {

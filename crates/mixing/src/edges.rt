@@ -1,4 +1,5 @@
 // The edges of a scheme as bits: from class to class with a tight lower entry above 0.
+// `as` stands where there is no `From`: between `usize` and another width, and where a number is proved to fit a narrower one.
 ghost use Rattle.std.specs.Prelude.{◌≡◌, ◌-◌, ◌≤◌, ltb, length};
 ghost use Rattle.setchain.specs.Sums.{at};
 ghost use Rattle.scheme.specs.Cause.{cause_of};

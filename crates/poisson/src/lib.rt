@@ -1,4 +1,5 @@
 // The bands of two claim frequencies (document 02, item 10).
+// `as` stands where there is no `From`: between `usize` and another width, and where a number is proved to fit a narrower one.
 #![tactic(auto)]
 
 mod table;

@@ -1,4 +1,5 @@
 // The values of a claim frequency, one claim more at a time, and the ends of the bands that they make.
+// `as` stands where there is no `From`: between `usize` and another width, and where a number is proved to fit a narrower one.
 ghost use Rattle.std.specs.Prelude.{◌≡◌, suc, ◌-◌, ◌≤◌, ◌<◌};
 ghost use Rattle.setchain.specs.Rows.{ONE};
 ghost use Rattle.poisson_spec.specs.Values.{value};

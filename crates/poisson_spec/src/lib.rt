@@ -4,7 +4,7 @@
 // The largest claim frequency, in thousandths.
 pub const MOST_FREQUENCY: u64 = 1_000;
 
-// The bands of all columns: their lower and upper ends, 0 beyond the columns.
+// The bands of all columns: their lower and upper ends, 0 beyond the columns. Two arrays, since C lends a buffer for each.
 #[derive(Clone, Copy)]
 pub struct Bands {
     pub lower: [u32; 8],

@@ -1,4 +1,5 @@
 // The chance of having reached a class (document 02, item 9): the share of the class in the scheme in which nobody leaves it.
+// `as` stands where there is no `From`: between `usize` and another width, and where a number is proved to fit a narrower one.
 #![tactic(auto)]
 
 ghost use Rattle.std.specs.Prelude.{◌≡◌};

@@ -1,4 +1,5 @@
 // The ready schemes of document 01: number 1, 2 or 3, with premiums from a base.
+// `as` stands where there is no `From`: between `usize` and another width, and where a number is proved to fit a narrower one.
 #![tactic(auto)]
 
 ghost use Rattle.std.specs.Prelude.{◌≡◌, ◌/◌, ◌≤◌, ◌<◌};
@@ -46,7 +47,7 @@ const SCALE_3: [u32; 24] = [
     2416, 2609, 2837, 3111, 3148, 3435, 3953,
 ];
 
-// s, the number of classes.
+// s, the number of classes. Which of the three is told by its number, and by no enum: `ready` is promised of every number, and C gives one.
 fn classes_of(number: u64) -> u64
     ensures { result ≡ classes_of number }
 {

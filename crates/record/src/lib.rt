@@ -28,7 +28,7 @@ pub fn check(bytes: &[u8]) -> Result<(), Cause>
     acceptance::check(reading::parsed(bytes))
 }
 
-// Whether there is no such version.
+// Whether there is no such version. A version is a number, and no enum, here and below: what is promised holds of every number, and C gives one.
 pub fn other_version(version: u64) -> bool
     ensures { result ≡ other_version version }
 {

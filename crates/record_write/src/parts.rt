@@ -1,4 +1,5 @@
 // A record written into a lent slice, part by part.
+// `as` stands where there is no `From`: between `usize` and another width, and where a number is proved to fit a narrower one.
 ghost use Rattle.std.specs.Prelude.{◌≡◌, false, ◌+◌, ◌*◌, ◌≤◌, length, get_or};
 ghost use Rattle.std.proofs.lemmas.List.Edits.{sets};
 ghost use Rattle.scheme.specs.Accepted.{SizeFits};

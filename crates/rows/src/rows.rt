@@ -1,4 +1,5 @@
 // The parts of an interval row's answer.
+// `as` stands where there is no `From`: between `usize` and another width, and where a number is proved to fit a narrower one.
 ghost use Rattle.std.specs.Prelude.{◌≡◌, ◌-◌, ◌≤◌, Ok};
 ghost use Rattle.scheme.specs.Access.{CELL_STRIDE};
 ghost use Rattle.scheme.specs.RowAnswer.{row_answer_of};

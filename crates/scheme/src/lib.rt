@@ -109,7 +109,7 @@ pub struct Scheme {
     pub horizon: u8,
     // The next class: of class i and column k at (i - 1) * 8 + k.
     pub rules: [u8; 256],
-    // The lower end of each column's band, in parts.
+    // The lower end of each column's band, in parts. Two arrays, and not one of bands: `scheme_of` and all that is said of a scheme speak of them.
     pub lowers: [u32; 8],
     // The upper end of each column's band, in parts.
     pub uppers: [u32; 8],
@@ -117,7 +117,7 @@ pub struct Scheme {
     pub premiums: [u32; 32],
 }
 
-// The row of a class: the lower and upper entries, with 0 beyond s.
+// The row of a class: the lower and upper entries, with 0 beyond s. Two arrays, since C lends a buffer for each.
 #[derive(Clone, Copy)]
 pub struct Row {
     pub lower: [u64; 32],

@@ -1,4 +1,5 @@
 // A text in a lent slice, written word by word and number by number.
+// `as` stands where there is no `From`: between `usize` and another width, and where a number is proved to fit a narrower one.
 ghost use Rattle.std.specs.Prelude.{◌≡◌, ◌+◌, ◌*◌, ◌<◌};
 ghost use Rattle.sheet_spec.specs.Text.{digits_within, two_digits, decimal, field, newline};
 ghost use Rattle.sheet_text.specs.Text.{Fits, Wrote};
