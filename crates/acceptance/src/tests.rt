@@ -100,7 +100,7 @@ pub fn check_bands(lowers: &[u32], uppers: &[u32], columns: u8) -> Result<(), Ca
     Ok(())
 }
 
-// Cause 10: some class's premium is above 10,000,000.
+// Cause 10: some class's premium is above 10,000,000. Not one function with the step's test of payoffs, which have another width: each is one `any`.
 pub fn check_premiums(premiums: &[u32], classes: u8) -> Result<(), Cause>
     requires { classes ≤ length premiums.now }
     ensures { number_in result ≡ limit_cause 10000000 premiums.now classes }

@@ -46,7 +46,8 @@ impl Listed<'_> {
     }
 }
 
-// Both pooled figures: low and high run on their own.
+// Both pooled figures: low and high run on their own. Not one function with `start_bounds` by a closure, whose post-condition would stand in place
+// of these equations; the same of `write_pooled` and `write_shares`.
 pub fn pooled_bounds(
     scheme: Scheme,
     book: [u32; 32],

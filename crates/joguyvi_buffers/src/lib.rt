@@ -4,7 +4,7 @@
 ghost use Rattle.std.specs.Prelude.{◌≡◌};
 ghost use Rattle.joguyvi_spec.specs.Buffers.{copied_front, padded32};
 
-// Copies the first numbers of a list, as many as the buffer has; where the list has fewer, the buffer is left as it was.
+// Copies the first numbers of a list, as many as the buffer has; where the list has fewer, the buffer is left as it was: the library's copy asks for equal lengths.
 pub fn copy_front(from: &[u32], out: &mut [u32])
     ensures { out.new ≡ copied_front from.now out.old }
 {

@@ -48,7 +48,7 @@ fn answer_of(scheme: Scheme, payoff: [u64; 32], class: u64, high: bool) -> Resul
 }
 
 // The low step of a record, or the high step where `high` is true: its figure and its row into their buffers. Of the payoff what is missing
-// counts as 0, and what lies beyond 32 is ignored.
+// counts as 0, and what lies beyond 32 is ignored. Its parameters are those that C lends.
 pub fn step(
     bytes: &[u8],
     payoff: &[u64],

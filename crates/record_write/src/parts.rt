@@ -24,6 +24,7 @@ fn header(out: &mut [u8], version: u64, scheme: &Scheme)
     out[4] = scheme.columns;
     out[5] = scheme.start;
     out[6] = scheme.horizon;
+    // By the number, as in `record::header_length`.
     if version == 2 {
         out[7] = scheme.columns - 1;
     }

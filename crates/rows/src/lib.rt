@@ -66,7 +66,7 @@ pub fn slack(lower: &[u64]) -> u64
     left
 }
 
-// Copies a row into a slice of its length, and leaves one of another length as it was.
+// Copies a row into a slice of its length, and leaves one of another length as it was: the library's copy asks for equal lengths.
 pub fn copy_row(row: &[u64], out: &mut [u64])
     ensures { out.new ≡ copied_into row.now out.old }
 {
