@@ -9,7 +9,7 @@ use crate::step::step;
 use order::rank;
 use scheme::{Cause, Scheme};
 
-// Cause 10: some class's payoff is above its limit.
+// Cause 10: some class's payoff is above its limit. Not one function with the test of premiums, which have another width: each is one `any`.
 fn check_payoff(payoff: &[u64], classes: u8) -> Result<(), Cause>
     requires { classes ≤ length payoff.now }
     ensures { number_in result ≡ limit_cause MOST_PAYOFF payoff.now classes }
