@@ -151,7 +151,8 @@ pub fn check_sizes(classes: u8, columns: u8) -> Result<(), Cause>
     Ok(())
 }
 
-// Whether a class is not one of 1 to s: cause 11.
+// Whether a class is not one of 1 to s: cause 11. Not one function with `outside`, which is over 8 bits: a generic one needs a trait that makes its
+// values numbers.
 pub fn class_out(classes: u8, class: u64) -> bool
     ensures { result ≡ outside classes class }
 {
@@ -159,6 +160,7 @@ pub fn class_out(classes: u8, class: u64) -> bool
 }
 
 // Of a list of bands' ends those of the class at index i, as many as it has cells: all classes share them.
+// By a test: over `get(..cells).unwrap_or(ends)` the proof did not close.
 pub fn class_bands(ends: &[u32], cells: usize, i: usize) -> &[u32]
     ensures { result.now ≡ class_bands cells ends.now i }
 {
