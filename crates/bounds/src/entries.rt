@@ -12,6 +12,7 @@ use rows::{slack, sum_by_target};
 use scheme::{Scheme, class_bands};
 
 // The lists of all states: that of state j stands from place j × 32 on.
+// Three arrays, not one array of entries: `joined` and what is proved of it speak of the parts as lists.
 #[derive(Drop)]
 pub struct Entries {
     // The state whose row has the entry.
@@ -52,6 +53,7 @@ fn add_row(lower: &[u64], upper: &[u64], i: usize, entries: &mut Entries)
 }
 
 // Lists the entries of state i's row, of n states, and returns the slack that its lower ends leave.
+// n is how many states there are, and no length of a slice lent.
 fn list_row(
     rules: &[u8],
     lowers: &[u32],

@@ -7,7 +7,7 @@ pub fn share_payoff(class: u64) -> [u64; 32]
     ensures { SharePayoffPost class result }
 {
     let mut payoff = [0u64; 32];
-    if scheme::class_out(32, class) {
+    if scheme::class_out(scheme::MOST_CLASSES, class) {
         return payoff;
     }
     payoff[(class - 1) as usize] = setchain::ONE;

@@ -19,9 +19,9 @@ fn pool(book: [u32; 32], figures: [u64; 32], classes: u8, units: u64, high: bool
 {
     let mut sum: u64 = 0;
     let mut chambers: u64 = 0;
-    for i in 0..usize::from(classes) {
-        let count = u64::from(book[i]);
-        sum += count * figures[i];
+    for (count, figure) in book.iter().zip(&figures).take(usize::from(classes)) {
+        let count = u64::from(*count);
+        sum += count * *figure;
         chambers += count;
     }
     rounding::round(sum, units * chambers, high)
@@ -29,6 +29,7 @@ fn pool(book: [u32; 32], figures: [u64; 32], classes: u8, units: u64, high: bool
 
 impl Listed<'_> {
     // The pooled figure of a book after t years: the low one, or, where `high` is set, the high one. One run of the years gives the figures of all classes.
+    // What is passed beside `self` differs from call to call.
     fn pooled_figure(
         &self,
         book: [u32; 32],

@@ -18,6 +18,7 @@ pub struct Rewards {
 
 impl Listed<'_> {
     // The low figures of all classes after t years, or, where `high` is set, the high ones.
+    // What is passed beside `self` differs from call to call.
     // Of each year u to t the start class's figure is written at place u × stride, where the slice has it.
     pub fn class_figures(
         &self,
@@ -51,6 +52,7 @@ impl Listed<'_> {
     }
 
     // The low figure of the start class after t years, or, where `high` is set, the high one.
+    // What is passed beside `self` differs from call to call.
     // Of each year u to t the figure is written at place u × stride, where the slice has it.
     pub fn series(
         &self,

@@ -10,6 +10,7 @@ use crate::series::Rewards;
 use scheme::Scheme;
 
 // Writes the low share of each class, or, where `high` is set, the high one.
+// Not one function with `write_pooled`: see `pooled_bounds`.
 pub fn write_shares(scheme: Scheme, year: u64, high: bool, out: &mut [u64])
     requires { WritePre scheme scheme.classes out.old }
     ensures { out.new ≡ figure_shares high scheme year }

@@ -11,6 +11,7 @@ use crate::entries::Entries;
 use order::{class_at, rank_again, state};
 
 // Fills one state by the entries that lead to it, listed from place `first` to `end`: each row gives its lower parts and, as far as it has slack left, parts of it.
+// The tables come apart for speed: see `years`.
 fn fill_state(
     entries: &Entries,
     first: usize,
@@ -32,6 +33,7 @@ fn fill_state(
 }
 
 // Fills all states along the order, for high figures from its other end, and leaves in `sums` for each row the sum of part times payoff.
+// The tables come apart for speed: see `years`.
 fn fill_states(
     entries: &Entries,
     payoff: &[u64],
@@ -58,6 +60,7 @@ fn fill_states(
 }
 
 // Makes each sum of part times payoff a figure: rounded, and with the row's gain.
+// Place by place, `gain[i]`, not by a zip: after a zip of `iter_mut` nothing is known of the slice.
 fn round_sums(gain: &[u64], high: bool, sums: &mut [u64])
     requires { RoundSumsPre gain.now sums.old }
     ensures { RoundSumsPost gain.now high sums.old sums.new }
@@ -68,6 +71,7 @@ fn round_sums(gain: &[u64], high: bool, sums: &mut [u64])
 }
 
 // The figures of a year: those of the year before are kept whole while they are formed.
+// The tables come apart for speed: see `years`.
 // The order stays from year to year, since payoffs that were in order mostly are so again.
 pub fn year(
     entries: &Entries,

@@ -9,6 +9,7 @@ use crate::entries::Entries;
 use crate::year::year;
 
 // One year more, in place.
+// The tables come apart for speed: see `years`.
 fn advance(
     entries: &Entries,
     slack: &[u32; 32],
@@ -26,6 +27,7 @@ fn advance(
 }
 
 // Writes a figure at a place of the slice, where the slice has it.
+// By place, not by `get_mut`: tried, and once that borrow is over a proof knows the length of the slice and not its elements.
 fn store_figure(figure: u64, place: usize, out: &mut [u64])
     ensures { out.new ≡ set out.old place figure }
 {
