@@ -60,7 +60,7 @@ fn fill_states(
 }
 
 // Makes each sum of part times payoff a figure: rounded, and with the row's gain.
-// Place by place, `gain[i]`, not by a zip: after a zip of `iter_mut` nothing is known of the slice.
+// Place by place, `gain[i]`, not by a zip: after a zip of `iter_mut` nothing is known of the slice's elements.
 fn round_sums(gain: &[u64], high: bool, sums: &mut [u64])
     requires { RoundSumsPre gain.now sums.old }
     ensures { RoundSumsPost gain.now high sums.old sums.new }
