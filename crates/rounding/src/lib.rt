@@ -4,20 +4,16 @@
 ghost use Rattle.std.specs.Prelude.{◌≡◌};
 ghost use Rattle.setchain.specs.Rounding.{rounded};
 
-// The side of a figure is a flag here and above, since definitions and laws speak of it by a truth value, once for both.
 // x over a unit: rounded down for a low figure, up for a high one; over no unit, 0.
+// The side of a figure is a flag, here and in what calls this: definitions and laws speak of it by a truth value, once for both.
 pub fn round(x: u64, unit: u64, high: bool) -> u64
     ensures { result ≡ rounded high unit x }
 {
     if unit == 0 {
-        return 0;
+        0
+    } else if high {
+        x.div_ceil(unit)
+    } else {
+        x / unit
     }
-    let whole = x / unit;
-    if !high {
-        return whole;
-    }
-    if x % unit == 0 {
-        return whole;
-    }
-    whole + 1
 }
