@@ -37,6 +37,7 @@ pub fn number_at(bytes: &[u8], at: usize, width: usize) -> u32
 }
 
 // Puts the low `width` bytes of x, the last one first, or leaves the bytes as they were.
+// After `iter_mut().rev()` nothing is known of the slice, so the places are counted down.
 pub fn put_number(out: &mut [u8], at: usize, width: usize, x: u32)
     ensures { out.new ≡ number_put width out.old at x }
 {
@@ -50,8 +51,8 @@ pub fn put_number(out: &mut [u8], at: usize, width: usize, x: u32)
     }
 }
 
-// n stands beside the slices, since the promise (`part_put`) is for every place and number, where they are too short as well.
 // Copies n bytes to place `to`, or leaves the bytes as they were where either slice does not hold so many.
+// n stands beside the slices, since the promise (`part_put`) is for every place and number, where they are too short as well.
 pub fn copy(from: &[u8], at: usize, out: &mut [u8], to: usize, n: usize)
     ensures { out.new ≡ part_put n from.now at out.old to }
 {
