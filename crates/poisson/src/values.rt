@@ -6,9 +6,7 @@ ghost use Rattle.poisson_spec.specs.Values.{value};
 ghost use Rattle.poisson_spec.specs.Bands.{ends_of};
 
 use crate::table;
-
-// The whole of a share, in parts.
-const ONE: u64 = 1_000_000_000;
+use setchain::ONE;
 
 // The value for no claim: the table's entry, or, for an upper one, the number above it, but for ONE.
 fn start(high: bool, f: usize) -> u64

@@ -12,10 +12,7 @@ ghost use Rattle.scheme.specs.Stored.{up_to, rules_up_to};
 ghost use Rattle.scheme.specs.Number.{number_in};
 ghost use Rattle.ready_spec.specs.Answer.{number_cause, base_cause, ready_answer_of, ready_answer};
 
-use scheme::{Cause, Scheme};
-
-// The whole of a share, in parts.
-const ONE: u32 = 1000000000;
+use scheme::{Cause, MOST_BAND, Scheme};
 
 // m, the number of claim columns.
 const COLUMNS: u8 = 5;
@@ -27,7 +24,7 @@ const START: u8 = 10;
 const HORIZON: u8 = 40;
 
 // The largest base, in cents.
-const BASE_MOST: u64 = 2500000;
+const BASE_MOST: u64 = 2_500_000;
 
 // The tenths of a percent of each class of ready scheme 1.
 const SCALE_1: [u32; 18] = [
@@ -173,7 +170,9 @@ fn made(number: u64, base: u64) -> Scheme
         horizon: HORIZON,
         rules,
         lowers: [0; 8],
-        uppers: [ONE, ONE, ONE, ONE, ONE, 0, 0, 0],
+        uppers: [
+            MOST_BAND, MOST_BAND, MOST_BAND, MOST_BAND, MOST_BAND, 0, 0, 0,
+        ],
         premiums,
     }
 }
