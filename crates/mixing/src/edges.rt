@@ -4,17 +4,10 @@ ghost use Rattle.std.specs.Prelude.{◌≡◌, ◌-◌, ◌≤◌, ltb, length};
 ghost use Rattle.setchain.specs.Sums.{at};
 ghost use Rattle.scheme.specs.Cause.{cause_of};
 ghost use Rattle.mixing_spec.specs.MixingAnswer.{scheme_edges};
-ghost use Rattle.mixing.specs.Bits.{bits_of, digit, Holds};
+ghost use Rattle.mixing.specs.Bits.{bits_of, Holds};
 
 use crate::matrix::Matrix;
 use scheme::Scheme;
-
-// 1 where an entry is above 0, and 0 where it is not.
-fn above_zero(entry: u64) -> u32
-    ensures { result ≡ digit (ltb 0 entry) }
-{
-    if 0 < entry { 1 } else { 0 }
-}
 
 // The entries above 0, a bit each, the first the lowest.
 fn entries_above_zero(entries: &[u64]) -> u32
@@ -23,7 +16,7 @@ fn entries_above_zero(entries: &[u64]) -> u32
 {
     let mut bits: u32 = 0;
     for entry in entries.iter().rev() {
-        bits = bits * 2 + above_zero(*entry);
+        bits = bits * 2 + u32::from(0 < *entry);
     }
     bits
 }

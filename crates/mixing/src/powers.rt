@@ -12,6 +12,7 @@ use crate::matrix::Matrix;
 const LAST: usize = 10;
 
 // Stores the matrices of 2, 4, 8 years and so on behind the first, each the square of the one before it, until one mixes, and answers how many do not mix.
+// A count, and no Option: `SquaresPost` says the same of LAST + 1 as of every other.
 fn store_squares(squares: &mut [Matrix; LAST + 1]) -> usize
     requires { (SameSize (size_of squares.old) squares.old) × SquaresPre (size_of squares.old) (all_bits (size_of squares.old)) (rows_of squares.old) }
     ensures sizes { SameSize (size_of squares.old) squares.new }
