@@ -4,8 +4,8 @@ ghost use Rattle.step.specs.Step.{StepPre, StepPost};
 use crate::figure::figure;
 use crate::fill::fill;
 
-// The slices have four owners, so that no struct holds them.
 // The low figure, or, where `high` is set, the high one, and in `row` a row inside the interval that reaches it.
+// A struct of the slices would be made for this one call.
 pub fn step(
     lower: &[u64],
     upper: &[u64],
