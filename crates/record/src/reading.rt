@@ -50,6 +50,7 @@ fn check_length(bytes: &[u8]) -> Result<(), Cause>
 }
 
 // Cause 17.
+// The version is told by its number, as in `header_length`.
 fn check_last_column(bytes: &[u8]) -> Result<(), Cause>
     requires { (header_length (layout_in bytes.now) ≤ length bytes.now) × (1 ≤ columns_in bytes.now) }
     ensures { number_in result ≡ 17 when further_out bytes.now }
@@ -75,6 +76,7 @@ pub fn check_frame(bytes: &[u8]) -> Result<(), Cause>
 }
 
 // The rules of s classes and m columns, from place `from` on.
+// s and m count classes and columns: they are no length of a slice that is lent.
 fn rules(bytes: &[u8], from: usize, s: usize, m: usize) -> [u8; 256]
     requires { (from + s * m ≤ length bytes.now) × (s ≤ 32) × (m ≤ 8) }
     ensures { result ≡ tab CELL_PLACES (rules_up_to s m (λ i k. get_or bytes.now (from + i * m + k) 0)) }
