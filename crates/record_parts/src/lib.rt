@@ -26,6 +26,7 @@ fn check_rule_row(bytes: &[u8], class: u64) -> Result<(), Cause>
 }
 
 // The rule row of a class: the part of the record that holds it, or an empty part for every cause.
+// An empty part, and no Option, stands for every cause: so says `rule_row` of the definitions.
 pub fn rule_row(bytes: &[u8], class: u64) -> &[u8]
     ensures { result.now ≡ rule_row bytes.now class }
 {
