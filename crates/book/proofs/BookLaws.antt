@@ -1,12 +1,15 @@
 -- The loops over a book: the counts seen so far are within the limit and summed, and those of a joined book are written.
 -- Assumes nothing.
-use Prim.Native.Nat.{ℕ, ◌+◌, ◌*◌, ◌≤◌, ◌<◌}
-use mathlib.Core.Path.{◌≡◌, ap, ap₂, sym, ◌∙◌}
+use Prim.Native.Nat.{ℕ, zero, suc, ◌+◌, ◌*◌, ◌≤◌, ◌<◌}
+use mathlib.Core.Path.{◌≡◌, ap, subst, ap₂, sym, ◌∙◌}
 use mathlib.Core.Bool.{Bool, true, false}
 use mathlib.Core.List.{List, [], ◌∷◌}
 use native.Mathlib.Omega.{arith}
 use lib.Dec.{eqb, ltb}
 use lib.ListN.{replicate, set}
+use Rattle.std.specs.Prelude.{◌-◌, length, get_or, take}
+use Rattle.std.proofs.lemmas.List.{get_or_past, get_or-take, length-take}
+use Rattle.std.proofs.lemmas.Grind.{get_or_default_zero}
 use borrow.Author.Count.{below_none, below_more}
 use borrow.Author.Tests.{eq-eqb, ne_eqb, lt-ltb, le-ltb}
 use Rattle.setchain.specs.Sums.{at, sum_to}
@@ -56,6 +59,25 @@ module _ {book : List ℕ} {n : ℕ} where
 
     pub counted_all : n ≤ i → (chambers ≡ 0 → ⊥) → 0 ≡ book_cause n book
     counted_all h e = counted_end h false (ne_eqb chambers 0 e)
+
+-- A place of the first n counts of a book is below n, and what they have there is what the book has.
+module _ (book : List ℕ) (n : ℕ) {i : ℕ} (inside : i < length (take n book)) where
+  pub yielded_inside : i < n
+  yielded_inside = omega (arith, inside, length-take n book)
+
+  pub yielded_count : {count : ℕ} → count ≡ get_or (take n book) i count → count ≡ at book i
+  yielded_count {count} is = is ∙ get_or_default_zero (take n book) i count inside ∙ get_or-take n book i 0 yielded_inside
+
+-- Where the first n counts of a book end all are summed, since what lies past its end counts as 0.
+module _ {book : List ℕ} {n chambers : ℕ} where
+  counted_on : (k i : ℕ) → i + k ≡ n → (0 < k → length book ≤ i) → Counted book n i chambers → Counted book n n chambers
+  counted_on zero i all past w = subst (λ j. Counted book n j chambers) (omega (arith, all)) w
+  counted_on (suc k) i all past w =
+      counted_on k (i + 1) (omega (arith, all)) (λ l. omega (arith, past (omega arith)))
+      (subst (λ sum. Counted book n (i + 1) sum) (omega arith) (counted_more w {count = 0} (omega (arith, all)) (sym (get_or_past book i 0 (past (omega arith)))) (omega arith)))
+
+  pub counted_rest : {i : ℕ} → i ≡ length (take n book) → Counted book n i chambers → Counted book n n chambers
+  counted_rest {i} e w = counted_on (n - i) i (omega (arith, w.inside)) (λ l. omega (arith, l, e, length-take n book)) w
 
 -- The joined counts before place i are written, and each is within the limit.
 pub record Joined (first second book : List ℕ) (i : ℕ) : Type 0 where

@@ -21,8 +21,8 @@ pub fn check(book: [u32; 32], classes: u8) -> Result<(), Cause>
     ensures { number_in result ≡ book_cause classes book }
 {
     let mut chambers: u64 = 0;
-    for i in 0..usize::from(classes) {
-        let count = u64::from(count_at(&book, i));
+    for count in book.iter().take(usize::from(classes)) {
+        let count = u64::from(*count);
         if book_spec::MOST_COUNT < count {
             return Err(Cause::Count);
         }

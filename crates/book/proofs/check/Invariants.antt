@@ -1,7 +1,8 @@
--- `check` meets its contract: the counts before i are within the limit, and summed.
+-- `check` meets its contract: the counts yielded so far are within the limit, and summed.
 -- Assumes nothing.
+use Rattle.std.proofs.Common.{length}
 use Rattle.book.proofs.BookLaws.{Counted}
 use Rattle.book.proofs.check.Given as goal
 
-abbrev pub invariant-loop-i : goal.invariant-loop-i
-invariant-loop-i l = Counted l.book l.classes l.i l.chambers
+abbrev pub invariant-loop-count : goal.invariant-loop-count
+invariant-loop-count l = Counted l.fn.book l.fn.classes (length l.yielded) l.chambers
