@@ -1,4 +1,5 @@
-// The tests of acceptance, each over the numbers that it is about.
+// The tests of acceptance, each over the numbers that it is about: lists, with how many of their numbers count, and not the scheme, since the laws
+// behind them are about lists.
 ghost use Rattle.std.specs.Prelude.{◌≡◌, ◌||◌, ◌+◌, ◌*◌, ◌≤◌, ltb, get_or, length};
 ghost use Rattle.scheme.specs.Access.{CELL_STRIDE};
 ghost use Rattle.setchain.specs.Sums.{sum_to};

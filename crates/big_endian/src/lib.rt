@@ -1,6 +1,7 @@
 // Numbers in lent bytes, big-endian, read and put at any place, and bytes copied from one slice to another.
 // Where the bytes do not hold them, 0 is read, and what is to be put or copied leaves the bytes as they were.
-// `as` stands where there is no `From`: between `usize` and another width, and where a number is proved to fit a narrower one.
+// `as` stands between `usize` and another width, for which there is no `From`, and where a number is proved to fit a narrower one: what `TryFrom`
+// answers could only be unwrapped.
 #![tactic(auto)]
 
 ghost use Rattle.std.specs.Prelude.{◌≡◌, ◌+◌, leb};

@@ -1,5 +1,6 @@
 // The payoff of a class's share as a figure vector (document 01, "Years").
-// `as` stands where there is no `From`: between `usize` and another width, and where a number is proved to fit a narrower one.
+// `as` stands between `usize` and another width, for which there is no `From`, and where a number is proved to fit a narrower one: what `TryFrom`
+// answers could only be unwrapped.
 ghost use Rattle.bounds.specs.Series.{SharePayoffPost};
 
 // ONE at the class, 0 elsewhere, and everywhere where there is no such class.

@@ -1,5 +1,6 @@
 // Opening books pooled: the mean of the figures of all classes, weighed by how many chambers begin in each (document 02, item 7).
-// `as` stands where there is no `From`: between `usize` and another width, and where a number is proved to fit a narrower one.
+// `as` stands between `usize` and another width, for which there is no `From`, and where a number is proved to fit a narrower one: what `TryFrom`
+// answers could only be unwrapped.
 ghost use Rattle.std.specs.Prelude.{◌≡◌, false, true};
 ghost use Rattle.setchain.specs.Sums.{at};
 ghost use Rattle.setchain.specs.Pooled.{pooled_figure};

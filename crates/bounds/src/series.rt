@@ -1,5 +1,6 @@
 // The start class's figures (document 01, "Years": "The answer is the start class's figure").
-// `as` stands where there is no `From`: between `usize` and another width, and where a number is proved to fit a narrower one.
+// `as` stands between `usize` and another width, for which there is no `From`, and where a number is proved to fit a narrower one: what `TryFrom`
+// answers could only be unwrapped.
 ghost use Rattle.std.specs.Prelude.{◌≡◌, false, true};
 ghost use Rattle.bounds.specs.Series.{ClassFiguresPost, SeriesPost, SeriesPre, start_figure};
 

@@ -1,5 +1,6 @@
 // The numbers of a share sheet: the shares of all classes, low and high.
-// `as` stands where there is no `From`: between `usize` and another width, and where a number is proved to fit a narrower one.
+// `as` stands between `usize` and another width, for which there is no `From`, and where a number is proved to fit a narrower one: what `TryFrom`
+// answers could only be unwrapped.
 ghost use Rattle.std.specs.Prelude.{◌≡◌};
 ghost use Rattle.bounds_spec.specs.Answers.{figure_shares};
 ghost use Rattle.bounds.specs.Sheets.{WritePre};

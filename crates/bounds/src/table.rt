@@ -1,5 +1,6 @@
 // All figures of a sheet in one table, each column's figures carried from year to year (document 01, "Sheet program and examples").
-// `as` stands where there is no `From`: between `usize` and another width, and where a number is proved to fit a narrower one.
+// `as` stands between `usize` and another width, for which there is no `From`, and where a number is proved to fit a narrower one: what `TryFrom`
+// answers could only be unwrapped.
 ghost use Rattle.std.specs.Prelude.{◌≡◌};
 ghost use Rattle.bounds_spec.specs.Table.{figure_table};
 ghost use Rattle.bounds.specs.Sheets.{MeanColumnPost, MeanColumnPre, ShareColumnsPost, WritePre};

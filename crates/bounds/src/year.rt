@@ -1,5 +1,6 @@
 // One year: the figures of all classes from those of the year before (document 01, "Years").
-// `as` stands where there is no `From`: between `usize` and another width, and where a number is proved to fit a narrower one.
+// `as` stands between `usize` and another width, for which there is no `From`, and where a number is proved to fit a narrower one: what `TryFrom`
+// answers could only be unwrapped.
 ghost use Rattle.std.specs.Prelude.{◌≡◌, length};
 ghost use Rattle.order.specs.Order.{Permutation, along};
 ghost use Rattle.bounds.specs.Joined.{joined};

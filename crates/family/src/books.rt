@@ -1,5 +1,6 @@
 // What is asked of books: pooled figures, and two books joined.
-// `as` stands where there is no `From`: between `usize` and another width, and where a number is proved to fit a narrower one.
+// `as` stands between `usize` and another width, for which there is no `From`, and where a number is proved to fit a narrower one: what `TryFrom`
+// answers could only be unwrapped.
 use crate::answer::{bounds_of, passed};
 use crate::{SHARES, checksum_of};
 use scheme::Scheme;

@@ -1,5 +1,6 @@
 // The kinds of payoff that steps are asked at.
-// `as` stands where there is no `From`: between `usize` and another width, and where a number is proved to fit a narrower one.
+// `as` stands between `usize` and another width, for which there is no `From`, and where a number is proved to fit a narrower one: what `TryFrom`
+// answers could only be unwrapped.
 use scheme::Scheme;
 use std::array;
 

@@ -1,5 +1,6 @@
 // The edges of a scheme as bits: from class to class with a tight lower entry above 0.
-// `as` stands where there is no `From`: between `usize` and another width, and where a number is proved to fit a narrower one.
+// `as` stands between `usize` and another width, for which there is no `From`, and where a number is proved to fit a narrower one: what `TryFrom`
+// answers could only be unwrapped.
 ghost use Rattle.std.specs.Prelude.{◌≡◌, ◌-◌, ◌≤◌, ltb, length};
 ghost use Rattle.setchain.specs.Sums.{at};
 ghost use Rattle.scheme.specs.Cause.{cause_of};

@@ -1,5 +1,6 @@
 // A matrix of bits: its products, and the test whether every bit is set.
-// `as` stands where there is no `From`: between `usize` and another width, and where a number is proved to fit a narrower one.
+// `as` stands between `usize` and another width, for which there is no `From`, and where a number is proved to fit a narrower one: what `TryFrom`
+// answers could only be unwrapped.
 ghost use Rattle.std.specs.Prelude.{◌≡◌, ◌≤◌, ◌<◌, eqb, length};
 ghost use Rattle.setchain.specs.Sums.{at, only_if};
 ghost use Rattle.setchain.specs.Tests.{all_below};

@@ -1,5 +1,7 @@
-// The values of a claim frequency, one claim more at a time, and the ends of the bands that they make.
-// `as` stands where there is no `From`: between `usize` and another width, and where a number is proved to fit a narrower one.
+// The values of a claim frequency, one claim more at a time, and the ends of the bands that they make. That a frequency is at most 1,000 stands in
+// four contracts: a type of frequencies would be made for these calls alone.
+// `as` stands between `usize` and another width, for which there is no `From`, and where a number is proved to fit a narrower one: what `TryFrom`
+// answers could only be unwrapped.
 ghost use Rattle.std.specs.Prelude.{◌≡◌, suc, ◌-◌, ◌≤◌, ◌<◌};
 ghost use Rattle.setchain.specs.Rows.{ONE};
 ghost use Rattle.poisson_spec.specs.Values.{value};

@@ -1,5 +1,6 @@
 // The ready schemes of document 01: number 1, 2 or 3, with premiums from a base.
-// `as` stands where there is no `From`: between `usize` and another width, and where a number is proved to fit a narrower one.
+// `as` stands between `usize` and another width, for which there is no `From`, and where a number is proved to fit a narrower one: what `TryFrom`
+// answers could only be unwrapped.
 #![tactic(auto)]
 
 ghost use Rattle.std.specs.Prelude.{◌≡◌, ◌/◌, ◌≤◌, ◌<◌};
@@ -131,7 +132,7 @@ fn thousandth(product: u64) -> u32
     (product / 1000) as u32
 }
 
-// The premium of class i + 1.
+// The premium of class i + 1. That the base is at most 2,500,000 stands in three contracts: a type of bases would be made for these calls alone.
 fn premium_entry(number: u64, base: u64, i: usize) -> u32
     requires { base ≤ 2500000 }
     ensures { result ≡ up_to (classes_of number) (premium_of number base) i }

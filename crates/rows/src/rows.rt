@@ -1,5 +1,6 @@
 // The parts of an interval row's answer.
-// `as` stands where there is no `From`: between `usize` and another width, and where a number is proved to fit a narrower one.
+// `as` stands between `usize` and another width, for which there is no `From`, and where a number is proved to fit a narrower one: what `TryFrom`
+// answers could only be unwrapped.
 ghost use Rattle.std.specs.Prelude.{◌≡◌, ◌-◌, ◌≤◌, Ok};
 ghost use Rattle.scheme.specs.Access.{CELL_STRIDE};
 ghost use Rattle.scheme.specs.RowAnswer.{row_answer_of};

@@ -1,5 +1,6 @@
 // A text in a lent slice, written word by word and number by number.
-// `as` stands where there is no `From`: between `usize` and another width, and where a number is proved to fit a narrower one.
+// `as` stands between `usize` and another width, for which there is no `From`, and where a number is proved to fit a narrower one: what `TryFrom`
+// answers could only be unwrapped.
 ghost use Rattle.std.specs.Prelude.{◌≡◌, ◌+◌, ◌*◌, ◌<◌};
 ghost use Rattle.sheet_spec.specs.Text.{digits_within, two_digits, decimal, field, newline};
 ghost use Rattle.sheet_text.specs.Text.{Fits, Wrote};
@@ -30,7 +31,8 @@ impl Text<'_> {
         self.at = end;
     }
 
-    // Puts the two digits of a number below 100.
+    // Puts the two digits of a number below 100. Digits are put by hand: `write!` would ask for an `impl fmt::Write` of the writer,
+    // and answer a `Result` that could only be unwrapped.
     fn put_two(&mut self, x: u64)
         requires { (x < 100) × Fits self.old (two_digits x) }
         ensures { Wrote self.old (two_digits x) self.new }

@@ -7,7 +7,8 @@ use crate::tables::Tables;
 use crate::text::Text;
 
 impl Text<'_> {
-    // Puts the class lines of a year, whose figures stand in the tables from place `base` on.
+    // Puts the class lines of a year, whose figures stand in the tables from place `base` on. How many figures the tables must have differs from line
+    // to line (`HasFigures`), so that no field of theirs says it.
     fn put_class_lines(&mut self, year: usize, base: usize, tables: &Tables<'_>)
         requires { Fits self.old (classes_by tables.now year base) × HasFigures tables.now (base + tables.now.classes) }
         ensures { Wrote self.old (classes_by tables.now year base) self.new }
