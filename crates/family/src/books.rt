@@ -25,6 +25,7 @@ enum Kind {
 impl Kind {
     // The number by which the lines name the kind.
     fn number(self) -> u8 {
+        // The number of a kind is its place in the enum.
         self as u8
     }
 
@@ -68,6 +69,7 @@ fn pooled(
 }
 
 // A pooled share sheet into slices of a and b numbers, at most one more than there can be classes.
+// Not one function with `share_sheet` by a closure, whose bound would ask it to be callable at any slices.
 fn pooled_sheet(
     stdout: Stdout,
     scheme: Scheme,

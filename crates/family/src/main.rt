@@ -134,6 +134,7 @@ fn of_class(stdout: Stdout, scheme: Scheme, number: u64, class: u64) -> io::Resu
 }
 
 // A share sheet into slices of a and b numbers, at most one more than there can be classes.
+// Not one function with `pooled_sheet` by a closure, whose bound would ask it to be callable at any slices.
 fn share_sheet(stdout: Stdout, scheme: Scheme, year: u64, a: usize, b: usize) -> io::Result<()> {
     let mut lows = [7u64; SHARES];
     let mut highs = [7u64; SHARES];

@@ -28,6 +28,7 @@ pub const KINDS: [Payoff; 4] = [
 impl Payoff {
     // The number by which the lines name the kind.
     pub fn number(self) -> u8 {
+        // The number of a kind is its place in the enum.
         self as u8
     }
 
