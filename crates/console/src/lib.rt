@@ -7,7 +7,7 @@ ghost use Rattle.console.specs.Records.{record_at};
 ghost use Rattle.console.specs.Checksum.{added, checksum_from};
 
 use std::io;
-use std::io::{Read, Stderr, Stdin};
+use std::io::{Print, Read, Stderr, Stdin};
 
 // Where a read failed: how many bytes of the input the buffer has from before it, from its front on.
 #[derive(Clone, Copy, Debug, PartialEq, Eq)]
@@ -51,7 +51,7 @@ fn fill(input: Stdin, buffer: &mut [u8]) -> Result<usize, ReadFailed>
 pub fn read_all(
     input: Stdin,
     err: Stderr,
-    program: &str,
+    program: &[u8],
     buffer: &mut [u8],
 ) -> Result<usize, ReadFailed>
     ensures { ReadInto 0 buffer.old buffer.new (length_read result) }
@@ -59,7 +59,8 @@ pub fn read_all(
     let read = fill(input, buffer);
     if read.is_err() {
         // Where this cannot be written either, there is nobody left to tell.
-        let _ = eprintln!(err; "{program}: standard input could not be read");
+        let _ = err.write_all(program);
+        let _ = err.write_all(b": standard input could not be read\n");
     }
     read
 }

@@ -52,7 +52,7 @@ fn put_band(out: &mut [u8], at: usize, lower: u32, upper: u32)
     big_endian::put_number(out, at + END_WIDTH, END_WIDTH, upper);
 }
 
-// Puts the bands of a scheme, lower and upper, from place `from` on.
+// Puts the bands of a scheme, lower and upper, from place `from` on. By place, since two lists are read at one place.
 fn bands(out: &mut [u8], from: usize, scheme: &Scheme)
     requires { SizeFits scheme.now × (from + scheme.now.columns * BAND_WIDTH ≤ length out.old) }
     ensures { out.new ≡ sets out.old from (bands_of scheme.now 0) }

@@ -20,7 +20,7 @@ fn compose(input: &[u8], n: usize, out: &mut [u8]) -> usize
 
 fn main(rt: HostRuntime) {
     let mut input = [0u8; INPUT];
-    let Ok(length) = console::read_all(rt.stdin(), rt.stderr(), "sheet", &mut input) else {
+    let Ok(length) = console::read_all(rt.stdin(), rt.stderr(), b"sheet", &mut input) else {
         return;
     };
     let mut out = [0u8; SPACE];

@@ -47,7 +47,7 @@ fn all(stdout: Stdout, input: &[u8]) -> io::Result<()> {
 
 fn main(rt: HostRuntime) {
     let mut input = [0u8; 65_536];
-    let Ok(length) = console::read_all(rt.stdin(), rt.stderr(), "sheets", &mut input) else {
+    let Ok(length) = console::read_all(rt.stdin(), rt.stderr(), b"sheets", &mut input) else {
         return;
     };
     // Where standard output cannot be written the program ends with status 0 all the same: what it printed then differs from what it must print.
