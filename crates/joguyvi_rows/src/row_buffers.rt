@@ -1,5 +1,5 @@
 // Rows, bands and counts of a record put into lent buffers.
-ghost use Rattle.std.specs.Prelude.{◌≤◌};
+ghost use Rattle.std.specs.Prelude.{◌≡◌, ◌≤◌, length};
 ghost use Rattle.scheme.specs.Number.{number_in};
 ghost use Rattle.scheme.specs.RowAnswer.{row_answer_of};
 ghost use Rattle.mixing_spec.specs.MixingAnswer.{mixing_answer_of};
@@ -7,6 +7,17 @@ ghost use Rattle.joguyvi_spec.specs.Rows.{BandsCall, BandsPost, PartPost, RowCal
 ghost use Rattle.joguyvi_spec.specs.Mixing.{MixingCall, PutCountPost};
 
 use scheme::{Cause, Row, Scheme};
+
+// Puts all of a list into a buffer of its length. By place: the library's copy into a lent buffer calls `memmove`, and the archives need
+// `memcpy` and `memset` alone.
+fn put_all<T: Copy>(list: &[T], out: &mut [T])
+    requires { length out.old ≡ length list.now }
+    ensures { out.new ≡ list.now }
+{
+    for (k, place) in out.iter_mut().enumerate() {
+        *place = list[k];
+    }
+}
 
 // The tight row of a class of a record, in parts, into two buffers of 32 numbers.
 pub fn row(bytes: &[u8], class: u64, lower: &mut [u64], upper: &mut [u64]) -> Result<(), Cause>
@@ -21,8 +32,8 @@ fn put_row(answer: Result<Row, Cause>, lower: &mut [u64], upper: &mut [u64]) -> 
 {
     let row = answer?;
     scheme::check_slices(32, lower.len(), upper.len())?;
-    lower.copy_from_slice(&row.lower);
-    upper.copy_from_slice(&row.upper);
+    put_all(&row.lower, lower);
+    put_all(&row.upper, upper);
     Ok(())
 }
 
@@ -42,7 +53,7 @@ fn put_part(part: &[u8], out: &mut [u8]) -> Result<(), Cause>
         return Err(Cause::Class);
     }
     scheme::check_slice(part.len(), out.len())?;
-    out.copy_from_slice(part);
+    put_all(part, out);
     Ok(())
 }
 
