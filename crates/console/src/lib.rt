@@ -1,13 +1,15 @@
-// Standard input for the programs, and what the check programs share: the records of their input, and checksums.
+// Standard input for the programs, with words on standard error where it cannot be read, and what the check programs share: their standard
+// output, the records of their input, and checksums.
 #![tactic(auto)]
 
-ghost use Rattle.std.specs.Prelude.{◌-◌, ◌≤◌, ◌≡◌, length, take, IfOk, OnErr};
+ghost use Rattle.std.specs.Prelude.{◌-◌, ◌≤◌, ◌≡◌, true, length, take, is_ok, IfOk, OnErr};
 ghost use Rattle.console.specs.Input.{ReadInto, length_read};
 ghost use Rattle.console.specs.Records.{record_at};
 ghost use Rattle.console.specs.Checksum.{added, checksum_from};
 
+use std::fmt::{self, Display};
 use std::io;
-use std::io::{Print, Read, Stderr, Stdin};
+use std::io::{Print, Read, Stderr, Stdin, Stdout};
 
 // Where a read failed: how many bytes of the input the buffer has from before it, from its front on.
 #[derive(Clone, Copy, Debug, PartialEq, Eq)]
@@ -82,6 +84,53 @@ pub fn record_at(input: &[u8], at: usize) -> &[u8]
     // `as`: `usize` has no `From<u32>`.
     let length = big_endian::number_at(input, at, 2) as usize;
     front(&input[at + 2..], length)
+}
+
+// Standard output of a check program, written piece by piece: a word with the space before it, a space before a number, a number, an end of
+// line. A piece that cannot be written is passed over, and those behind it are tried all the same: what was printed then differs from what
+// must be printed.
+#[derive(Clone, Copy)]
+pub struct Output(pub Stdout);
+
+// Whether a piece ends between two bytes.
+fn parted(before: u8, byte: u8) -> bool {
+    byte == b' ' || (before == b' ' && byte.is_ascii_digit())
+}
+
+impl fmt::Write for Output {
+    fn write_str(&mut self, text: &str) -> fmt::Result {
+        for piece in text
+            .as_bytes()
+            .chunk_by(|before, byte| !parted(*before, *byte))
+        {
+            let _ = self.0.write_all(piece);
+        }
+        Ok(())
+    }
+}
+
+impl Print for Output {
+    fn print<D: Display + Drop>(&self, value: D) -> io::Result<()>
+        ensures { is_ok result ≡ true }
+    {
+        let mut output = *self;
+        let _ = fmt::Write::write(&mut output, value);
+        Ok(())
+    }
+
+    fn println<D: Display + Drop>(&self, value: D) -> io::Result<()>
+        ensures { is_ok result ≡ true }
+    {
+        self.print(value)?;
+        self.write_all(b"\n")
+    }
+
+    fn write_all(&self, bytes: &[u8]) -> io::Result<()>
+        ensures { is_ok result ≡ true }
+    {
+        let _ = self.0.write_all(bytes);
+        Ok(())
+    }
 }
 
 // The checksum with one number more.

@@ -3,7 +3,7 @@ use bounds::Bounds;
 use scheme::Cause;
 use std::fmt;
 
-// OK and the figures that were answered, or NO and the number of the cause.
+// OK and the figures that were answered, or NO and the number of the cause, behind a space: the two are one piece of `console::Output`.
 #[derive(Clone, Copy)]
 pub struct Answer<const N: usize>(pub Result<[u64; N], Cause>);
 
@@ -12,13 +12,13 @@ impl<const N: usize> fmt::Display for Answer<N> {
     fn fmt<W: fmt::Write>(&self, f: &mut fmt::Formatter<W>) -> fmt::Result {
         match self.0 {
             Ok(figures) => {
-                write!(f, "OK")?;
+                write!(f, " OK")?;
                 for figure in figures {
                     write!(f, " {figure}")?;
                 }
                 Ok(())
             }
-            Err(cause) => write!(f, "NO {}", cause.number()),
+            Err(cause) => write!(f, " NO {}", cause.number()),
         }
     }
 }

@@ -3,8 +3,8 @@
 // answers could only be unwrapped.
 use crate::answer::{bounds_of, passed};
 use crate::{SHARES, checksum_of};
+use console::Output;
 use scheme::Scheme;
-use std::io::Stdout;
 use std::{array, io};
 
 // A kind of book.
@@ -55,7 +55,7 @@ impl Kind {
 
 // The pooled share of class s, the pooled mean and the pooled total of a year.
 fn pooled(
-    stdout: Stdout,
+    stdout: Output,
     scheme: Scheme,
     kind: Kind,
     book: [u32; 32],
@@ -65,13 +65,13 @@ fn pooled(
     let share = bounds_of(bounds::pooled_share(scheme, book, last, year));
     let mean = bounds_of(bounds::pooled_mean(scheme, book, year));
     let total = bounds_of(bounds::pooled_total(scheme, book, year));
-    println!(stdout; "POOLED {} {year} {share} {mean} {total}", kind.number())
+    println!(stdout; "POOLED {} {year}{share}{mean}{total}", kind.number())
 }
 
 // A pooled share sheet into slices of a and b numbers, at most one more than there can be classes.
 // Not one function with `share_sheet` by a closure, whose bound would ask it to be callable at any slices.
 fn pooled_sheet(
-    stdout: Stdout,
+    stdout: Output,
     scheme: Scheme,
     kind: Kind,
     book: [u32; 32],
@@ -86,14 +86,14 @@ fn pooled_sheet(
     let answer = passed(bounds::pooled_share_sheet(scheme, book, year, low, high));
     let kind = kind.number();
     println!(stdout;
-        "POOLSHARES {kind} {year} {answer} {} {}",
+        "POOLSHARES {kind} {year}{answer} {} {}",
         checksum_of(low),
         checksum_of(high)
     )
 }
 
 // What is asked of a kind of book, with a count beyond s that no class may have.
-fn of_kind(stdout: Stdout, scheme: Scheme, number: u64, kind: Kind) -> io::Result<()> {
+fn of_kind(stdout: Output, scheme: Scheme, number: u64, kind: Kind) -> io::Result<()> {
     let book = kind.book(scheme, number, 4_294_967_295);
     let horizon = u64::from(scheme.horizon);
     let s = usize::from(scheme.classes);
@@ -107,7 +107,7 @@ fn of_kind(stdout: Stdout, scheme: Scheme, number: u64, kind: Kind) -> io::Resul
 
 // Two kinds of book joined, with a count beyond s; where they are not joined the checksum is that of zeros.
 fn joined(
-    stdout: Stdout,
+    stdout: Output,
     scheme: Scheme,
     number: u64,
     first: Kind,
@@ -119,7 +119,7 @@ fn joined(
     let joined = book::join(one, other);
     let sums = joined.unwrap_or([0; 32]);
     println!(stdout;
-        "JOIN {} {} {} {}",
+        "JOIN {} {}{} {}",
         first.number(),
         second.number(),
         passed(joined),
@@ -128,7 +128,7 @@ fn joined(
 }
 
 // All kinds of book, and some of them joined.
-pub fn books(stdout: Stdout, scheme: Scheme, number: u64) -> io::Result<()> {
+pub fn books(stdout: Output, scheme: Scheme, number: u64) -> io::Result<()> {
     for kind in [
         Kind::Start,
         Kind::Mixed,

@@ -4,11 +4,11 @@
 #![tactic(auto)]
 
 use answer::{Answer, bounds_of, length_of, passed};
+use console::Output;
 use payoffs::Payoff;
 use record_parts::{Band, Opened, Reader};
 use scheme::{Cause, Row, Scheme};
 use std::io;
-use std::io::Stdout;
 
 // The most bytes of a record, and five more.
 const ROOM: usize = 460;
@@ -28,7 +28,7 @@ fn checksum_of<T: Copy + Into<u64>>(numbers: &[T]) -> u64 {
 }
 
 // The rule row of a class.
-fn rules(stdout: Stdout, bytes: &[u8], class: u64) -> io::Result<()> {
+fn rules(stdout: Output, bytes: &[u8], class: u64) -> io::Result<()> {
     print!(stdout; "RULES {class}")?;
     for rule in record_parts::rule_row(bytes, class) {
         print!(stdout; " {rule}")?;
@@ -37,7 +37,7 @@ fn rules(stdout: Stdout, bytes: &[u8], class: u64) -> io::Result<()> {
 }
 
 // All bands; one column more than there can be is asked for.
-fn bands(stdout: Stdout, bytes: &[u8]) -> io::Result<()> {
+fn bands(stdout: Output, bytes: &[u8]) -> io::Result<()> {
     print!(stdout; "BANDS")?;
     for column in 0..9 {
         if let Some(band) = record_parts::band_at(bytes, column) {
@@ -48,7 +48,7 @@ fn bands(stdout: Stdout, bytes: &[u8]) -> io::Result<()> {
 }
 
 // What a reader handed out: a band's ends, or that there is no more.
-fn handed_out(stdout: Stdout, band: Option<Band>) -> io::Result<()> {
+fn handed_out(stdout: Output, band: Option<Band>) -> io::Result<()> {
     match band {
         Some(Band { lower, upper }) => print!(stdout; " {lower} {upper}"),
         None => print!(stdout; " -"),
@@ -56,7 +56,7 @@ fn handed_out(stdout: Stdout, band: Option<Band>) -> io::Result<()> {
 }
 
 // A reader over the record, one call more than there can be columns, and the first band.
-fn reader(stdout: Stdout, bytes: &[u8]) -> io::Result<()> {
+fn reader(stdout: Output, bytes: &[u8]) -> io::Result<()> {
     let Opened {
         checked,
         mut reader,
@@ -71,12 +71,12 @@ fn reader(stdout: Stdout, bytes: &[u8]) -> io::Result<()> {
 }
 
 // The record written in a version into a room of n bytes, and the length of what was written, if it was.
-fn write(stdout: Stdout, scheme: Scheme, version: u64, n: usize) -> io::Result<Option<usize>> {
+fn write(stdout: Output, scheme: Scheme, version: u64, n: usize) -> io::Result<Option<usize>> {
     let mut room = [170u8; ROOM];
     let out = &mut room[..n.min(ROOM)];
     let written = record_write::write(scheme, version, out);
     println!(stdout;
-        "WRITE {version} {} {} {}",
+        "WRITE {version} {}{} {}",
         out.len(),
         length_of(written),
         console::checksum(out)
@@ -90,11 +90,11 @@ fn sums_of(row: Row) -> [u64; 2] {
 }
 
 // The interval row of a class, and its tight row.
-fn row(stdout: Stdout, scheme: Scheme, class: u64) -> io::Result<()> {
+fn row(stdout: Output, scheme: Scheme, class: u64) -> io::Result<()> {
     let interval = Answer(rows::interval_row(scheme, class).map(sums_of));
-    println!(stdout; "INTERVAL {class} {interval}")?;
+    println!(stdout; "INTERVAL {class}{interval}")?;
     let tight = Answer(rows::row(scheme, class).map(sums_of));
-    println!(stdout; "ROW {class} {tight}")
+    println!(stdout; "ROW {class}{tight}")
 }
 
 // The figures of the low and the high step of a class.
@@ -105,9 +105,9 @@ fn figures_of(scheme: Scheme, payoff: [u64; 32], class: u64) -> Result<[u64; 2],
 }
 
 // The low and the high step of a class at a kind of payoff.
-fn step(stdout: Stdout, scheme: Scheme, number: u64, class: u64, kind: Payoff) -> io::Result<()> {
+fn step(stdout: Output, scheme: Scheme, number: u64, class: u64, kind: Payoff) -> io::Result<()> {
     let figures = Answer(figures_of(scheme, kind.payoffs(scheme, number), class));
-    println!(stdout; "STEP {class} {} {figures}", kind.number())
+    println!(stdout; "STEP {class} {}{figures}", kind.number())
 }
 
 // The years that are asked for: the first three, the horizon, and one year beyond it.
@@ -117,41 +117,41 @@ fn years(scheme: Scheme) -> [u64; 5] {
 }
 
 // What is asked of a class: its interval row and its tight row, its steps at all kinds of payoff, its shares, and the chances of having reached it.
-fn of_class(stdout: Stdout, scheme: Scheme, number: u64, class: u64) -> io::Result<()> {
+fn of_class(stdout: Output, scheme: Scheme, number: u64, class: u64) -> io::Result<()> {
     row(stdout, scheme, class)?;
     for kind in payoffs::KINDS {
         step(stdout, scheme, number, class, kind)?;
     }
     for year in years(scheme) {
         let share = bounds_of(bounds::share(scheme, class, year));
-        println!(stdout; "SHARE {class} {year} {share}")?;
+        println!(stdout; "SHARE {class} {year}{share}")?;
     }
     for year in years(scheme) {
         let reached = bounds_of(reached::reached(scheme, class, year));
-        println!(stdout; "REACHED {class} {year} {reached}")?;
+        println!(stdout; "REACHED {class} {year}{reached}")?;
     }
     Ok(())
 }
 
 // A share sheet into slices of a and b numbers, at most one more than there can be classes.
 // Not one function with `pooled_sheet` by a closure, whose bound would ask it to be callable at any slices.
-fn share_sheet(stdout: Stdout, scheme: Scheme, year: u64, a: usize, b: usize) -> io::Result<()> {
+fn share_sheet(stdout: Output, scheme: Scheme, year: u64, a: usize, b: usize) -> io::Result<()> {
     let mut lows = [7u64; SHARES];
     let mut highs = [7u64; SHARES];
     let low = &mut lows[..a.min(SHARES)];
     let high = &mut highs[..b.min(SHARES)];
     let answer = passed(bounds::share_sheet(scheme, year, low, high));
     println!(stdout;
-        "SHARES {year} {answer} {} {}",
+        "SHARES {year}{answer} {} {}",
         checksum_of(low),
         checksum_of(high)
     )
 }
 
 // What is asked of a year: mean, total, and share sheets of the right and of wrong lengths.
-fn of_year(stdout: Stdout, scheme: Scheme, year: u64) -> io::Result<()> {
-    println!(stdout; "MEAN {year} {}", bounds_of(bounds::mean(scheme, year)))?;
-    println!(stdout; "TOTAL {year} {}", bounds_of(bounds::total(scheme, year)))?;
+fn of_year(stdout: Output, scheme: Scheme, year: u64) -> io::Result<()> {
+    println!(stdout; "MEAN {year}{}", bounds_of(bounds::mean(scheme, year)))?;
+    println!(stdout; "TOTAL {year}{}", bounds_of(bounds::total(scheme, year)))?;
     let s = usize::from(scheme.classes);
     for (a, b) in [(s, s), (s, s + 1), (s / 2, s)] {
         share_sheet(stdout, scheme, year, a, b)?;
@@ -160,7 +160,7 @@ fn of_year(stdout: Stdout, scheme: Scheme, year: u64) -> io::Result<()> {
 }
 
 // The record written in a version into a room for any record and, where there is such a version, into rooms of its length and of one byte less.
-fn writes(stdout: Stdout, scheme: Scheme, version: u64) -> io::Result<()> {
+fn writes(stdout: Output, scheme: Scheme, version: u64) -> io::Result<()> {
     if let Some(length) = write(stdout, scheme, version, ROOM)? {
         write(stdout, scheme, version, length)?;
         write(stdout, scheme, version, length.saturating_sub(1))?;
@@ -169,7 +169,7 @@ fn writes(stdout: Stdout, scheme: Scheme, version: u64) -> io::Result<()> {
 }
 
 // What is asked of an accepted record; the versions are both that there are, and some that there are not.
-fn accepted(stdout: Stdout, scheme: Scheme, number: u64, bytes: &[u8]) -> io::Result<()> {
+fn accepted(stdout: Output, scheme: Scheme, number: u64, bytes: &[u8]) -> io::Result<()> {
     let s = u64::from(scheme.classes);
     let beyond = s + 1;
     let start = u64::from(scheme.start);
@@ -180,7 +180,7 @@ fn accepted(stdout: Stdout, scheme: Scheme, number: u64, bytes: &[u8]) -> io::Re
         writes(stdout, scheme, version)?;
     }
     let count = Answer(mixing::mixing(scheme).map(|count| [count]));
-    println!(stdout; "MIXING {count}")?;
+    println!(stdout; "MIXING{count}")?;
     for class in [0, 1, start, s, beyond] {
         of_class(stdout, scheme, number, class)?;
     }
@@ -191,9 +191,9 @@ fn accepted(stdout: Stdout, scheme: Scheme, number: u64, bytes: &[u8]) -> io::Re
 }
 
 // The lines of one record.
-fn one(stdout: Stdout, number: u64, bytes: &[u8]) -> io::Result<()> {
+fn one(stdout: Output, number: u64, bytes: &[u8]) -> io::Result<()> {
     let read = record::read(bytes);
-    println!(stdout; "RECORD {number} {} {}", bytes.len(), passed(read))?;
+    println!(stdout; "RECORD {number} {}{}", bytes.len(), passed(read))?;
     rules(stdout, bytes, 0)?;
     rules(stdout, bytes, 1)?;
     bands(stdout, bytes)?;
@@ -205,7 +205,7 @@ fn one(stdout: Stdout, number: u64, bytes: &[u8]) -> io::Result<()> {
 }
 
 // The length and the checksum of a scheme's record in version 2.
-fn label(stdout: Stdout, scheme: Scheme) -> io::Result<()> {
+fn label(stdout: Output, scheme: Scheme) -> io::Result<()> {
     let mut out = [0u8; 455];
     let length = record_write::write(scheme, 2, &mut out).unwrap_or(0);
     print!(stdout;
@@ -215,11 +215,11 @@ fn label(stdout: Stdout, scheme: Scheme) -> io::Result<()> {
 }
 
 // A ready scheme's record: its length and checksum in both versions, two of its rule rows, and two premiums.
-fn of_ready(stdout: Stdout, scheme: Scheme) -> io::Result<()> {
+fn of_ready(stdout: Output, scheme: Scheme) -> io::Result<()> {
     let mut out = [0u8; 455];
     let written = record_write::write(scheme, 1, &mut out);
     let bytes = console::front(&out, written.unwrap_or(0));
-    print!(stdout; " {} {}", length_of(written), console::checksum(bytes))?;
+    print!(stdout; "{} {}", length_of(written), console::checksum(bytes))?;
     label(stdout, scheme)?;
     println!(stdout)?;
     rules(stdout, bytes, 1)?;
@@ -229,7 +229,7 @@ fn of_ready(stdout: Stdout, scheme: Scheme) -> io::Result<()> {
 }
 
 // A ready scheme, or the cause.
-fn ready(stdout: Stdout, number: u64, base: u64) -> io::Result<()> {
+fn ready(stdout: Output, number: u64, base: u64) -> io::Result<()> {
     print!(stdout; "READY {number} {base}")?;
     match ready::ready(number, base) {
         Ok(scheme) => of_ready(stdout, scheme),
@@ -238,7 +238,7 @@ fn ready(stdout: Stdout, number: u64, base: u64) -> io::Result<()> {
 }
 
 // Ready schemes at the edges of their number and base.
-fn ready_schemes(stdout: Stdout) -> io::Result<()> {
+fn ready_schemes(stdout: Output) -> io::Result<()> {
     for (number, base) in [
         (0, 2_500_001),
         (1, 0),
@@ -258,7 +258,7 @@ fn ready_schemes(stdout: Stdout) -> io::Result<()> {
 }
 
 // All records, numbered from 1, and the ready schemes.
-fn all(stdout: Stdout, input: &[u8]) -> io::Result<()> {
+fn all(stdout: Output, input: &[u8]) -> io::Result<()> {
     let mut at: usize = 0;
     let mut number: u64 = 0;
     // A `while`, since each turn moves on by the length of the record that it read, as no range does.
@@ -276,6 +276,6 @@ fn main(rt: HostRuntime) {
     let Ok(length) = console::read_all(rt.stdin(), rt.stderr(), b"family", &mut input) else {
         return;
     };
-    // Where standard output cannot be written the program ends with status 0 all the same: what it printed then differs from what it must print.
-    let _ = all(rt.stdout(), console::front(&input, length));
+    // Each write to standard output is passed over where it fails, so that nothing comes back from here.
+    let _ = all(Output(rt.stdout()), console::front(&input, length));
 }

@@ -2,11 +2,11 @@
 // plain Rust version (rust/regenerate): a sheet of at most 1,000 bytes whole, of a longer one its length and a checksum.
 #![tactic(auto)]
 
+use console::Output;
 use std::io;
-use std::io::Stdout;
 
 // The text whole, or its length and checksum.
-fn show(stdout: Stdout, text: &[u8]) -> io::Result<()> {
+fn show(stdout: Output, text: &[u8]) -> io::Result<()> {
     if text.len() <= 1000 {
         return stdout.write_all(text);
     }
@@ -18,7 +18,7 @@ fn show(stdout: Stdout, text: &[u8]) -> io::Result<()> {
 }
 
 // The sheet's text in a slice, or the cause for which it does not fit there.
-fn text_in(stdout: Stdout, bytes: &[u8], out: &mut [u8]) -> io::Result<()> {
+fn text_in(stdout: Output, bytes: &[u8], out: &mut [u8]) -> io::Result<()> {
     match sheet_text::sheet(bytes, out) {
         Ok(length) => show(stdout, console::front(out, length)),
         Err(cause) => println!(stdout; "NO {}", cause.number()),
@@ -26,7 +26,7 @@ fn text_in(stdout: Stdout, bytes: &[u8], out: &mut [u8]) -> io::Result<()> {
 }
 
 // The sheet of one record, in a slice that has room for every sheet, and in one of ten bytes.
-fn one(stdout: Stdout, bytes: &[u8]) -> io::Result<()> {
+fn one(stdout: Output, bytes: &[u8]) -> io::Result<()> {
     let mut out = [0u8; 132_862];
     text_in(stdout, bytes, &mut out)?;
     let mut short = [0u8; 10];
@@ -34,7 +34,7 @@ fn one(stdout: Stdout, bytes: &[u8]) -> io::Result<()> {
 }
 
 // All records.
-fn all(stdout: Stdout, input: &[u8]) -> io::Result<()> {
+fn all(stdout: Output, input: &[u8]) -> io::Result<()> {
     let mut at: usize = 0;
     // A `while`, since each turn moves on by the length of the record that it read, as no range does.
     while 2 <= input.len() - at {
@@ -50,6 +50,6 @@ fn main(rt: HostRuntime) {
     let Ok(length) = console::read_all(rt.stdin(), rt.stderr(), b"sheets", &mut input) else {
         return;
     };
-    // Where standard output cannot be written the program ends with status 0 all the same: what it printed then differs from what it must print.
-    let _ = all(rt.stdout(), console::front(&input, length));
+    // Each write to standard output is passed over where it fails, so that nothing comes back from here.
+    let _ = all(Output(rt.stdout()), console::front(&input, length));
 }
