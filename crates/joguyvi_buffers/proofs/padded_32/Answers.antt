@@ -15,4 +15,4 @@ front missing l {many} {part} few is =
     ap₂ (λ a b. a ++ b) (is ∙ ap (λ n. take n l) same ∙ take_min 32 l) (drop-replicate many 32 missing ∙ ap (λ n. replicate n missing) left)
 
 pub returns : goal.returns
-returns g c = front c.args.missing c.args.numbers.now c.min-length.ensures c.copy_from_slice.ensures.after
+returns g c = front c.args.missing c.args.numbers.now {many = c.min-length.result} (omega (arith, c.min-length.ensures)) c.copy_from_slice.ensures.after
