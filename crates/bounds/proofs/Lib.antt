@@ -1,4 +1,4 @@
--- Laws over plain lists, which the functions' proofs cite.
+-- Laws over plain lists, which the functions' proofs cite, and a worked example.
 pub mod FrontLaws
 pub mod ZipLaws
 pub mod AddRowLaws
@@ -6,6 +6,7 @@ pub mod ListRowLaws
 pub mod ListRowsLaws
 pub mod ListSchemeLaws
 pub mod FillStateLaws
+pub mod JoinedExamples
 pub mod JoinedLaws
 pub mod FillStatesLaws
 pub mod YearLaws

@@ -1,4 +1,5 @@
--- Laws over plain lists and matrices, which the functions' proofs cite.
+-- Laws over plain lists and matrices, which the functions' proofs cite, and worked examples.
 pub mod EntryLaws
+pub mod MatrixExamples
 pub mod MatrixLaws
 pub mod RowLaws
