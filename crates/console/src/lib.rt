@@ -131,6 +131,10 @@ impl Print for Output {
         let _ = self.0.write_all(bytes);
         Ok(())
     }
+
+    fn write_some(&self, bytes: &[u8]) -> io::Result<usize> {
+        self.0.write_some(bytes)
+    }
 }
 
 // The checksum with one number more.

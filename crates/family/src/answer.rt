@@ -3,7 +3,7 @@ use bounds::Bounds;
 use scheme::Cause;
 use std::fmt;
 
-// OK and the figures that were answered, or NO and the number of the cause, behind a space: the two are one piece of `console::Output`.
+// OK and the figures that were answered, or NO and the number of the cause. The space and the word behind it are one piece of `console::Output`.
 #[derive(Clone, Copy)]
 pub struct Answer<const N: usize>(pub Result<[u64; N], Cause>);
 

@@ -8,8 +8,8 @@ ghost use Rattle.joguyvi_spec.specs.Mixing.{MixingCall, PutCountPost};
 
 use scheme::{Cause, Row, Scheme};
 
-// Puts all of a list into a buffer of its length. By place: the library's copy into a lent buffer calls `memmove`, and the archives need
-// `memcpy` and `memset` alone.
+// Puts all of a list into a buffer of its length. By place: the library's copy comes to a call of `memmove` where this one stands, and the
+// archives need `memcpy` and `memset` alone.
 fn put_all<T: Copy>(list: &[T], out: &mut [T])
     requires { length out.old ≡ length list.now }
     ensures { out.new ≡ list.now }

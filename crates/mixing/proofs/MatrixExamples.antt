@@ -1,4 +1,4 @@
--- Matrices over two and over three classes, computed; eleven over as many classes: what is allowed and what is not; and counts that mix, and none.
+-- Matrices over two and over three classes, computed; eleven of one size: what is allowed and what is not; and counts that mix, and none.
 use Rattle.std.specs.Prelude.{◌≡◌, refl, [], ◌∷◌, replicate, get_or, Some, None}
 use Rattle.std.proofs.Common.{ap, arith}
 use Rattle.mixing.specs.declared.matrix.Matrix.{Matrix}
