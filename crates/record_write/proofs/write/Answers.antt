@@ -1,12 +1,25 @@
 -- `write` meets its contract: the version's cause, the scheme's, the slice's, or the record.
-use Rattle.std.proofs.Common.{◌≡◌, false, ◌++◌, length, take, drop, ap, sym, ◌∙◌, arith, length-take-le}
+use Rattle.std.specs.Prelude.{ℕ, ◌+◌, ◌<◌, ◌≡◌, false, List, length, take}
+use Rattle.std.proofs.Common.{ap, sym, ◌∙◌, arith, length-take-le}
+use borrow.Author.Tests.{lt-leb}
 use Rattle.scheme.proofs.Laws.Judged.{accepted_cause}
 use Rattle.scheme.proofs.Laws.Number.{cause_some, passed_whole}
-use Rattle.record_spec.specs.Layout.{other_version}
+use Rattle.big_endian_spec.specs.Numbers.{number_put}
+use Rattle.big_endian_spec.proofs.Laws.{put_none}
+use Rattle.record_spec.specs.Layout.{other_version, layout_of}
 use Rattle.record_spec.specs.Write.{write_answer_of}
+use Rattle.record_spec.proofs.Laws.Layout.{of_both}
 use Rattle.record_write.specs.Agreement.{keeps}
 use Rattle.record_write.specs.Laws.Write.{declined, by_version, by_scheme, by_slice, written}
 use Rattle.record_write.proofs.write.Goals as goal
+
+-- A number for which there is no room leaves the bytes. `write` puts none past its record, and by this law a version that does is refused for the room it finds.
+no_room : (width : ℕ) (bytes : List ℕ) (place x : ℕ) → length bytes < place + width → number_put width bytes place x ≡ bytes
+no_room width bytes place x short = sym (put_none width bytes place x (lt-leb (place + width) (length bytes) short))
+
+-- A premium has some bytes in every version.
+some_width : (v : ℕ) → 0 < (layout_of v).width
+some_width = of_both (λ y. 0 < y.width) (omega arith) (omega arith)
 
 pub returns-then-other_version : goal.returns-then-other_version
 returns-then-other_version c =
@@ -42,6 +55,5 @@ returns c =
     let a = c.args in
     let known : other_version a.version ≡ false = sym c.other_version.ensures ∙ c.if-other_version.false in
     let all = keeps a.scheme a.version a.out.now
-    (written a.scheme a.version a.out.now known (sym c.in_ok-check.ensures) c.length_of-size.ensures (omega arith)
-    (ap (λ l. l ++ drop c.length_of-size.result a.out.now) c.whole.ensures)) in
+    (written a.scheme a.version a.out.now known (sym c.in_ok-check.ensures) c.length_of-size.ensures (omega arith) (grind (arith, no_room, some_width))) in
     record { answer = all.0; leaves = all.1.0; promise = all.1.1 }
