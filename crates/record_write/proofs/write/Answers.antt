@@ -13,11 +13,12 @@ use Rattle.record_write.specs.Agreement.{keeps}
 use Rattle.record_write.specs.Laws.Write.{declined, by_version, by_scheme, by_slice, written}
 use Rattle.record_write.proofs.write.Goals as goal
 
--- A number for which there is no room leaves the bytes. `write` puts none past its record, and by this law a version that does is refused for the room it finds.
+-- The code puts nothing past its record and needs neither of these two laws: by them a wrong version that puts a premium there is refused for the room it finds.
+-- A number for which there is no room leaves the bytes.
 no_room : (width : ℕ) (bytes : List ℕ) (place x : ℕ) → length bytes < place + width → number_put width bytes place x ≡ bytes
 no_room width bytes place x short = sym (put_none width bytes place x (lt-leb (place + width) (length bytes) short))
 
--- A premium has some bytes in every version.
+-- A premium has some bytes, so that there is no room for it at the slice's end.
 some_width : (v : ℕ) → 0 < (layout_of v).width
 some_width = of_both (λ y. 0 < y.width) (omega arith) (omega arith)
 
